@@ -1,6 +1,7 @@
 -- What taking an event comes to.
-use Rattle.std.proofs.Common.{◌≡◌, ◌≢◌, ℕ, ◌+◌, ◌≤◌, List, [], ◌∷◌, ◌++◌, length, length-append, add-one, Some, sym, ap, ◌∙◌, subst, flat_map, Result, Ok, Err, IsErrAnd, IfErr, arith}
+use Rattle.std.proofs.Common.{◌≡◌, ◌≢◌, ℕ, ◌+◌, ◌≤◌, List, [], ◌∷◌, ◌++◌, length, length-append, add-one, Option, Some, None, refl, sym, ap, ◌∙◌, subst, flat_map, Result, Ok, Err, IsErrAnd, IfErr, arith}
 use Rattle.std.proofs.lemmas.Bool.{not_from_false}
+use Rattle.forms.specs.Calls.{mapped}
 use Rattle.forms.proofs.Calls.{tested_pass}
 use Rattle.bq_check.specs.Spelling.{BeginsNone}
 use Rattle.sc_msg.specs.declared.version.Version.{Version}
@@ -9,20 +10,25 @@ use Rattle.q_session.specs.Done.{Finished, IsFinished}
 use Rattle.q_session.specs.declared.ran.Ran.{Ran}
 use Rattle.q_session.specs.declared.job.Job.{Job}
 use Rattle.q_desk.specs.Desks as desk
-use Rattle.q_desk.specs.declared.journal.Entry.{Entry}
 use Rattle.q_desk.specs.declared.journal.Entry.TheVariants as entry
 use Rattle.q_book.specs.State.{BookState}
 use Rattle.q_book.specs.Books as book
 use Rattle.reasons.specs.declared.Reason.TheVariants.{OutOfMemory as memory}
 use Rattle.q_book.specs.Replays.{Follows}
+use Rattle.q_book.specs.Called.{called}
+use Rattle.q_book.specs.declared.call.Call.{Call}
+use Rattle.q_book.specs.declared.call.Call.TheVariants as call
+use Rattle.q_book.specs.declared.call.Reply.{Reply}
+use Rattle.q_book.specs.declared.call.Reply.TheVariants as reply
 use Rattle.reasons.specs.declared.Reason.{Reason}
 use Rattle.q_replay.specs.Spelling.{head_bytes, event_bytes, IsWritten}
 use Rattle.q_replay.specs.declared.raw_entry.RawEntry.{RawEntry}
+use Rattle.q_replay.specs.declared.raw_entry.RawEntry.TheVariants as written
 use Rattle.q_desk.specs.Desks.{running_job}
-use Rattle.q_replay.specs.Journal.{written_of, IsCertifiedEntry}
+use Rattle.q_replay.specs.Journal.{written_of, IsEntry}
 use Rattle.q_replay.specs.Head.{Head}
 use Rattle.q_replay.specs.Replayed.{IsAnswering, Takes, Leads, IsFault, begun}
-use Rattle.q_replay.specs.Taking.{of_book, Beginning, Taking, Calling}
+use Rattle.q_replay.specs.Taking.{of_book, entry_of, IsDue, Tells, Beginning, Taking}
 use Rattle.q_replay.specs.declared.fault.ReplayFault.TheVariants as fault
 use Rattle.q_replay.specs.declared.refusal.Refusal.{Refusal}
 use Rattle.q_replay.specs.declared.refusal.Refusal.TheVariants.{Mismatch, OutOfMemory}
@@ -37,14 +43,14 @@ use Rattle.q_replay.proofs.Leading.{leads_next}
 no_memory : (f : Reason) → of_book f ≡ Mismatch → f ≢ memory
 no_memory f h q = let x : OutOfMemory ≡ Mismatch = sym (ap of_book q) ∙ h in absurd (cc)
 
-refused_by : (old new : BookState) (e : Entry) (f : Reason) (x : Refusal) → of_book f ≡ x → (f ≢ memory → (c : BookState) → Follows old e c → IsAnswering old e → ⊥) → Calling old e new (Err x)
-refused_by old new e f Mismatch h nowhere = nowhere (no_memory f h)
-refused_by old new e f OutOfMemory h nowhere = tt
+refused_by : (old new : BookState) (w : RawEntry) (f : Reason) (x : Refusal) → of_book f ≡ x → (f ≢ memory → (c : BookState) → Takes old w c → ⊥) → Taking old w new (Err x)
+refused_by old new w f Mismatch h nowhere = nowhere (no_memory f h)
+refused_by old new w f OutOfMemory h nowhere = tt
 
 -- a call that the book refuses leads nowhere
-pub refused : (old new : BookState) (e : Entry) (f : Reason) (r : Result (Unit {0}) Refusal) → IsErrAnd r (λ x. x ≡ of_book f) → (f ≢ memory → (c : BookState) → Follows old e c → IsAnswering old e → ⊥) → Calling old e new r
-refused old new e f (Ok u) is nowhere = absurd is
-refused old new e f (Err x) is nowhere = refused_by old new e f x (sym is) nowhere
+pub refused : (old new : BookState) (w : RawEntry) (f : Reason) (r : Result (Unit {0}) Refusal) → IsErrAnd r (λ x. x ≡ of_book f) → (f ≢ memory → (c : BookState) → Takes old w c → ⊥) → Taking old w new r
+refused old new w f (Ok u) is nowhere = absurd is
+refused old new w f (Err x) is nowhere = refused_by old new w f x (sym is) nowhere
 
 -- ---- heads whose book is refused
 
@@ -53,27 +59,13 @@ unbegun h f (Ok b) is told = absurd is
 unbegun h f (Err Mismatch) is told = λ b k. absurd (no_refusal f b (sym (told (no_memory f (sym is))) ∙ k.book))
 unbegun h f (Err OutOfMemory) is told = tt
 
--- ---- the event of an entry
-
-pub taking : OneLongest → (old new : BookState) (e : Entry) (w : RawEntry) (r : Result (Unit {0}) Refusal) → IsWritten old.version w → IsCertifiedEntry old.version e → written_of e ≡ w → Calling old e new r → Taking old w new r
-taking one old new e w (Ok u) legal certified is h =
-    record { called = e; legal = (subst (IsWritten old.version) (sym is) legal, certified); is = is; answers = h.1; follows = h.0 }
-taking one old new e w (Err Mismatch) legal certified is h =
-    λ c t. let p = takes_as one old w c e (subst (IsWritten old.version) (sym is) legal, certified) is t in h c p.0 p.1
-taking one old new e w (Err OutOfMemory) legal certified is h = tt
-
 -- ---- answers
 
--- what a job that was run comes to is right of it
-pub finished_right : (f : Finished) (j : Job) (r : Ran) → IsFinished f → f.job ≡ j → r ≡ f.ran → IsRight j.certified j.view j.start r
-finished_right f j r h job ran =
-    subst (λ (x : Ran). IsRight j.certified j.view j.start x) (sym ran) (subst (λ (x : Job). IsRight x.certified x.view x.start f.ran) job h)
-
--- a right answer of the query that runs is what its job comes to
-pub answer_same : OneAnswer → (b : BookState) (k : ℕ) (j : Job) (r other : Ran) → running_job b.desk b.id k ≡ Some j → IsRight j.certified j.view j.start r → IsAnswering b (entry.Post k other) → r ≡ other
-answer_same one b k j r other runs right a =
-    let same : a.0 ≡ j = same_some a.0 j (sym a.1 ∙ runs) in
-    right_one one j r other right (subst (λ (x : Job). IsRight x.certified x.view x.start other) same a.2)
+-- what the job of the query that runs comes to is what a right answer of it is
+pub answer_same : OneAnswer → (b : BookState) (k : ℕ) (f : Finished) (other : Ran) → IsFinished f → running_job b.desk b.id k ≡ Some f.job → IsAnswering b (entry.Post k other) → f.ran ≡ other
+answer_same one b k f other right runs a =
+    let same : a.0 ≡ f.job = same_some a.0 f.job (sym a.1 ∙ runs) in
+    right_one one f.job f.ran other right (subst (λ (x : Job). IsRight x.certified x.view x.start other) same a.2)
 
 -- where some job's answer is recorded, so is that of the query's own job
 pub own_post : (b c : BookState) (k : ℕ) (j : Job) (r : Ran) → running_job b.desk b.id k ≡ Some j → Follows b (entry.Post k r) c → (d : BookState) × (book.posted b j r ≡ Ok (tt, d))
@@ -86,19 +78,55 @@ own_post b c k j r runs f =
           ∙ ap (book.by_desk (book.with_desk b)) o.1,
     )
 
--- an answer that the book refuses is recorded for no job
-pub no_post : (b : BookState) (k : ℕ) (i j : Job) (r s : Ran) (f : Reason) → running_job b.desk b.id k ≡ Some j → i ≡ j → r ≡ s → book.posted b i r ≡ Err f → (c : BookState) → Follows b (entry.Post k s) c → ⊥
-no_post b k i j r s f runs job ran err c follows =
-    let o = own_post b c k j s runs follows in
-    no_refusal f (tt, o.0) (sym err ∙ (λ t. book.posted b (job t) (ran t)) ∙ o.1)
+-- ---- calls of entries
 
--- the book that records the right answer of the query's own job
-pub posts : (b c : BookState) (k : ℕ) (i j : Job) (r s : Ran) (u : Unit {0}) → running_job b.desk b.id k ≡ Some j → i ≡ j → r ≡ s → IsRight j.certified j.view j.start r → book.posted b i r ≡ Ok (u, c) → Follows b (entry.Post k s) c × IsAnswering b (entry.Post k s)
-posts b c k i j r s u runs job ran right h =
-    let own : IsRight j.certified j.view j.start s = subst (λ (x : Ran). IsRight j.certified j.view j.start x) ran right in
-    let number : j.query ≡ k = ap (λ (x : Job). x.query) (sym (job_runs b.desk b.id k j runs).is) in
-    let done : book.posted b j s ≡ Ok (tt, c) = sym (λ t. book.posted b (job t) (ran t)) ∙ h in
-    ((j, number, own, done), (j, runs, own))
+-- the call leads to this book, and an entry tells of it
+abbrev pub IsTold : BookState → Result (Reply × BookState) Reason → Type 0
+IsTold c (Ok y) = (y.1 ≡ c) × Tells y.0
+IsTold c (Err f) = ⊥
+
+told : {A : Type 0} (f : A → Reply) {r : Result (A × BookState) Reason} {y : A × BookState} → r ≡ Ok y → Tells (f y.0) → IsTold y.1 (mapped f r)
+told f {y = y} h t = subst (λ x. IsTold y.1 (mapped f x)) (sym h) (refl, t)
+
+own : {A : Type 0} (f : A → Reply) (r : Result (A × BookState) Reason) (c : BookState) → IsTold c (mapped f r) → (x : A) × (r ≡ Ok (x, c))
+own f (Ok y) c t = (y.0, λ i. Ok (y.0, t.0 i))
+own f (Err e) c t = absurd t
+
+own_job : (r : Result (Option Job × BookState) Reason) (c : BookState) → IsTold c (mapped reply.HandedOut r) → (j : Job) × (r ≡ Ok (Some j, c))
+own_job (Ok (Some j, d)) c t = (j, λ i. Ok (Some j, t.0 i))
+own_job (Ok (None, d)) c t = absurd t.1
+own_job (Err f) c t = absurd t
+
+module _ (b c : BookState) where
+  -- a call that an entry tells of is that of its entry
+  follows : (x : Call) → IsDue b x → IsTold c (called b x) → Follows b (entry_of x) c × IsAnswering b (entry_of x)
+  follows call.HandOut due t = (own_job _ c t, tt)
+  follows (call.Post done) due t = ((done.now.job, refl, due.1, (own _ _ c t).1), (done.now.job, due.0, due.1))
+  follows x due t = (own _ _ c t, tt)
+
+  -- where an entry is followed, it tells of the call
+  told_of : (x : Call) → IsDue b x → Follows b (entry_of x) c → (d : BookState) × IsTold d (called b x)
+  told_of (call.Post done) due f = let p = own_post b c done.now.job.query done.now.job done.now.ran due.0 f in (p.0, told _ p.1 tt)
+  told_of x due f = (c, told _ f.1 tt)
+
+module _ (one : OneLongest) (b : BookState) (x : Call) (legal : IsEntry b.version (entry_of x)) (due : IsDue b x) where
+  pub made : (c : BookState) → IsTold c (called b x) → Takes b (written_of (entry_of x)) c
+  made c t = let p = follows b c x due t in record { called = entry_of x; legal = legal; is = refl; answers = p.1; follows = p.0 }
+
+  -- a call that no entry tells of leads nowhere
+  pub unmade : ((d : BookState) → IsTold d (called b x) → ⊥) → (c : BookState) → Takes b (written_of (entry_of x)) c → ⊥
+  unmade none c t = let p = told_of b c x due (takes_as one b _ c (entry_of x) legal refl t).0 in none p.0 p.1
+
+-- an answer that is not right is that of no event
+unanswered : OneLongest → (b : BookState) (k : ℕ) (r : Ran) → IsWritten b.version (written.Post k r.acc r.steps) → (IsAnswering b (entry.Post k r) → ⊥) → (c : BookState) → Takes b (written.Post k r.acc r.steps) c → ⊥
+unanswered one b k r legal none c t = none (takes_as one b _ c (entry.Post k r) (legal, tt) refl t).1
+
+-- the job of a query is not run, or its answer is another
+pub unrun : OneLongest → (b : BookState) (k : ℕ) (r : Ran) (e : Refusal) (x : Result (Unit {0}) Refusal) → IsErrAnd x (λ y. y ≡ e) → IsWritten b.version (written.Post k r.acc r.steps)
+    → (e ≡ Mismatch → IsAnswering b (entry.Post k r) → ⊥) → Taking b (written.Post k r.acc r.steps) b x
+unrun one b k r e (Ok u) is legal none = absurd is
+unrun one b k r e (Err Mismatch) is legal none = unanswered one b k r legal (none (sym is))
+unrun one b k r e (Err OutOfMemory) is legal none = tt
 
 -- ---- the next event of the bytes
 

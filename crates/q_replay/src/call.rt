@@ -1,9 +1,13 @@
 //! Events of a journal, each as the call that it names.
 
+ghost use Rattle.std.specs.Prelude.{◌≡◌, Some, IfOk, IfErr, MatchBool};
+ghost use Rattle.q_session.specs.Done.{IsFinished};
+ghost use Rattle.q_desk.specs.Desks.{running_job};
 ghost use Rattle.q_desk.specs.declared.journal.Entry.TheVariants as entry;
 ghost use Rattle.q_replay.specs.Spelling.{IsWritten};
-ghost use Rattle.q_replay.specs.declared.raw_entry.RawEntry.TheVariants as written;
-ghost use Rattle.q_replay.specs.Taking.{Taking, Calling};
+ghost use Rattle.q_replay.specs.Replayed.{IsAnswering};
+ghost use Rattle.q_replay.specs.Journal.{written_of, IsEntry};
+ghost use Rattle.q_replay.specs.Taking.{entry_of, IsDue, Taking, Tells};
 
 use crate::raw_entry::RawEntry;
 use crate::refusal::Refusal;
@@ -12,65 +16,53 @@ use bq_flow::laws::one_longest;
 use bq_frame::Block;
 use bq_insn::Text;
 use bq_meaning::laws::one_answer;
-use q_book::{Book, record_lengths};
+use q_book::{Book, Call, Reply, record_lengths};
 use q_session::Done;
 use q_table::{Program, ProgramId};
-use sc_msg::Message;
-use sc_view::Value;
 use std::alloc::Global;
 
-fn leave(book: &mut Book) -> Result<(), Refusal>
-    ensures { Calling book.old entry.Leave book.new result }
+/// Whether an entry tells of the call that answered this.
+fn is_told(reply: &Reply) -> bool
+    ensures { MatchBool result (Tells reply.now) (Tells reply.now → ⊥) }
 {
-    let _outs = book.leave()?;
-    Ok(())
+    match reply {
+        Reply::HandedOut(None) => false,
+        Reply::HandedOut(Some(_))
+        | Reply::Left(_)
+        | Reply::Registered(_)
+        | Reply::Asked(_)
+        | Reply::Begun(_)
+        | Reply::Taken(_)
+        | Reply::Posted => true,
+    }
 }
 
-/// The notes are checked anew, for the records of the book's views.
-fn register(alloc: Global, book: &mut Book, text: Text, notes: Notes) -> Result<(), Refusal>
-    requires { IsWritten book.old.version (written.Register text notes) }
-    ensures { Taking book.old (written.Register text notes) book.new result }
+/// Makes the call of an entry. Where no query is ready, nothing is handed out, and no entry says so.
+fn make(book: &mut Book, call: &Call<'_>) -> Result<(), Refusal>
+    requires entry { IsEntry book.old.version (entry_of call.now) }
+    requires due { IsDue book.old call.now }
+    ensures { Taking book.old (written_of (entry_of call.now)) book.new result }
 {
     one_longest();
-    let program = Program::of_text(alloc, text, notes, record_lengths(book.version()))?;
-    let _id = book.register(&program)?;
-    Ok(())
+    let reply = book.call(call)?;
+    if is_told(&reply) {
+        Ok(())
+    } else {
+        Err(Refusal::Mismatch)
+    }
 }
 
-fn ask(book: &mut Book, program: u32, start: u64) -> Result<(), Refusal>
-    ensures { Calling book.old (entry.Ask program start) book.new result }
-{
-    let _asked = book.ask(ProgramId::new(program), start)?;
-    Ok(())
-}
-
-fn store(book: &mut Book, value: &Value) -> Result<(), Refusal>
-    ensures { Calling book.old (entry.Store value.now) book.new result }
-{
-    let _begun = book.store(value.bytes())?;
-    Ok(())
-}
-
-fn deliver(book: &mut Book, message: &Message) -> Result<(), Refusal>
-    ensures { Calling book.old (entry.Deliver message.now) book.new result }
-{
-    let _taken = book.deliver(message)?;
-    Ok(())
-}
-
-/// Where no query is ready, nothing is handed out, and no entry says so.
-fn hand_out(book: &mut Book) -> Result<(), Refusal>
-    ensures { Calling book.old entry.HandOut book.new result }
-{
-    let Some(_job) = book.hand_out()? else {
-        return Err(Refusal::Mismatch);
-    };
-    Ok(())
-}
-
-/// The job of the query is run anew over the block, and its answer compared.
-fn post(book: &mut Book, block: &mut Block, query: u64, acc: u64, steps: u64) -> Result<(), Refusal>
-    ensures { Calling book.old (entry.Post query (record { acc = acc; steps = steps })) book.new result }
+/// The job of the query, run anew over the block, where its answer is this one.
+fn run_anew(
+    book: &Book,
+    block: &mut Block,
+    query: u64,
+    acc: u64,
+    steps: u64,
+) -> Result<Done, Refusal>
+    ensures due { IfOk result (λ done. (running_job book.now.desk book.now.id done.job.query ≡ Some done.job) × IsFinished done) }
+    ensures own { IfOk result (λ done. entry.Post done.job.query done.ran ≡ entry.Post query (record { acc = acc; steps = steps })) }
+    ensures none { IfErr result (λ e. e ≡ Refusal.Mismatch → IsAnswering book.now (entry.Post query (record { acc = acc; steps = steps })) → ⊥) }
 {
     one_answer();
     let Some(job) = book.running_job(query as usize)? else {
@@ -82,11 +74,11 @@ fn post(book: &mut Book, block: &mut Block, query: u64, acc: u64, steps: u64) ->
     if ran.acc != acc || ran.steps != steps {
         return Err(Refusal::Mismatch);
     }
-    book.post(&done)?;
-    Ok(())
+    Ok(done)
 }
 
-/// Makes the call that an event names. A post runs over the block.
+/// Makes the call that an event names. The notes of a program are checked anew, for the records of the book's views. A
+/// post runs over the block.
 pub(crate) fn take(
     alloc: Global,
     book: &mut Book,
@@ -98,12 +90,21 @@ pub(crate) fn take(
 {
     one_longest();
     match event {
-        RawEntry::Leave => leave(book),
-        RawEntry::Register { text, notes } => register(alloc, book, text, notes),
-        RawEntry::Ask { program, start } => ask(book, program, start),
-        RawEntry::Store(value) => store(book, &value),
-        RawEntry::Deliver(message) => deliver(book, &message),
-        RawEntry::HandOut => hand_out(book),
-        RawEntry::Post { query, acc, steps } => post(book, block, query, acc, steps),
+        RawEntry::Leave => make(book, &Call::Leave),
+        RawEntry::Register { text, notes } => {
+            let program = Program::of_text(alloc, text, notes, record_lengths(book.version()))?;
+            make(book, &Call::Register(&program))
+        }
+        RawEntry::Ask { program, start } => {
+            let program = ProgramId::new(program);
+            make(book, &Call::Ask { program, start })
+        }
+        RawEntry::Store(value) => make(book, &Call::Store(value.bytes())),
+        RawEntry::Deliver(message) => make(book, &Call::Deliver(&message)),
+        RawEntry::HandOut => make(book, &Call::HandOut),
+        RawEntry::Post { query, acc, steps } => {
+            let done = run_anew(book, block, query, acc, steps)?;
+            make(book, &Call::Post(&done))
+        }
     }
 }
