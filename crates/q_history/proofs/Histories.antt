@@ -21,19 +21,19 @@ pub reaches_next : (es : List ClusterEvent) (c d : ClusterState) (e : ClusterEve
 reaches_next es c d e told f r s = reaches_on es (e ∷ []) c d f r (reaches_one d f e told s)
 
 pub history_kept : (c : ClusterState) → IsHistory c → IsKept c
-history_kept c h = (run_kept h.0 (start c.version c.world.config c.world.founders) c (start_kept c.version c.world.config c.world.founders) h.1).kept
+history_kept c h = (run_kept h.0 (start c.version c.past.config c.past.founders) c (start_kept c.version c.past.config c.past.founders) h.1).kept
 
 pub history_run : (es : List ClusterEvent) (c d : ClusterState) → IsHistory c → Reaches c es d → IsHistory d
 history_run es c d h r =
     let k = run_kept es c d (history_kept c h) r in
-    let whole = reaches_on h.0 es (start c.version c.world.config c.world.founders) c d h.1 r in (
+    let whole = reaches_on h.0 es (start c.version c.past.config c.past.founders) c d h.1 r in (
       h.0 ++ es,
-      subst (λ (x : Version). Reaches (start x d.world.config d.world.founders) (h.0 ++ es) d) (sym k.version)
-          (subst (λ (x : Config). Reaches (start c.version x d.world.founders) (h.0 ++ es) d) (sym k.config)
-          (subst (λ (x : List ℕ). Reaches (start c.version c.world.config x) (h.0 ++ es) d) (sym k.founders) whole)),
-      subst (λ (x : Version). started x d.world.config d.world.founders ≡ Ok (start x d.world.config d.world.founders)) (sym k.version)
-          (subst (λ (x : Config). started c.version x d.world.founders ≡ Ok (start c.version x d.world.founders)) (sym k.config)
-          (subst (λ (x : List ℕ). started c.version c.world.config x ≡ Ok (start c.version c.world.config x)) (sym k.founders) h.2)),
+      subst (λ (x : Version). Reaches (start x d.past.config d.past.founders) (h.0 ++ es) d) (sym k.version)
+          (subst (λ (x : Config). Reaches (start c.version x d.past.founders) (h.0 ++ es) d) (sym k.config)
+          (subst (λ (x : List ℕ). Reaches (start c.version c.past.config x) (h.0 ++ es) d) (sym k.founders) whole)),
+      subst (λ (x : Version). started x d.past.config d.past.founders ≡ Ok (start x d.past.config d.past.founders)) (sym k.version)
+          (subst (λ (x : Config). started c.version x d.past.founders ≡ Ok (start c.version x d.past.founders)) (sym k.config)
+          (subst (λ (x : List ℕ). started c.version c.past.config x ≡ Ok (start c.version c.past.config x)) (sym k.founders) h.2)),
     )
 
 pub history_next : (c d : ClusterState) (e : ClusterEvent) (told : ClusterStep) → IsHistory c → Follows c e told d → IsHistory d

@@ -1,5 +1,5 @@
--- What an event of a world keeps of its operations and its nodes, and what it adds.
-use Rattle.std.proofs.Common.{◌≡◌, ℕ, Bool, true, false, cond, ◌==◌, [], ◌∷◌, map, Option, Some, None, refl, sym, ap, ◌∙◌, inl}
+-- What an event of a world keeps of its operations, and what it adds.
+use Rattle.std.proofs.Common.{◌≡◌, ℕ, Bool, true, false, cond, ◌==◌, List, [], ◌∷◌, map, Option, Some, None, refl, sym, ap, ◌∙◌, subst, inl}
 use Rattle.std.proofs.lemmas.Bool.{eqb-true}
 use Rattle.std.specs.Ordering.{nat_cmp}
 use Rattle.std.specs.Cmp.{nat_cmp_total}
@@ -21,24 +21,22 @@ use Rattle.sc_world.proofs.Finite.{get-insert}
 use Rattle.sc_world.proofs.Steps.{among-left, among-right, among-image, advance_op}
 use Rattle.sc_world.proofs.Handlers.{collect_outcome}
 use Rattle.sc_world.proofs.Telling.{same_start}
+use Rattle.q_history.proofs.Lists.{same_some}
 
 -- the operation is there later, and what it returned it returned for good
-pub record IsLater (w : WorldState) (o : Op) : Type 0 where
+pub record IsLater (ops : List Op) (o : Op) : Type 0 where
   pub op : Op
-  pub among : Among op w.ops
+  pub among : Among op ops
   pub by : op.node ≡ o.node
   pub tagged : op.tag ≡ o.tag
   pub returned : (v : ViewMap) → returned o ≡ Some v → returned op ≡ Some v
 
--- nothing is lost from one world to another of the same founders
-pub record IsOnward (w w' : WorldState) : Type 0 where
-  pub config : w'.config ≡ w.config
-  pub founders : w'.founders ≡ w.founders
-  pub ops : (o : Op) → Among o w.ops → IsLater w' o
-  pub nodes : (id : ℕ) (n : NodeState) → fin.get w.nodes id ≡ Some n → (m : NodeState) × (fin.get w'.nodes id ≡ Some m)
+-- no record is lost from one list of them to another
+abbrev pub IsOnward : List Op → List Op → Type 0
+IsOnward ops later = (o : Op) → Among o ops → IsLater later o
 
-pub onward_itself : (w : WorldState) → IsOnward w w
-onward_itself w = record { config = refl; founders = refl; ops = λ o in'. record { op = o; among = in'; by = refl; tagged = refl; returned = λ v h. h }; nodes = λ id n at. (n, at) }
+pub onward_itself : (ops : List Op) → IsOnward ops ops
+onward_itself ops o in' = record { op = o; among = in'; by = refl; tagged = refl; returned = λ v h. h }
 
 none_returned : (k : OperationKind) (view : Option ViewMap) → returned_by k None view ≡ None
 none_returned (kind.Store e) view = refl
@@ -50,9 +48,18 @@ open_returns o v running h =
     let k : None ≡ Some v = sym (ap (λ (x : Option ℕ). returned_by o.session.kind x (stored o.session)) running ∙ none_returned o.session.kind (stored o.session)) ∙ h in
     absurd (cc)
 
-pub insert_has : (m : fin.FinMap nat_cmp NodeState) (k : ℕ) (v : NodeState) (q : ℕ) (x : NodeState) (b : Bool) → (q == k) ≡ b → fin.get m q ≡ Some x → (y : NodeState) × (fin.get (fin.insert m k v) q ≡ Some y)
+pub insert_has : {X : Type 0} (m : fin.FinMap nat_cmp X) (k : ℕ) (v : X) (q : ℕ) (x : X) (b : Bool) → (q == k) ≡ b → fin.get m q ≡ Some x → (y : X) × (fin.get (fin.insert m k v) q ≡ Some y)
 insert_has m k v q x true is at = (v, get-insert m k v q ∙ ap (λ (b : Bool). cond b (Some v) (fin.get m q)) is)
 insert_has m k v q x false is at = (x, get-insert m k v q ∙ ap (λ (b : Bool). cond b (Some v) (fin.get m q)) is ∙ at)
+
+module _ {X : Type 0} (m : fin.FinMap nat_cmp X) (k : ℕ) (v : X) (P : ℕ → X → Type 0) where
+  each_by : (q : ℕ) (x : X) (here : Bool) → (q == k) ≡ here → P k v → ((p : ℕ) (y : X) → fin.get m p ≡ Some y → P p y) → cond here (Some v) (fin.get m q) ≡ Some x → P q x
+  each_by q x true is new old at = subst (λ (p : ℕ). P p x) (sym (eqb-true q k is)) (subst (P k) (same_some v x at) new)
+  each_by q x false is new old at = old q x at
+
+  -- what is true of each entry, and of one that is put in, is true of each then
+  pub each_put : P k v → ((p : ℕ) (y : X) → fin.get m p ≡ Some y → P p y) → (q : ℕ) (x : X) → fin.get (fin.insert m k v) q ≡ Some x → P q x
+  each_put new old q x at = each_by q x (q == k) refl new old (sym (get-insert m k v q) ∙ at)
 
 there : {X : Type 0} (m : fin.FinMap nat_cmp X) (k q : ℕ) (o : Option X) (b : Bool) → (q == k) ≡ b → fin.get m k ≡ o → cond b o (fin.get m q) ≡ fin.get m q
 there m k q o false is at = refl
@@ -67,7 +74,7 @@ module _ (w : WorldState) (e : WorldEvent) (q : ℕ) (r : Outcome) where
   kept_view None o running v h = h
   kept_view (Some p) o running v h = advance_op q (clock w) p o (λ (y : Op). returned y ≡ Some v) (λ by tagged. absurd (open_returns o v (running p refl by tagged) h)) (λ _. h)
 
-  later : (o : Op) → Among o w.ops → ((k : Progress) → r.progress ≡ Some k → o.node ≡ q → o.tag ≡ k.tag → o.end ≡ None) → IsLater (after w e q r) o
+  later : (o : Op) → Among o w.ops → ((k : Progress) → r.progress ≡ Some k → o.node ≡ q → o.tag ≡ k.tag → o.end ≡ None) → IsLater (after w e q r).ops o
   later o in' running =
       let k = same_start q (clock w) r.progress o in
       record {
@@ -79,8 +86,8 @@ module _ (w : WorldState) (e : WorldEvent) (q : ℕ) (r : Outcome) where
       }
 
   -- an event that moves only operations that have not ended
-  pub after_onward : ((o : Op) → Among o w.ops → (k : Progress) → r.progress ≡ Some k → o.node ≡ q → o.tag ≡ k.tag → o.end ≡ None) → IsOnward w (after w e q r)
-  after_onward running = record { config = refl; founders = refl; ops = λ o in'. later o in' (running o in'); nodes = λ id n at. insert_has w.nodes q r.node id n (id == q) refl at }
+  pub after_onward : ((o : Op) → Among o w.ops → (k : Progress) → r.progress ≡ Some k → o.node ≡ q → o.tag ≡ k.tag → o.end ≡ None) → IsOnward w.ops (after w e q r).ops
+  after_onward running o in' = later o in' (running o in')
 
 -- an event at which a node begins to collect
 pub collect_among : (w : WorldState) (e : WorldEvent) (q : ℕ) (n : NodeState) → (o : Op) × Among o (after w e q (collect_outcome n)).ops × (o.node ≡ q) × (o.tag ≡ n.operations)

@@ -49,5 +49,5 @@ Runs old es new (Err r) =
 abbrev pub IsHistory : ClusterState → Type 0
 IsHistory c =
     (es : List ClusterEvent)
-    × Reaches (start c.version c.world.config c.world.founders) es c
-    × (started c.version c.world.config c.world.founders ≡ Ok (start c.version c.world.config c.world.founders))
+    × Reaches (start c.version c.past.config c.past.founders) es c
+    × (started c.version c.past.config c.past.founders ≡ Ok (start c.version c.past.config c.past.founders))

@@ -1,12 +1,12 @@
 -- What each event makes of a cluster: the book of the node does what its call says, and the ledger records what the
 -- node told. Refusals stand in this order: no such job, no such node, never sent; then the book's own.
-use Rattle.std.specs.Prelude.{ℕ, List, [], ◌∷◌, ◌++◌, length, slice_get, Option, Some, None, Result, Ok, Err}
-use Rattle.std.specs.Ordering.{nat_cmp}
+use Rattle.std.specs.Prelude.{ℕ, Bool, true, false, if◌then◌else◌, List, [], ◌∷◌, ◌++◌, length, slice_get, Option, Some, None, Result, Ok, Err}
 use Rattle.std.specs.FinMap as fin
+use Rattle.std.specs.FinSet as set
 use Rattle.sc_members.specs.Members.{Config}
 use Rattle.sc_msg.specs.declared.message.Message.{Message}
 use Rattle.sc_msg.specs.declared.version.Version.{Version}
-use Rattle.sc_node.specs.State.{NodeState}
+use Rattle.sc_node.specs.Nodes.{founder, are_founders}
 use Rattle.sc_node.specs.declared.answer.Begun.{Begun}
 use Rattle.sc_operations.specs.declared.progress.Progress.{Progress}
 use Rattle.sc_world.specs.declared.act.Opened.{Opened}
@@ -14,13 +14,11 @@ use Rattle.sc_world.specs.declared.event.WorldEvent.{WorldEvent}
 use Rattle.sc_world.specs.declared.event.WorldEvent.TheVariants as world_event
 use Rattle.reasons.specs.declared.Reason.{Reason}
 use Rattle.reasons.specs.declared.Reason.TheVariants as reasons
-use Rattle.sc_world.specs.State.{WorldState, Past, world_of, past_of}
-use Rattle.sc_world.specs.Ledgers.{recorded, numbered, stopped}
-use Rattle.sc_world.specs.Worlds as world
+use Rattle.sc_world.specs.State.{Past}
+use Rattle.sc_world.specs.Ledgers.{first, recorded, numbered, stopped}
 use Rattle.bq_check.specs.Certificate.{Certificate}
 use Rattle.q_session.specs.declared.ran.Ran.{Ran}
 use Rattle.q_session.specs.declared.job.Job.{Job}
-use Rattle.q_desk.specs.State.{DeskState, new_desk}
 use Rattle.q_book.specs.State.{BookState}
 use Rattle.q_book.specs.Books as book
 use Rattle.q_book.specs.declared.answer.Asked.{Asked}
@@ -31,11 +29,7 @@ use Rattle.q_history.specs.declared.event.Handed.{Handed}
 use Rattle.q_history.specs.declared.event.EventAnswer.{EventAnswer}
 use Rattle.q_history.specs.declared.event.EventAnswer.TheVariants as told
 use Rattle.q_history.specs.declared.event.ClusterStep.{ClusterStep}
-use Rattle.q_history.specs.State.{ClusterState}
-use Rattle.q_history.specs.Heads.{book_of}
-
-abbrev pub Desks : Type 0
-Desks = fin.FinMap nat_cmp DeskState
+use Rattle.q_history.specs.State.{BookMap, ClusterState}
 
 -- what an event answers and makes of a cluster, or why it is refused
 abbrev pub Said : Type 0
@@ -45,32 +39,38 @@ Said = Result (ClusterStep × ClusterState) Reason
 
 -- the cluster with another book of a node, another past and other jobs
 abbrev pub put : ClusterState → Past → List Job → ℕ → BookState → ClusterState
-put c past jobs id b =
-    record { version = c.version; world = world_of (fin.insert c.world.nodes id b.node) past; desks = fin.insert c.desks id b.desk; jobs = jobs }
+put c past jobs id b = record { version = c.version; books = fin.insert c.books id b; past = past; jobs = jobs }
 
 -- an event that the ledger does not record
 abbrev pub quiet : ClusterState → EventAnswer → List Job → ℕ → BookState → ClusterStep × ClusterState
-quiet c t jobs id b = (record { told = t; sent = record { first = length c.world.sent; count = 0 } }, put c (past_of c.world) jobs id b)
+quiet c t jobs id b = (record { told = t; sent = record { first = length c.past.sent; count = 0 } }, put c c.past jobs id b)
 
 -- an event that the ledger records
 abbrev pub noted : ClusterState → EventAnswer → WorldEvent → ℕ → List Message → Option Progress → Option Opened → BookState → ClusterStep × ClusterState
-noted c t e id outs progress begun b = (
-  record { told = t; sent = numbered (past_of c.world) outs },
-  put c (recorded (past_of c.world) e id outs progress begun) c.jobs id b,
-)
+noted c t e id outs progress begun b =
+    (record { told = t; sent = numbered c.past outs }, put c (recorded c.past e id outs progress begun) c.jobs id b)
 
 -- what a book answers, as its cluster tells it
 abbrev pub lift : {A : Type 0} → (A → BookState → ClusterStep × ClusterState) → Result (A × BookState) Reason → Said
 lift next (Ok a) = Ok (next a.0 a.1)
 lift next (Err e) = Err e
 
--- a node that is there, with its desk, as its book
-abbrev pub by_book : ClusterState → ℕ → Option NodeState → Option DeskState → (BookState → Said) → Said
-by_book c id (Some n) (Some d) f = f (book_of c id n d)
-by_book c id n d f = Err reasons.NoSuchNode
+abbrev pub live : Bool → Option BookState → Option BookState
+live true b = None
+live false None = None
+live false (Some b) = if b.node.gone then None else Some b
 
+-- the book of a node that has neither left nor crashed
+abbrev pub live_at : ClusterState → ℕ → Option BookState
+live_at c id = live (set.contains c.past.crashed id) (fin.get c.books id)
+
+abbrev pub by_book : Option BookState → (BookState → Said) → Said
+by_book None f = Err reasons.NoSuchNode
+by_book (Some b) f = f b
+
+-- the book of a node that is there does this
 abbrev pub at : ClusterState → ℕ → (BookState → Said) → Said
-at c id f = by_book c id (world.live_at c.world id) (fin.get c.desks id) f
+at c id f = by_book (live_at c id) f
 
 -- ---- programs
 
@@ -107,7 +107,7 @@ delivered_as c number id b None = Err reasons.NeverSent
 delivered_as c number id b (Some m) = lift (delivers c number id) (book.delivered b m)
 
 abbrev pub delivered : ClusterState → ℕ → ℕ → BookState → Said
-delivered c number id b = delivered_as c number id b (slice_get c.world.sent number)
+delivered c number id b = delivered_as c number id b (slice_get c.past.sent number)
 
 -- ---- jobs
 
@@ -141,9 +141,9 @@ finished c ran (Some j) = at c j.node (posted c j ran)
 abbrev pub enters : ClusterState → ℕ → BookState × List Message → ClusterStep × ClusterState
 enters c id e = noted c told.Entered (world_event.Enter id) id e.1 None None e.0
 
-abbrev pub entered : ClusterState → ℕ → Option NodeState → Said
-entered c id None = Ok (enters c id (book.entered c.version c.world.config id))
-entered c id (Some n) = Err reasons.IdUsed
+abbrev pub entered : ClusterState → ℕ → Option BookState → Said
+entered c id None = Ok (enters c id (book.entered c.version c.past.config id))
+entered c id (Some b) = Err reasons.IdUsed
 
 abbrev pub leaves : ClusterState → ℕ → List Message → BookState → ClusterStep × ClusterState
 leaves c id outs b = noted c told.Left (world_event.Leave id) id outs None None b
@@ -151,20 +151,18 @@ leaves c id outs b = noted c told.Left (world_event.Leave id) id outs None None 
 abbrev pub left : ClusterState → ℕ → BookState → Said
 left c id b = lift (leaves c id) (book.left b)
 
-abbrev pub crashed : ClusterState → ℕ → Option NodeState → Said
+abbrev pub crashed : ClusterState → ℕ → Option BookState → Said
 crashed c id None = Err reasons.NoSuchNode
-crashed c id (Some n) = Ok (
-  record { told = told.Crashed; sent = record { first = length c.world.sent; count = 0 } },
-  record { version = c.version; world = world_of c.world.nodes (stopped (past_of c.world) id); desks = c.desks; jobs = c.jobs },
-)
+crashed c id (Some b) =
+    Ok (record { told = told.Crashed; sent = record { first = length c.past.sent; count = 0 } }, record c { past = stopped c.past id })
 
 -- ---- events
 
 -- What an event answers and makes of a cluster, or why it is refused. A job that it finishes comes to ran.
 abbrev pub stepped : Ran → ClusterState → ClusterEvent → Said
-stepped ran c (event.Enter id) = entered c id (fin.get c.world.nodes id)
+stepped ran c (event.Enter id) = entered c id (fin.get c.books id)
 stepped ran c (event.Leave id) = at c id (left c id)
-stepped ran c (event.Crash id) = crashed c id (world.live_at c.world id)
+stepped ran c (event.Crash id) = crashed c id (live_at c id)
 stepped ran c (event.Register id program) = at c id (registered c id program)
 stepped ran c (event.Ask id program start) = at c id (asked c id program start)
 stepped ran c (event.Store id value) = at c id (stored c id value)
@@ -174,18 +172,16 @@ stepped ran c (event.Finish number) = finished c ran (slice_get c.jobs number)
 
 -- ---- founders
 
--- these desks, and a new one of that version for each of these ids
-abbrev pub desks_with : Version → Desks → List ℕ → Desks
-desks_with version desks [] = desks
-desks_with version desks (id ∷ ids) = desks_with version (fin.insert desks id (new_desk (book.record_lengths version))) ids
+-- these books, and those of the founders of these ids
+abbrev pub books_with : Version → Config → List ℕ → BookMap → List ℕ → BookMap
+books_with version config ids books [] = books
+books_with version config ids books (id ∷ rest) =
+    books_with version config ids (fin.insert books id (book.new_book version id config (Some ids) (founder config ids id))) rest
 
 -- the cluster of the founders, before any event
 abbrev pub start : Version → Config → List ℕ → ClusterState
-start version config ids = record { version = version; world = world.start config ids; desks = desks_with version fin.empty ids; jobs = [] }
-
-abbrev pub founded : Version → Config → List ℕ → Result WorldState Reason → Result ClusterState Reason
-founded version config ids (Err e) = Err e
-founded version config ids (Ok w) = Ok (start version config ids)
+start version config ids =
+    record { version = version; books = books_with version config ids fin.empty ids; past = first config ids; jobs = [] }
 
 abbrev pub started : Version → Config → List ℕ → Result ClusterState Reason
-started version config ids = founded version config ids (world.started config ids)
+started version config ids = if are_founders ids then Ok (start version config ids) else Err reasons.BadFounders

@@ -1,13 +1,12 @@
 -- What is true of every answer that a cluster records.
-use Rattle.std.specs.Prelude.{◌≡◌, ℕ, Option, Some, None, slice_get}
+use Rattle.std.specs.Prelude.{◌≡◌, ℕ, List, Option, Some, None, slice_get}
 use Rattle.std.specs.FinMap as fin
 use Rattle.sc_view.specs.declared.view.Stored.{Stored}
 use Rattle.sc_view.specs.Views.{ViewMap}
 use Rattle.sc_operations.specs.declared.session.OperationKind.TheVariants as kind
 use Rattle.sc_world.specs.declared.op.Op.{Op}
-use Rattle.sc_world.specs.State.{WorldState}
 use Rattle.sc_world.specs.Operations.{Among, IsBefore, Meets, Holds, returned}
-use Rattle.q_desk.specs.State.{DeskState}
+use Rattle.q_book.specs.State.{BookState}
 use Rattle.q_desk.specs.Answers.{IsAnswered}
 use Rattle.q_session.specs.declared.ran.Ran.{Ran}
 use Rattle.q_session.specs.declared.query.Phase.{Phase}
@@ -17,25 +16,25 @@ use Rattle.q_history.specs.State.{ClusterState}
 
 -- The node's collect with this tag ended and returned the view, and the view holds each store that ended before the
 -- collect began and that meets it.
-pub record IsReturned (w : WorldState) (node tag : ℕ) (view : ViewMap) : Type 0 where
+pub record IsReturned (ops : List Op) (node tag : ℕ) (view : ViewMap) : Type 0 where
   pub collect : Op
-  pub among : Among collect w.ops
+  pub among : Among collect ops
   pub by : collect.node ≡ node
   pub tagged : collect.tag ≡ tag
   pub returned : returned collect ≡ Some view
-  pub holds : (s : Op) (e : Stored) → Among s w.ops → s.session.kind ≡ kind.Store e → IsBefore s collect → Meets s collect → Holds view s.node e.number
+  pub holds : (s : Op) (e : Stored) → Among s ops → s.session.kind ≡ kind.Store e → IsBefore s collect → Meets s collect → Holds view s.node e.number
 
 -- The answer of a query of this node is right: the query names a program that the checker accepts; the answer is the
 -- meaning of its text, from the query's start, over the view that the query's collect returned; and the steps are at
 -- most its longest path times the records of that view.
-pub record IsTrue (c : ClusterState) (node : ℕ) (d : DeskState) (q : Query) (view : ViewMap) (ran : Ran) : Type 0 where
-  pub answered : IsAnswered d q view ran
-  pub returned : IsReturned c.world node q.tag view
+pub record IsTrue (c : ClusterState) (node : ℕ) (b : BookState) (q : Query) (view : ViewMap) (ran : Ran) : Type 0 where
+  pub answered : IsAnswered b.desk q view ran
+  pub returned : IsReturned c.past.ops node q.tag view
 
 -- each recorded answer of each node is
 abbrev pub AnswersAreTrue : ClusterState → Type 0
-AnswersAreTrue c = (node k : ℕ) (d : DeskState) (q : Query) (view : ViewMap) (ran : Ran) →
-    fin.get c.desks node ≡ Some d → slice_get d.queries k ≡ Some q → q.phase ≡ Answered view ran → IsTrue c node d q view ran
+AnswersAreTrue c = (node k : ℕ) (b : BookState) (q : Query) (view : ViewMap) (ran : Ran) →
+    fin.get c.books node ≡ Some b → slice_get b.desk.queries k ≡ Some q → q.phase ≡ Answered view ran → IsTrue c node b q view ran
 
 -- the view over which a query is to run, runs or ran
 abbrev pub view_of : Phase → Option ViewMap
@@ -46,11 +45,11 @@ view_of (Answered view ran) = Some view
 
 -- each such view is the one that the query's own collect returned
 abbrev pub ViewsAreReturned : ClusterState → Type 0
-ViewsAreReturned c = (node k : ℕ) (d : DeskState) (q : Query) (view : ViewMap) →
-    fin.get c.desks node ≡ Some d → slice_get d.queries k ≡ Some q → view_of q.phase ≡ Some view → IsReturned c.world node q.tag view
+ViewsAreReturned c = (node k : ℕ) (b : BookState) (q : Query) (view : ViewMap) →
+    fin.get c.books node ≡ Some b → slice_get b.desk.queries k ≡ Some q → view_of q.phase ≡ Some view → IsReturned c.past.ops node q.tag view
 
 -- a recorded answer stays as it is
 abbrev pub AnswersStay : ClusterState → ClusterState → Type 0
-AnswersStay c later = (node k : ℕ) (d : DeskState) (q : Query) (view : ViewMap) (ran : Ran) →
-    fin.get c.desks node ≡ Some d → slice_get d.queries k ≡ Some q → q.phase ≡ Answered view ran
-    → (e : DeskState) × (fin.get later.desks node ≡ Some e) × (slice_get e.queries k ≡ Some q)
+AnswersStay c later = (node k : ℕ) (b : BookState) (q : Query) (view : ViewMap) (ran : Ran) →
+    fin.get c.books node ≡ Some b → slice_get b.desk.queries k ≡ Some q → q.phase ≡ Answered view ran
+    → (e : BookState) × (fin.get later.books node ≡ Some e) × (slice_get e.desk.queries k ≡ Some q)

@@ -1,9 +1,7 @@
--- The book of a node of a cluster.
-use Rattle.std.specs.Prelude.{ℕ, List, Option, Some, None, if◌then◌else◌}
+-- How the book of a node of a cluster begins.
+use Rattle.std.specs.Prelude.{◌≡◌, ℕ, List, Option, Some, None, if◌then◌else◌}
 use Rattle.std.specs.Ordering.{nat_cmp}
 use Rattle.std.specs.FinSet as set
-use Rattle.sc_node.specs.State.{NodeState}
-use Rattle.q_desk.specs.State.{DeskState}
 use Rattle.q_book.specs.State.{BookState}
 use Rattle.q_history.specs.State.{ClusterState}
 
@@ -11,7 +9,9 @@ use Rattle.q_history.specs.State.{ClusterState}
 abbrev pub founders_for : ℕ → List ℕ → Option (List ℕ)
 founders_for id ids = if set.contains (set.from_list {R = nat_cmp} ids) id then Some ids else None
 
--- the book of a node of a cluster
-abbrev pub book_of : ClusterState → ℕ → NodeState → DeskState → BookState
-book_of c id n d =
-    record { version = c.version; id = id; config = c.world.config; founders = founders_for id c.world.founders; node = n; desk = d }
+-- the book is headed as that of this node of the cluster
+pub record IsHeaded (c : ClusterState) (node : ℕ) (b : BookState) : Type 0 where
+  pub version : b.version ≡ c.version
+  pub id : b.id ≡ node
+  pub config : b.config ≡ c.past.config
+  pub founders : b.founders ≡ founders_for node c.past.founders

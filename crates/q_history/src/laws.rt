@@ -7,6 +7,7 @@ ghost use Rattle.sc_msg.specs.declared.version.Version.{Version};
 ghost use Rattle.sc_world.specs.Worlds.{IsHistory as IsWorldHistory};
 ghost use Rattle.q_history.specs.declared.event.ClusterEvent.{ClusterEvent};
 ghost use Rattle.q_history.specs.State.{ClusterState};
+ghost use Rattle.q_history.specs.World.{world};
 ghost use Rattle.q_history.specs.Clusters.{start, started};
 ghost use Rattle.q_history.specs.Calls.{Reaches};
 ghost use Rattle.q_history.specs.Headline.{AnswersAreTrue, AnswersStay, ViewsAreReturned};
@@ -43,7 +44,7 @@ pub fn every_book_is_a_replay()
 /// A law: in every history of founders that are not refused, each message that was sent fits the cluster's version, so
 /// no delivery is refused with 50.
 pub fn every_message_fits()
-    ensures { (version : Version) (config : Config) (founders : List ℕ) (events : List ClusterEvent) (c : ClusterState) → started version config founders ≡ Ok (start version config founders) → Reaches (start version config founders) events c → All (Fits version) c.world.sent }
+    ensures { (version : Version) (config : Config) (founders : List ℕ) (events : List ClusterEvent) (c : ClusterState) → started version config founders ≡ Ok (start version config founders) → Reaches (start version config founders) events c → All (Fits version) c.past.sent }
 {}
 
 /// A law: in every history the cluster's world is what its own accepted events made of its founders. So all that is
@@ -52,5 +53,5 @@ pub fn every_message_fits()
 /// answer; what an event of the world tells of an operation that ended is what the operation's record then says, and an
 /// operation whose record ends at an event is told by it.
 pub fn every_world_is_a_history()
-    ensures { (version : Version) (config : Config) (founders : List ℕ) (events : List ClusterEvent) (c : ClusterState) → Reaches (start version config founders) events c → IsWorldHistory c.world }
+    ensures { (version : Version) (config : Config) (founders : List ℕ) (events : List ClusterEvent) (c : ClusterState) → Reaches (start version config founders) events c → IsWorldHistory (world c) }
 {}
