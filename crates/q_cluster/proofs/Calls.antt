@@ -23,21 +23,11 @@ use Rattle.q_history.specs.State.{ClusterState}
 use Rattle.q_history.specs.Clusters.{lift, at, stepped, opened, registers, asks, stores, delivers, hands, posts, leaves}
 use Rattle.q_history.specs.Calls.{AnswersTo}
 use Rattle.q_cluster.specs.Acts.{Doing}
-use Rattle.q_book.proofs.Followed.{registered-accepted, handed-accepted, none-handed, posted-accepted, asked-accepted, stored-accepted, delivered-accepted, left-accepted}
-
--- where it is accepted, nothing but the node and the desk of the book changes
-abbrev pub Keeps : {A : Type 0} → BookState → Result (A × BookState) Reason → Type 0
-Keeps {A} b r = (a : A) (c : BookState) → r ≡ Ok (a, c) → record b { node = c.node; desk = c.desk } ≡ c
-
-pub handed_keeps : (b : BookState) → Keeps b (book.handed_out b)
-handed_keeps b None c h = ap (λ (x : BookState). let y : BookState = record b { node = x.node; desk = x.desk } in y) (sym (none-handed b c h)) ∙ none-handed b c h
-handed_keeps b (Some j) c h = (handed-accepted b j c h).same
 
 -- an event, what the book does at it, and what its cluster makes of that
 pub record Call (A : Type 0) : Type 0 where
   pub event : ClusterEvent
   pub said : BookState → Result (A × BookState) Reason
-  pub keeps : (b : BookState) → Keeps b (said b)
   pub next : ClusterState → A → BookState → ClusterStep × ClusterState
 
 abbrev pub does : {A : Type 0} → Call A → ClusterState → Doing
@@ -59,22 +49,20 @@ abbrev pub registering : ℕ → Certificate → Call ℕ
 registering id program = record {
   event = event.Register id program;
   said = λ b. book.registered b program;
-  keeps = λ b a c h. (registered-accepted b program (a, c) h).same;
   next = λ c. registers c id;
 }
 
 abbrev pub handing : ℕ → Call (Option Job)
-handing id = record { event = event.HandOut id; said = λ b. book.handed_out b; keeps = λ b. handed_keeps b; next = λ c. hands c id }
+handing id = record { event = event.HandOut id; said = λ b. book.handed_out b; next = λ c. hands c id }
 
 abbrev pub posting : ℕ → Job → Ran → Call (Unit {0})
 posting number j ran =
-    record { event = event.Finish number; said = λ b. book.posted b j ran; keeps = λ b a c h. (posted-accepted b j ran c h).same; next = λ c. posts c j ran }
+    record { event = event.Finish number; said = λ b. book.posted b j ran; next = λ c. posts c j ran }
 
 abbrev pub asking : ℕ → ℕ → ℕ → Call Asked
 asking id program start = record {
   event = event.Ask id program start;
   said = λ b. book.asked b program start;
-  keeps = λ b a c h. (asked-accepted b program start (a, c) h).same;
   next = λ c. asks c id;
 }
 
@@ -85,7 +73,6 @@ abbrev pub storing : ℕ → List ℕ → Call Begun
 storing id value = record {
   event = event.Store id value;
   said = λ b. book.stored b value;
-  keeps = λ b a c h. (stored-accepted b value (a, c) h).same;
   next = λ c. stores c id value;
 }
 
@@ -96,7 +83,6 @@ abbrev pub delivering : ℕ → Message → ℕ → Call Taken
 delivering number m id = record {
   event = event.Deliver number id;
   said = λ b. book.delivered b m;
-  keeps = λ b a c h. (delivered-accepted b m (a, c) h).same;
   next = λ c. delivers c number id;
 }
 
@@ -105,7 +91,7 @@ delivers_note number id a =
     record { told = told.Delivered a.completed; act = world_event.Deliver number id; outs = a.outs; progress = a.progress; begun = None }
 
 abbrev pub leaving : ℕ → Call (List Message)
-leaving id = record { event = event.Leave id; said = λ b. book.left b; keeps = λ b a c h. (left-accepted b (a, c) h).same; next = λ c. leaves c id }
+leaving id = record { event = event.Leave id; said = λ b. book.left b; next = λ c. leaves c id }
 
 abbrev pub leaves_note : ℕ → List Message → Note
 leaves_note id outs = record { told = told.Left; act = world_event.Leave id; outs = outs; progress = None; begun = None }

@@ -16,15 +16,14 @@ use Rattle.q_history.specs.declared.event.ClusterEvent.TheVariants as event
 use Rattle.q_history.specs.declared.event.ClusterStep.{ClusterStep}
 use Rattle.q_history.specs.declared.event.EventAnswer.{EventAnswer}
 use Rattle.q_history.specs.declared.event.EventAnswer.TheVariants as told
-use Rattle.q_history.specs.State.{ClusterState}
+use Rattle.q_history.specs.State.{BookMap, ClusterState}
 use Rattle.q_history.specs.Clusters.{Said, lift, posts, posted, finished}
 use Rattle.q_history.specs.Calls.{Answers, Follows, Takes}
-use Rattle.q_cluster.specs.Tables.{BookMap}
 use Rattle.q_cluster.specs.Acts.{cluster_of, IsCluster, IsThere, MayRun}
 use Rattle.q_cluster.proofs.Posting.{refused_so}
 use Rattle.q_cluster.proofs.Calls.{Call, IsCall, posting}
 use Rattle.q_cluster.proofs.Going.{has_book, turns_to, stays, quiet_says, quiet_goes}
-use Rattle.q_cluster.proofs.Tables.{insert_same}
+use Rattle.q_history.proofs.Ops.{insert_same}
 
 module _ {version : Version} {books : BookMap} {past : Past} {jobs : List Job} {x : ClusterState} {number : ℕ} {j : Job} (old : IsCluster version books past jobs) (is : cluster_of version books past jobs ≡ x) (may : MayRun x number j)
     (f : Finished) (k : Job) (ran : f.job ≡ j) (same : k ≡ f.job) where
@@ -39,7 +38,7 @@ module _ {version : Version} {books : BookMap} {past : Past} {jobs : List Job} {
 
   -- its node has a book
   pub finish_has : None ≡ fin.get books k.node → ⊥
-  finish_has = has_book old is there
+  finish_has = has_book is there
 
   module _ {b : BookState} (has : Some b ≡ fin.get books k.node) where
     abbrev table : BookState → BookMap
@@ -61,7 +60,7 @@ module _ {version : Version} {books : BookMap} {past : Past} {jobs : List Job} {
     so h = (subst (λ (o : Option Job). IfSome o (λ q. Answers q f.ran)) (sym job_is) (answers h), ap (finished c f.ran) job_is)
 
     turns : (r : Ran) → finished c r (slice_get jobs number) ≡ lift (posts c k r) (book.posted b k r)
-    turns r = ap (finished c r) job_is ∙ turns_to old is there has (posted c k r)
+    turns r = ap (finished c r) job_is ∙ turns_to is there has (posted c k r)
 
     -- the book refuses
     module _ {b' : BookState} {y : Reason} (steps : (b' ≡ b) × (book.posted b f.job f.ran ≡ Err y)) where

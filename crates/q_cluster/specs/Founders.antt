@@ -1,19 +1,13 @@
 -- The books of founders.
-use Rattle.std.specs.Prelude.{◌≡◌, ◌≢◌, ℕ, true, false, List, [], ◌∷◌, Some, Result, Ok, Err}
+use Rattle.std.specs.Prelude.{◌≡◌, ◌≢◌, ℕ, true, false, List, Result, Ok, Err}
 use Rattle.std.specs.FinMap as fin
 use Rattle.sc_members.specs.Members.{Config}
 use Rattle.sc_msg.specs.declared.version.Version.{Version}
-use Rattle.sc_node.specs.Nodes.{founder, are_founders}
+use Rattle.sc_node.specs.Nodes.{are_founders}
 use Rattle.reasons.specs.declared.Reason.TheVariants as reasons
-use Rattle.q_book.specs.Books.{new_book}
 use Rattle.reasons.specs.declared.Reason.{Reason}
-use Rattle.q_cluster.specs.Tables.{BookMap}
-
--- these books, and those of the founders of these ids
-abbrev pub books_with : Version → Config → List ℕ → BookMap → List ℕ → BookMap
-books_with version c ids books [] = books
-books_with version c ids books (id ∷ rest) =
-    books_with version c ids (fin.insert books id (new_book version id c (Some ids) (founder c ids id))) rest
+use Rattle.q_history.specs.State.{BookMap}
+use Rattle.q_history.specs.Clusters.{books_with}
 
 -- the books of the founders are given, or they are refused
 abbrev pub Founds : Reason → Version → Config → List ℕ → Result BookMap Reason → Type 0

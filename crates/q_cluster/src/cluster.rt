@@ -5,12 +5,12 @@ ghost use Rattle.std.specs.FinMap as fin;
 ghost use Rattle.sc_msg.specs.Lengths.{Fits};
 ghost use Rattle.sc_world.specs.Records.{AreRecords, AreSent};
 ghost use Rattle.sc_world.specs.Regular.{IsRegular, EndsAreRecorded, EndsAreTold};
-ghost use Rattle.sc_world.specs.Worlds as world;
 ghost use Rattle.sc_world.specs.Worlds.{IsHistory as IsWorldHistory};
 ghost use Rattle.forms.specs.Calls.{Steps, Gives};
 ghost use Rattle.q_session.specs.declared.ran.Ran.{Ran};
 ghost use Rattle.reasons.specs.declared.Reason.TheVariants.{OutOfMemory as memory};
-ghost use Rattle.q_history.specs.Clusters.{at, registered, asked, stored, delivered, handed_out, handed, with_job, finished, entered, left, crashed, started};
+ghost use Rattle.q_history.specs.World.{world};
+ghost use Rattle.q_history.specs.Clusters.{at, live_at, registered, asked, stored, delivered, handed_out, handed, with_job, finished, entered, left, crashed, started};
 ghost use Rattle.q_history.specs.Calls.{Takes, Runs, IsHistory};
 ghost use Rattle.q_history.specs.Headline.{AnswersAreTrue, AnswersStay, ViewsAreReturned};
 ghost use Rattle.q_history.specs.Books.{BooksAreReplays};
@@ -35,8 +35,7 @@ use std::alloc::Global;
 use std::marker::Model;
 
 /// The book of each node, all of one version, what is kept of every event, the jobs that were handed out, and the block
-/// over which they are run. Contracts see it as a world with a desk for each node. Some list of events made it of its
-/// founders.
+/// over which they are run. Contracts see all of it but the block. Some list of events made it of its founders.
 pub struct Cluster {
     alloc: Global,
     version: Version,
@@ -204,7 +203,7 @@ impl Cluster {
     /// A law of every cluster: its world is what the world's accepted events made of the founders. So all that is true
     /// of every history of a world is true of it.
     pub fn world_is_a_history(&self)
-        ensures { IsWorldHistory self.now.world }
+        ensures { IsWorldHistory (world self.now) }
     {
         every_world_is_a_history();
         let _jobs = self.jobs.len();
@@ -226,14 +225,14 @@ impl Cluster {
 
     /// The fractions that set the nodes' thresholds.
     pub fn config(&self) -> Config
-        ensures { result ≡ self.now.world.config }
+        ensures { result ≡ self.now.past.config }
     {
         self.ledger.config()
     }
 
     /// The ids of the founders, which rise strictly.
     pub fn founders(&self) -> &[u64]
-        ensures { result.now ≡ self.now.world.founders }
+        ensures { result.now ≡ self.now.past.founders }
     {
         self.ledger.founders()
     }
@@ -247,7 +246,7 @@ impl Cluster {
 
     /// Whether the node of this id is there: it has neither left nor crashed.
     pub fn is_live(&self, id: u64) -> bool
-        ensures { result ≡ is_some (world.live_at self.now.world id) }
+        ensures { result ≡ is_some (live_at self.now id) }
     {
         match self.books.get(id) {
             Some(book) => !self.ledger.has_crashed(id) && !book.node().is_gone(),
@@ -259,7 +258,7 @@ impl Cluster {
     /// message. A query stands there as its collect; programs and jobs do not. `Op::begin` and `Op::end` are places in
     /// this list, which count from 0.
     pub fn events(&self) -> &[WorldEvent]
-        ensures { result.now ≡ self.now.world.events }
+        ensures { result.now ≡ self.now.past.events }
     {
         self.ledger.events()
     }
@@ -269,26 +268,26 @@ impl Cluster {
     /// What the world's next event tells of an operation that ends is what its record then says, and each operation
     /// whose record ends then is told. Whether two of them meet is told by `sc_world::meets`.
     pub fn ops(&self) -> &[Op]
-        ensures ops { result.now ≡ self.now.world.ops }
-        ensures regular { IsRegular self.now.world }
-        ensures records { AreRecords self.now.world }
-        ensures senders { AreSent self.now.world }
-        ensures answers { EndsAreRecorded self.now.world }
-        ensures told { EndsAreTold self.now.world }
+        ensures ops { result.now ≡ self.now.past.ops }
+        ensures regular { IsRegular (world self.now) }
+        ensures records { AreRecords (world self.now) }
+        ensures senders { AreSent (world self.now) }
+        ensures answers { EndsAreRecorded (world self.now) }
+        ensures told { EndsAreTold (world self.now) }
     {
         self.ledger.ops()
     }
 
     /// How many messages were sent: the number of the next one.
     pub fn sent(&self) -> usize
-        ensures { result ≡ length self.now.world.sent }
+        ensures { result ≡ length self.now.past.sent }
     {
         self.ledger.sent().len()
     }
 
     /// The message of that number, which counts from 0. It fits the cluster's version.
     pub fn message(&self, number: usize) -> Option<&Message>
-        ensures message { option_copied result ≡ slice_get self.now.world.sent number }
+        ensures message { option_copied result ≡ slice_get self.now.past.sent number }
         ensures values { IfSome result (λ m. Fits self.now.version m.now) }
     {
         every_message_fits();
@@ -305,7 +304,7 @@ impl Cluster {
 
 impl Cluster {
     fn enter(&mut self, id: u64) -> Result<ClusterStep, ClusterFault>
-        ensures { Steps memory (entered self.old id (fin.get self.old.world.nodes id)) self.old self.new result }
+        ensures { Steps memory (entered self.old id (fin.get self.old.books id)) self.old self.new result }
     {
         if self.books.get(id).is_some() {
             return Err(ClusterFault::IdUsed);
@@ -335,7 +334,7 @@ impl Cluster {
     }
 
     fn crash(&mut self, id: u64) -> Result<ClusterStep, ClusterFault>
-        ensures { Steps memory (crashed self.old id (world.live_at self.old.world id)) self.old self.new result }
+        ensures { Steps memory (crashed self.old id (live_at self.old id)) self.old self.new result }
     {
         if !self.is_live(id) {
             return Err(ClusterFault::NoSuchNode);

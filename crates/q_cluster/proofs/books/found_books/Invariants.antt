@@ -1,7 +1,7 @@
 use Rattle.std.proofs.Common.{◌≡◌, ◌<◌, true, drop}
 use Rattle.std.specs.FinMap as fin
 use Rattle.sc_node.specs.Nodes.{are_founders}
-use Rattle.q_cluster.specs.Founders.{books_with}
+use Rattle.q_history.specs.Clusters.{books_with}
 use Rattle.q_cluster.proofs.books.found_books.Given as goal
 
 abbrev pub invariant-loop-id : goal.invariant-loop-id

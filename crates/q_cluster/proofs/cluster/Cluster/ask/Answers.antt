@@ -10,7 +10,7 @@ pub record-sent-requires-clause-ready : goal.record-sent-requires-clause-ready
 record-sent-requires-clause-ready c = nothing_moves c.reserve.new.self.past.ops c.args.id (length c.reserve.new.self.past.events)
 
 pub unreachable-requires : goal.unreachable-requires
-unreachable-requires c = has_book c.self.invariant c.self.view_is c.in_ok-check_live.ensures.there c.in_default.ensures.book
+unreachable-requires c = has_book c.self.view_is c.in_ok-check_live.ensures.there c.in_default.ensures.book
 
 pub invariant_of-self-in_err-query : goal.invariant_of-self-in_err-query
 invariant_of-self-in_err-query c =

@@ -2,10 +2,7 @@
 use Rattle.std.proofs.Common.{◌∙◌, ap}
 use Rattle.q_history.specs.State.{ClusterState}
 use Rattle.q_cluster.specs.Acts.{book_at}
-use Rattle.q_cluster.proofs.Going.{book_is}
 use Rattle.q_cluster.proofs.cluster.Cluster.book.Goals as goal
 
 pub returns : goal.returns
-returns c =
-    c.get.ensures ∙ book_is c.self.inside.version c.self.inside.books c.self.inside.ledger.past c.self.inside.jobs.items c.self.invariant.filed c.args.node
-    ∙ ap (λ (x : ClusterState). book_at x c.args.node) c.self.view_is
+returns c = c.get.ensures ∙ ap (λ (x : ClusterState). book_at x c.args.node) c.self.view_is

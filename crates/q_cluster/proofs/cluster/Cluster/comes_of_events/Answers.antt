@@ -5,4 +5,4 @@ use Rattle.q_history.specs.State.{ClusterState}
 use Rattle.q_cluster.proofs.cluster.Cluster.comes_of_events.Goals as goal
 
 pub returns : goal.returns
-returns c = subst (λ (x : ClusterState). IsHistory x) c.self.view_is c.self.invariant.history
+returns c = subst (λ (x : ClusterState). IsHistory x) c.self.view_is c.self.invariant

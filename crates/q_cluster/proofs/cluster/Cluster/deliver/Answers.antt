@@ -8,10 +8,10 @@ use Rattle.q_cluster.proofs.cluster.Cluster.deliver.Goals as goal
 
 pub record-sent-requires-clause-ready : goal.record-sent-requires-clause-ready
 record-sent-requires-clause-ready c =
-    counted_right c.self.invariant c.self.view_is c.in_ok-check_live.ensures.there c.in-Some-get_mut.ensures.book c.in-Some.taken.now c.in_ok-outs.field-0 c.in_ok-outs.ensures c.in_ok-counting.counting c.reserve.new.self.past c.in_ok-reserve.ensures.past c.in_ok-counting.ensures
+    counted_right c.self.invariant c.self.view_is c.in-Some-get_mut.ensures.book c.in-Some.taken.now c.in_ok-outs.field-0 c.in_ok-outs.ensures c.in_ok-counting.counting c.reserve.new.self.past c.in_ok-reserve.ensures.past c.in_ok-counting.ensures
 
 pub unreachable-requires : goal.unreachable-requires
-unreachable-requires c = has_book c.self.invariant c.self.view_is c.in_ok-check_live.ensures.there c.in_default-get_mut.ensures.book
+unreachable-requires c = has_book c.self.view_is c.in_ok-check_live.ensures.there c.in_default-get_mut.ensures.book
 
 pub invariant_of-self-in_err-outs : goal.invariant_of-self-in_err-outs
 invariant_of-self-in_err-outs c =

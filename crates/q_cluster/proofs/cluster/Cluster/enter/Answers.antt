@@ -40,11 +40,11 @@ module _ (c : goal.After-told) where
 
 pub invariant_of-self-2 : goal.invariant_of-self-2
 invariant_of-self-2 c =
-    enter_goes c.self.inside.version c.self.inside.books c.self.inside.ledger.past c.self.inside.jobs.items c.args.id c.self.invariant (absent c) c.in_ok-book.book c.in_ok-book.outs (made c) c.insert.new.self c.in_ok-insert.ensures.ok
-    c.record-sent.new.self.past (records c) c.record-sent.result (numbers c)
+    enter_goes c.self.inside.version c.self.inside.books c.self.inside.ledger.past c.self.inside.jobs.items c.args.id (absent c) c.in_ok-book.book c.in_ok-book.outs (made c) c.insert.new.self c.in_ok-insert.ensures.ok
+    c.record-sent.new.self.past (records c) c.record-sent.result (numbers c) c.self.invariant
 
 pub returns : goal.returns
 returns c =
     rw (← c.self.view_is)
-    (enter_says c.self.inside.version c.self.inside.books c.self.inside.ledger.past c.self.inside.jobs.items c.args.id c.self.invariant (absent c) c.in_ok-book.book c.in_ok-book.outs (made c) c.insert.new.self c.in_ok-insert.ensures.ok
+    (enter_says c.self.inside.version c.self.inside.books c.self.inside.ledger.past c.self.inside.jobs.items c.args.id (absent c) c.in_ok-book.book c.in_ok-book.outs (made c) c.insert.new.self c.in_ok-insert.ensures.ok
     c.record-sent.new.self.past (records c) c.record-sent.result (numbers c) c.told.result c.told.ensures)

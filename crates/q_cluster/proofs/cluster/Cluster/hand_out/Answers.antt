@@ -10,7 +10,7 @@ use Rattle.q_cluster.proofs.Going.{has_book, stays, refuses, quiet_says, quiet_g
 use Rattle.q_cluster.proofs.cluster.Cluster.hand_out.Goals as goal
 
 pub unreachable-requires : goal.unreachable-requires
-unreachable-requires c = has_book c.self.invariant c.self.view_is c.in_ok-check_live.ensures.there c.in_default.ensures.book
+unreachable-requires c = has_book c.self.view_is c.in_ok-check_live.ensures.there c.in_default.ensures.book
 
 pub invariant_of-self-in_err-job : goal.invariant_of-self-in_err-job
 invariant_of-self-in_err-job c =

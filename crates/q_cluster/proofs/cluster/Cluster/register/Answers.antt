@@ -7,7 +7,7 @@ use Rattle.q_cluster.proofs.cluster.Cluster.register.Goals as goal
 use Rattle.q_history.specs.declared.event.EventAnswer.TheVariants as told
 
 pub unreachable-requires : goal.unreachable-requires
-unreachable-requires c = has_book c.self.invariant c.self.view_is c.in_ok-check_live.ensures.there c.in_default.ensures.book
+unreachable-requires c = has_book c.self.view_is c.in_ok-check_live.ensures.there c.in_default.ensures.book
 
 pub invariant_of-self : goal.invariant_of-self
 invariant_of-self c =

@@ -9,4 +9,4 @@ returns-clause-stay c =
     let old : ClusterState = c.args.self.now in
     let before = c.comes_of_events.ensures in
     let after = runs_reach old c.args.events.now c.take_all-ran.new.self c.take_all-ran.result c.take_all-ran.ensures in
-    c.answers_stay.ensures old.version old.world.config old.world.founders before.0 after.0 old c.take_all-ran.new.self before.1 after.1
+    c.answers_stay.ensures old.version old.past.config old.past.founders before.0 after.0 old c.take_all-ran.new.self before.1 after.1
