@@ -1,4 +1,4 @@
-//! A cluster: the nodes of a store-collect object, a desk at each node, and the jobs that desks handed out.
+//! A cluster: the nodes of a store-collect object, each with its desk as a book, and the jobs that were handed out.
 //!
 //! A [`Cluster`] takes events one at a time or a list of them. Each event is taken or refused as the definitions of
 //! histories say, which pin the answer, the new state and the refusal that comes first; after a refusal, 99 OutOfMemory
