@@ -15,7 +15,7 @@ use q_kept::JournalFile;
 use q_outside::{Counted, Piece, TransportFailed};
 use reasons::Reason;
 use std::alloc::Global;
-use std::io::{BufRead, Write};
+use std::io::{BufRead, Eprint, Write};
 use std::sync::Wait;
 
 /// The command of the next line; at the end of the input, and where that fails, that to end.
@@ -39,8 +39,13 @@ fn leave<R: Wait, P: Post, J: JournalFile, S: Start>(
     left.said
 }
 
-/// Does what a command asks, and says what came of it; nothing to the command to end.
-fn obey<R: Wait, P: Post, J: JournalFile, S: Start>(
+/// Tells on the standard error which lines there are.
+fn note_lines<R: Eprint>(rt: &R) {
+    let _ = eprintln!(rt; "A line of the console is 'status', 'leave' or 'end'.");
+}
+
+/// Does what a command asks, and says what came of it; nothing to the command to end. A line that is none is explained.
+fn obey<R: Wait + Eprint, P: Post, J: JournalFile, S: Start>(
     process: &Process<'_, '_, R, P, J, S>,
     alloc: Global,
     command: Command,
@@ -52,13 +57,16 @@ fn obey<R: Wait, P: Post, J: JournalFile, S: Start>(
         Command::End => None,
         Command::Status => Some(Said::Status(process.own.lock(process.rt).status())),
         Command::Leave => Some(leave(process, alloc)),
-        Command::Unknown => Some(Said::Refused(Reason::Syntax)),
+        Command::Unknown => {
+            note_lines(process.rt);
+            Some(Said::Refused(Reason::Syntax))
+        }
     }
 }
 
 /// Obeys the lines of the console until one of them, or their end, ends the node, and writes what is said to each.
 /// Refused with 86 where a write fails.
-fn converse<R: Wait, P: Post, J: JournalFile, S: Start, C: BufRead, W: Write>(
+fn converse<R: Wait + Eprint, P: Post, J: JournalFile, S: Start, C: BufRead, W: Write>(
     process: &Process<'_, '_, R, P, J, S>,
     alloc: Global,
     console: &mut C,
@@ -81,7 +89,7 @@ fn converse<R: Wait, P: Post, J: JournalFile, S: Start, C: BufRead, W: Write>(
 }
 
 /// Obeys the lines of the console in silence, since the output failed.
-fn obey_silently<R: Wait, P: Post, J: JournalFile, S: Start, C: BufRead>(
+fn obey_silently<R: Wait + Eprint, P: Post, J: JournalFile, S: Start, C: BufRead>(
     process: &Process<'_, '_, R, P, J, S>,
     alloc: Global,
     console: &mut C,
@@ -121,7 +129,7 @@ fn put_greeting<W: Write>(greeting: &str, out: &mut Counted<W>) -> Result<(), Tr
 }
 
 /// Writes where the node hears, and then what is said at the console. Refused with 86 where a write fails.
-fn greet<R: Wait, P: Post, J: JournalFile, S: Start, C: BufRead, W: Write>(
+fn greet<R: Wait + Eprint, P: Post, J: JournalFile, S: Start, C: BufRead, W: Write>(
     process: &Process<'_, '_, R, P, J, S>,
     alloc: Global,
     greeting: &str,
@@ -137,7 +145,7 @@ fn greet<R: Wait, P: Post, J: JournalFile, S: Start, C: BufRead, W: Write>(
 
 /// Writes where the node hears once all threads run, and obeys the lines of the console. Where the output fails, the
 /// lines are obeyed in silence.
-pub(crate) fn hold_talk<R: Wait, P: Post, J: JournalFile, S: Start, C: BufRead, W: Write>(
+pub(crate) fn hold_talk<R: Wait + Eprint, P: Post, J: JournalFile, S: Start, C: BufRead, W: Write>(
     process: &Process<'_, '_, R, P, J, S>,
     alloc: Global,
     greeting: &str,
