@@ -21,9 +21,9 @@ grows_itself d e same k h = ap (λ (x : Deliveries). set.contains x k) (sym same
 pub grows_by : (d e : Deliveries) (q : ℕ × ℕ) → e ≡ set.insert d q → Grows d e
 grows_by d e q more k h = not_before d q k (ap (λ (x : Deliveries). set.contains x k) (sym more) ∙ h)
 
-module _ (s t : SimState) (goes : Goes s.cluster.world t.cluster.world) (nodes : t.nodes ≡ s.nodes) (grows : Grows s.delivered t.delivered) where
+module _ (s t : SimState) (goes : Goes s.cluster t.cluster) (nodes : t.nodes ≡ s.nodes) (grows : Grows s.delivered t.delivered) where
   -- what awaits a message that was sent before awaited it before
-  pub awaited_before : (m n : ℕ) → m < length s.cluster.world.sent → Awaits t m n → Awaits s m n
+  pub awaited_before : (m n : ℕ) → m < length s.cluster.past.sent → Awaits t m n → Awaits s m n
   awaited_before m n low a = record {
     sent = low;
     there = subst (λ (ns : List ℕ). Contains ns n) nodes a.there;
@@ -32,8 +32,8 @@ module _ (s t : SimState) (goes : Goes s.cluster.world t.cluster.world) (nodes :
   }
 
   -- no earlier message is awaited than before
-  pub still_from : (first : ℕ) → first ≤ length s.cluster.world.sent → AwaitsFrom first s → AwaitsFrom first t
-  still_from first low from m n a = elim (cases_lt m (length s.cluster.world.sent)) [
+  pub still_from : (first : ℕ) → first ≤ length s.cluster.past.sent → AwaitsFrom first s → AwaitsFrom first t
+  still_from first low from m n a = elim (cases_lt m (length s.cluster.past.sent)) [
     | inl less ↦ from m n (awaited_before m n less a)
     | inr more ↦ omega (arith, low, more)
   ]

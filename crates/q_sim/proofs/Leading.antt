@@ -1,9 +1,10 @@
 -- Each line of a script leads to its next cluster by accepted events, and a line that was refused stays told.
-use Rattle.std.proofs.Common.{◌≡◌, inl, inr, ℕ, zero, suc, true, List, [], ◌∷◌, ◌++◌, Option, Some, None, refl, sym, ap, ◌∙◌, subst, Result, Ok, Err, string_bytes}
+use Rattle.std.proofs.Common.{◌≡◌, inl, inr, ℕ, zero, suc, Bool, true, false, List, [], ◌∷◌, ◌++◌, Option, Some, None, refl, sym, ap, ◌∙◌, subst, Result, Ok, Err, string_bytes}
+use Rattle.std.specs.Prelude.{if◌then◌else◌}
 use Rattle.sc_members.specs.Members.{Config}
 use Rattle.sc_msg.specs.declared.version.Version.{Version}
-use Rattle.sc_world.specs.State.{WorldState}
 use Rattle.reasons.specs.declared.Reason.{Reason}
+use Rattle.reasons.specs.declared.Reason.TheVariants as reasons
 use Rattle.sc_world.proofs.Inverts.{no_refusal, same_answer}
 use Rattle.q_book.specs.State.{BookState}
 use Rattle.q_script.specs.declared.line.ScriptLine.{ScriptLine}
@@ -13,7 +14,7 @@ use Rattle.q_history.specs.declared.event.ClusterEvent.TheVariants as event
 use Rattle.q_history.specs.declared.event.ClusterStep.{ClusterStep}
 use Rattle.q_history.specs.State.{ClusterState}
 use Rattle.q_history.specs.Calls.{Reaches, Takes}
-use Rattle.q_history.specs.Clusters.{founded, start}
+use Rattle.q_history.specs.Clusters.{start}
 use Rattle.q_cluster.specs.Acts.{book_at}
 use Rattle.q_sim.specs.declared.refusal.RefusedLine.{RefusedLine}
 use Rattle.q_sim.specs.declared.refusal.Refusal.{Refusal}
@@ -107,6 +108,7 @@ plays_led writes [] s before text t after p = led_itself s t p.0
 plays_led writes (l ∷ ls) s before text t after p = led_on s p.0 t (led_on s (at_next_line s) p.0 (led_next s) (does_led writes l (at_next_line s) before p.2 p.0 p.1 p.4)) (plays_led writes ls p.0 p.1 p.3 t after p.5)
 
 -- founders that are not refused are those of the first cluster
-pub founded_is : (version : Version) (config : Config) (ids : List ℕ) (r : Result WorldState Reason) (c : ClusterState) → founded version config ids r ≡ Ok c → start version config ids ≡ c
-founded_is version config ids (Ok w) c h = same_answer _ c h
-founded_is version config ids (Err e) c h = absurd (no_refusal _ c h)
+pub founded_is : (version : Version) (config : Config) (ids : List ℕ) (are : Bool) (c : ClusterState) → (if are then Ok (start version config ids) else Err reasons.BadFounders) ≡ Ok c
+    → start version config ids ≡ c
+founded_is version config ids true c h = same_answer _ c h
+founded_is version config ids false c h = absurd (no_refusal _ c h)

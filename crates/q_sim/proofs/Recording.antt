@@ -18,7 +18,6 @@ use Rattle.q_book.proofs.Parts.{desk-parts}
 use Rattle.q_history.specs.declared.event.ClusterStep.{ClusterStep}
 use Rattle.q_history.specs.declared.event.EventAnswer.TheVariants as told
 use Rattle.q_history.specs.State.{ClusterState}
-use Rattle.q_history.specs.Heads.{book_of}
 use Rattle.q_history.specs.Clusters.{lift, posts, posted, finished}
 use Rattle.q_history.proofs.Called.{at-ok}
 
@@ -29,17 +28,12 @@ pub record IsRecorded (stepped : ClusterStep) (c : ClusterState) : Type 0 where
   pub ran : Ran
   pub tells : stepped.told ≡ told.Finished (record { node = node; query = query; ran = ran })
   pub silent : stepped.sent.count ≡ 0
-  pub desk : DeskState
+  pub book : BookState
   pub asked : Query
   pub view : ViewMap
-  pub at : fin.get c.desks node ≡ Some desk
-  pub number : slice_get desk.queries query ≡ Some asked
+  pub at : fin.get c.books node ≡ Some book
+  pub number : slice_get book.desk.queries query ≡ Some asked
   pub answered : asked.phase ≡ Answered view ran
-
-lift-ok : {A : Type 0} (next : A → BookState → ClusterStep × ClusterState) (r : Result (A × BookState) Reason) (y : ClusterStep × ClusterState) → lift next r ≡ Ok y
-    → (a : A × BookState) × (r ≡ Ok a) × (next a.0 a.1 ≡ y)
-lift-ok next (Ok a) y h = (a, refl, same_answer _ y h)
-lift-ok next (Err e) y h = absurd (no_refusal _ y h)
 
 written : {X : Type 0} (xs : List X) (k : ℕ) (old new : X) → slice_get xs k ≡ Some old → slice_get (slice_set xs k new) k ≡ Some new
 written [] k old new h = absurd (cc)
@@ -53,25 +47,29 @@ now_answered queries k old view ran at =
     ap (λ (o : Option Query). slice_get (desks.in_phase queries k (Answered view ran) o) k) at
     ∙ written queries k old (record old { phase = Answered view ran }) at
 
-pub finish_recorded : (c : ClusterState) (ran : Ran) (o : Option Job) (y : ClusterStep × ClusterState) → finished c ran o ≡ Ok y → IsRecorded y.0 y.1
-finish_recorded c ran None y h = absurd (no_refusal _ y h)
-finish_recorded c ran (Some j) y h =
-    let k = at-ok c j.node (posted c j ran) y h in
-    let a = lift-ok (posts c j ran) (book.posted (book_of c j.node k.node k.desk) j ran) y k.gives in
-    let b = desk-parts (book_of c j.node k.node k.desk) (desks.posted k.desk j.node j ran) a.0 a.1 in
-    let p = (posted_is k.desk j ran b.0 j.node b.1).1 in
-    let is : with_answer k.desk j.query p.view ran ≡ a.0.1.desk = p.is ∙ ap (λ (z : Unit {0} × BookState). z.1.desk) b.2 in
-    subst (λ (z : ClusterStep × ClusterState). IsRecorded z.0 z.1) a.2
+-- its node's book recorded it
+posted_recorded : (c : ClusterState) (ran : Ran) (j : Job) (x : BookState) (r : Result (Unit {0} × BookState) Reason) (y : ClusterStep × ClusterState) → book.posted x j ran ≡ r
+    → lift (posts c j ran) r ≡ Ok y → IsRecorded y.0 y.1
+posted_recorded c ran j x (Err e) y is h = absurd (no_refusal _ y h)
+posted_recorded c ran j x (Ok a) y is h =
+    let b = desk-parts x (desks.posted x.desk x.id j ran) a is in
+    let p = (posted_is x.desk j ran b.0 x.id b.1).1 in
+    let same : with_answer x.desk j.query p.view ran ≡ a.1.desk = p.is ∙ ap (λ (z : Unit {0} × BookState). z.1.desk) b.2 in
+    subst (λ (z : ClusterStep × ClusterState). IsRecorded z.0 z.1) (same_answer _ y h)
     (record {
       node = j.node;
       query = j.query;
       ran = ran;
       tells = refl;
       silent = refl;
-      desk = a.0.1.desk;
+      book = a.1;
       asked = record p.query { phase = Answered p.view ran };
       view = p.view;
-      at = get-insert_same c.desks j.node a.0.1.desk;
-      number = ap (λ (d : DeskState). slice_get d.queries j.query) (sym is) ∙ now_answered k.desk.queries j.query p.query p.view ran p.at;
+      at = get-insert_same c.books j.node a.1;
+      number = ap (λ (d : DeskState). slice_get d.queries j.query) (sym same) ∙ now_answered x.desk.queries j.query p.query p.view ran p.at;
       answered = refl;
     })
+
+pub finish_recorded : (c : ClusterState) (ran : Ran) (o : Option Job) (y : ClusterStep × ClusterState) → finished c ran o ≡ Ok y → IsRecorded y.0 y.1
+finish_recorded c ran None y h = absurd (no_refusal _ y h)
+finish_recorded c ran (Some j) y h = let a = at-ok c j.node (posted c j ran) y h in posted_recorded c ran j a.book (book.posted a.book j ran) y refl a.gives

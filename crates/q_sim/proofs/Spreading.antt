@@ -5,8 +5,8 @@ use Rattle.std.proofs.lemmas.Bool.{cases_lt}
 use Rattle.std.proofs.lemmas.List.{get_or_default}
 use Rattle.std.specs.Option.{IsSome}
 use Rattle.std.specs.Bool.{IsFalse}
-use Rattle.sc_world.specs.Worlds.{live_at}
 use Rattle.std.specs.FinSet as set
+use Rattle.q_history.specs.Clusters.{live_at}
 use Rattle.q_history.specs.declared.event.ClusterEvent.TheVariants as event
 use Rattle.q_sim.specs.Delivered.{Deliveries}
 use Rattle.q_sim.specs.Refusal.{refusal_line}
@@ -50,25 +50,25 @@ passed_over s message place none h m n a = past (h m n a)
       | inr same ↦ absurd (none (subst (λ j. Awaits s j (slice_index s.nodes place)) (sym is.0) (subst (λ j. Awaits s m j) (sym is.1.3 ∙ ap (λ i. slice_index s.nodes i) (sym same)) a)))
     ]
 
-tries_goes : (s t : SimState) (message node : ℕ) → Tries s message node t → Goes s.cluster.world t.cluster.world
+tries_goes : (s t : SimState) (message node : ℕ) → Tries s message node t → Goes s.cluster t.cluster
 tries_goes s t message node tries = takes_goes s.cluster t.cluster (event.Deliver message node) tries.result (λ id is. absurd (cc)) tries.takes
 
-module _ (s t : SimState) (message node : ℕ) (sent : message < length s.cluster.world.sent) (tries : Tries s message node t) where
+module _ (s t : SimState) (message node : ℕ) (sent : message < length s.cluster.past.sent) (tries : Tries s message node t) where
   -- what was tried is not awaited again
   not_again : Awaits t message node → ⊥
   not_again a = let e : true ≡ false = sym (in_itself s.delivered (message, node)) ∙ ap (λ (d : Deliveries). set.contains d (message, node)) (sym tries.delivered) ∙ a.left in absurd (cc)
 
-  before : (m n : ℕ) → m < length s.cluster.world.sent → Awaits t m n → Awaits s m n
+  before : (m n : ℕ) → m < length s.cluster.past.sent → Awaits t m n → Awaits s m n
   before = awaited_before s t (tries_goes s t message node tries) tries.nodes (grows_by s.delivered t.delivered (message, node) tries.delivered)
 
   still_ahead : (place : ℕ) → Ahead s message place → Ahead t message place
-  still_ahead place h m n a = elim (cases_lt m (length s.cluster.world.sent)) [
+  still_ahead place h m n a = elim (cases_lt m (length s.cluster.past.sent)) [
     | inl low ↦ subst (λ (ns : List ℕ). (message < m) ⊎ ((message ≡ m) × ((k : ℕ) × (place ≤ k) × (k < length ns) × (slice_index ns k ≡ n)))) (sym tries.nodes) (h m n (before m n low a))
     | inr high ↦ inl (omega (arith, high, sent))
   ]
 
 -- a place that was tried is passed
-tried_over : (s t : SimState) (message place : ℕ) → message < length s.cluster.world.sent → Tries s message (slice_index s.nodes place) t → Ahead s message place → Ahead t message (place + 1)
+tried_over : (s t : SimState) (message place : ℕ) → message < length s.cluster.past.sent → Tries s message (slice_index s.nodes place) t → Ahead s message place → Ahead t message (place + 1)
 tried_over s t message place sent tries h =
     passed_over t message place
     (λ a. not_again s t message (slice_index s.nodes place) sent tries (subst (λ (ns : List ℕ). Awaits t message (slice_index ns place)) tries.nodes a))
@@ -91,7 +91,7 @@ all_made zero t none = (refl, refl)
 all_made (suc n) t none = inl (none, refl, refl)
 
 -- no message is left
-pub nothing_awaited : (limit : ℕ) (s : SimState) (left : ℕ) (t : SimState) (message : ℕ) → IsOnward limit s left t → AwaitsFrom message t → length t.cluster.world.sent ≤ message → DeliversAll limit s [] t
+pub nothing_awaited : (limit : ℕ) (s : SimState) (left : ℕ) (t : SimState) (message : ℕ) → IsOnward limit s left t → AwaitsFrom message t → length t.cluster.past.sent ≤ message → DeliversAll limit s [] t
 nothing_awaited limit s left t message o from over = o.rest [] t (all_made left t (λ m n a. let low = from m n a in let high = a.sent in absurd (omega (arith, low, high, over))))
 
 -- ---- one place of the nodes
@@ -101,12 +101,12 @@ module _ (t : SimState) (message place node : ℕ) (within : place < length t.no
   there = at ∙ get_or_default t.nodes place node 0 within
 
   -- the node waits for nothing
-  pub skipped : (IsSome (live_at t.cluster.world node) × IsFalse (set.contains t.delivered (message, node)) → ⊥) → Ahead t message place → Ahead t message (place + 1)
+  pub skipped : (IsSome (live_at t.cluster node) × IsFalse (set.contains t.delivered (message, node)) → ⊥) → Ahead t message place → Ahead t message (place + 1)
   skipped none h = passed_over t message place (λ a. let b : Awaits t message node = subst (λ n. Awaits t message n) (sym there) a in none (b.live, b.left)) h
 
-  module _ (limit : ℕ) (s : SimState) (left : ℕ) (o : IsOnward limit s left t) (first : message < length s.cluster.world.sent) (rises : Rises t.nodes)
-      (free : IsSome (live_at t.cluster.world node) × IsFalse (set.contains t.delivered (message, node))) (h : Ahead t message place) where
-    sent : message < length t.cluster.world.sent
+  module _ (limit : ℕ) (s : SimState) (left : ℕ) (o : IsOnward limit s left t) (first : message < length s.cluster.past.sent) (rises : Rises t.nodes)
+      (free : IsSome (live_at t.cluster node) × IsFalse (set.contains t.delivered (message, node))) (h : Ahead t message place) where
+    sent : message < length t.cluster.past.sent
     sent = let more = o.sent in omega (arith, first, more)
 
     next : IsNext t message node

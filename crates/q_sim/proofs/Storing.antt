@@ -1,7 +1,6 @@
 -- Stores of more bytes than a value has.
 use Rattle.std.proofs.Common.{◌≡◌, ◌↔◌, ◌&&◌, ℕ, ◌<◌, Bool, true, false, true≢false, List, length, ◌++◌, Option, Some, None, is_some, refl, sym, ap, ◌∙◌, subst, arith}
 use Rattle.std.specs.Prelude.{nat_le, if◌then◌else◌, Result, Ok, Err, OnOk, IsErrOf}
-use Rattle.std.specs.FinMap as fin
 use Rattle.std.specs.FinSet as set
 use Rattle.std.proofs.lemmas.Bool.{lt-leb}
 use Rattle.std.proofs.Math.Bool.{and-false}
@@ -11,18 +10,14 @@ use Rattle.sc_view.specs.declared.value.ValueFault.TheVariants as value_fault
 use Rattle.sc_msg.specs.Values.{value_lengths}
 use Rattle.sc_msg.specs.declared.version.Version.{Version}
 use Rattle.sc_msg.specs.declared.version.Version.TheVariants.{First, Second}
-use Rattle.sc_node.specs.State.{NodeState}
 use Rattle.reasons.specs.declared.Reason.TheVariants as reasons
-use Rattle.sc_world.specs.Worlds.{live, live_at}
-use Rattle.q_desk.specs.State.{DeskState}
 use Rattle.q_book.specs.State.{BookState}
 use Rattle.q_book.specs.Books as book
 use Rattle.reasons.specs.declared.Reason.{Reason}
-use Rattle.q_history.specs.Clusters.{by_book, lift, stores, stored}
-use Rattle.q_history.specs.Heads.{book_of}
+use Rattle.q_history.specs.Clusters.{Said, live, live_at, by_book, lift, stores, stored}
 use Rattle.q_history.specs.State.{ClusterState}
 use Rattle.q_history.specs.declared.event.ClusterEvent.TheVariants as event
-use Rattle.q_cluster.specs.Acts.{booked, book_at}
+use Rattle.q_cluster.specs.Acts.{book_at}
 use Rattle.q_sim.specs.declared.refusal.Refusal.TheVariants as refusal
 use Rattle.q_sim.specs.Refusal.{refusal_line}
 use Rattle.q_sim.specs.Simulates.{SimState, refusing, Acts}
@@ -49,55 +44,42 @@ module _ (value : List ℕ) (over : most_bytes < length value) where
 
 -- ---- a cluster
 
-same_book : (a b : BookState) → Some a ≡ Some b → a ≡ b
-same_book a b h = cc
+no_live : (crashed : Bool) → is_some (live crashed None) ≡ false
+no_live true = refl
+no_live false = refl
 
-not_gone : (n : NodeState) (gone : Bool) → is_some (if gone then None else Some n) ≡ true → gone ≡ false
-not_gone n true h = absurd (true≢false (sym h))
-not_gone n false h = refl
+-- a book that is there
+is_there : (crashed : Bool) (b : BookState) → is_some (live crashed (Some b)) ≡ true → (b.node.gone ≡ false) × (live crashed (Some b) ≡ Some b)
+is_there true b h = absurd (true≢false (sym h))
+is_there false b h = by_test b.node.gone refl h
+  where
+    by_test : (gone : Bool) → b.node.gone ≡ gone → is_some (if gone then None else Some b) ≡ true → (b.node.gone ≡ false) × ((if b.node.gone then None else Some b) ≡ Some b)
+    by_test true is l = absurd (true≢false (sym l))
+    by_test false is l = (is, ap (λ (g : Bool). let o : Option BookState = if g then None else Some b in o) is)
 
-module _ (c : ClusterState) (id : ℕ) (value : List ℕ) where
-  by_parts : (crashed : Bool) (node : Option NodeState) (desk : Option DeskState) (b : BookState) (e : Reason) → Some b ≡ booked c id node desk → is_some (live crashed node) ≡ true
-      → (b.node.gone ≡ false → book.stored b value ≡ Err e) → by_book c id (live crashed node) desk (stored c id value) ≡ Err e
-  by_parts crashed None desk b e is lives says = absurd cc
-  by_parts crashed (Some n) None b e is lives says = absurd cc
-  by_parts true (Some n) (Some d) b e is lives says = absurd (true≢false (sym lives))
-  by_parts false (Some n) (Some d) b e is lives says =
-      let here : n.gone ≡ false = not_gone n n.gone lives in
-      let same : b ≡ book_of c id n d = same_book b (book_of c id n d) is in
-      ap (λ (gone : Bool). by_book c id (if gone then None else Some n) (Some d) (stored c id value)) here
-      ∙ ap (lift (stores c id value)) (subst (λ (x : BookState). book.stored x value ≡ Err e) same (says (ap (λ (x : BookState). x.node.gone) same ∙ here)))
-
-  no_parts : (crashed : Bool) (node : Option NodeState) (desk : Option DeskState) → None ≡ booked c id node desk
-      → by_book c id (live crashed node) desk (stored c id value) ≡ Err reasons.NoSuchNode
-  no_parts true _ desk is = refl
-  no_parts false None desk is = refl
-  no_parts false (Some n) (Some d) is = absurd cc
-  no_parts false (Some n) None is = by_test n.gone
-    where
-      by_test : (gone : Bool) → by_book c id (if gone then None else Some n) None (stored c id value) ≡ Err reasons.NoSuchNode
-      by_test true = refl
-      by_test false = refl
-
-  not_there : (node : Option NodeState) (desk : Option DeskState) → is_some node ≡ false → by_book c id node desk (stored c id value) ≡ Err reasons.NoSuchNode
-  not_there None desk is = refl
-  not_there (Some n) desk is = absurd (true≢false is)
+not_there : (o : Option BookState) (f : BookState → Said) → is_some o ≡ false → by_book o f ≡ Err reasons.NoSuchNode
+not_there None f is = refl
+not_there (Some b) f is = absurd (true≢false is)
 
 module _ (c : ClusterState) (id : ℕ) where
+  pub at_no_node : is_some (live_at c id) ≡ false → RefusesLonger c id reasons.NoSuchNode
+  at_no_node is value ran over = not_there (live_at c id) (stored c id value) is
+
   pub at_no_book : None ≡ book_at c id → RefusesLonger c id reasons.NoSuchNode
-  at_no_book is value ran over = no_parts c id value (set.contains c.world.crashed id) (fin.get c.world.nodes id) (fin.get c.desks id) is
+  at_no_book is = let crashed = set.contains c.past.crashed id in at_no_node (ap (λ (o : Option BookState). is_some (live crashed o)) (sym is) ∙ no_live crashed)
 
-  pub at_no_node : is_some (live_at c.world id) ≡ false → RefusesLonger c id reasons.NoSuchNode
-  at_no_node is value ran over = not_there c id value (live_at c.world id) (fin.get c.desks id) is
+  module _ (b : BookState) (is : Some b ≡ book_at c id) (lives : is_some (live_at c id) ≡ true) where
+    by_its_book : (value : List ℕ) (e : Reason) → (b.node.gone ≡ false → book.stored b value ≡ Err e) → by_book (live_at c id) (stored c id value) ≡ Err e
+    by_its_book value e says =
+        let crashed = set.contains c.past.crashed id in
+        let there = is_there crashed b (ap (λ (o : Option BookState). is_some (live crashed o)) is ∙ lives) in
+        ap (λ (o : Option BookState). by_book o (stored c id value)) (ap (live crashed) (sym is) ∙ there.1) ∙ ap (lift (stores c id value)) (says there.0)
 
-  module _ (b : BookState) (is : Some b ≡ book_at c id) (lives : is_some (live_at c.world id) ≡ true) where
     pub before_it_joined : b.node.joined ≡ false → RefusesLonger c id reasons.NotJoined
-    before_it_joined out value ran over =
-        by_parts c id value (set.contains c.world.crashed id) (fin.get c.world.nodes id) (fin.get c.desks id) b reasons.NotJoined is lives (λ here. not_joined value over b here out)
+    before_it_joined out value ran over = by_its_book value reasons.NotJoined (λ here. not_joined value over b here out)
 
     pub at_all : b.node.joined ≡ true → RefusesLonger c id reasons.BadValue
-    at_all in_it value ran over =
-        by_parts c id value (set.contains c.world.crashed id) (fin.get c.world.nodes id) (fin.get c.desks id) b reasons.BadValue is lives (λ here. too_long value over b here in_it)
+    at_all in_it value ran over = by_its_book value reasons.BadValue (λ here. too_long value over b here in_it)
 
 -- what is printed of one
 pub longer_refused : {X E : Type 0} (r : Result X E) (s t : SimState) (node : ℕ) (value : List ℕ) (f : Reason) (before after : List ℕ) → RefusesLonger s.cluster node f → most_bytes < length value

@@ -3,7 +3,7 @@ use Rattle.std.proofs.Common.{◌≡◌, inl, inr, ℕ, Bool, true, List, [], �
 use Rattle.sc_members.specs.Members.{Config}
 use Rattle.sc_msg.specs.declared.version.Version.{Version}
 use Rattle.sc_msg.specs.declared.version.Version.TheVariants.{Second}
-use Rattle.sc_world.specs.Worlds as world
+use Rattle.sc_node.specs.Nodes.{are_founders}
 use Rattle.q_script.specs.declared.line.ScriptLine.{ScriptLine}
 use Rattle.q_script.specs.declared.line.ScriptLine.TheVariants.{Run}
 use Rattle.q_script.specs.declared.script.Script.{Script}
@@ -27,20 +27,20 @@ use Rattle.q_sim.proofs.Recording.{IsRecorded, finish_recorded}
 -- what is printed of it is its line alone
 only_line : (c : ClusterState) (stepped : ClusterStep) (t : EventAnswer) → stepped.told ≡ t → stepped.sent.count ≡ 0 → printed c (Ok stepped) ≡ told_lines t
 only_line c stepped t tells silent =
-    ap (λ n. told_lines stepped.told ++ message_lines c.world.sent stepped.sent.first n) silent
+    ap (λ n. told_lines stepped.told ++ message_lines c.past.sent stepped.sent.first n) silent
     ∙ append-nil (told_lines stepped.told)
     ∙ ap told_lines tells
 
 module _ (last : ClusterState) (answers : AnswersAreTrue last) where
   recorded_true : (c : ClusterState) (stepped : ClusterStep) (text : List ℕ) → IsRecorded stepped c → AnswersStay c last → text ≡ printed c (Ok stepped) → IsTrueAnswer last text
   recorded_true c stepped text r stays is =
-      let kept = stays r.node r.query r.desk r.asked r.view r.ran r.at r.number r.answered in
+      let kept = stays r.node r.query r.book r.asked r.view r.ran r.at r.number r.answered in
       record {
         node = r.node;
         query = r.query;
         ran = r.ran;
         line = is ∙ only_line c stepped (told.Finished (record { node = r.node; query = r.query; ran = r.ran })) r.tells r.silent;
-        desk = kept.0;
+        book = kept.0;
         asked = r.asked;
         view = r.view;
         at = kept.1;
@@ -84,7 +84,7 @@ printed_true stay writes script before text unwritten refused after s =
     let config = config_of script.founding in
     let ids = founders_of script.founding in
     let first = start Second config ids in
-    let begun = founded_is Second config ids (world.started config ids) s.first.cluster s.begins.started in
+    let begun = founded_is Second config ids (are_founders ids) s.first.cluster s.begins.started in
     subst (λ (b : Bool). AreTrueLines s.last.cluster b script.lines.items text) (sym s.shown)
     (lines_true first s.last (λ c h k. stay Second config ids h.0 k.0 c s.last.cluster h.1 k.1) s.answers writes script.lines.items s.first before text after
     (subst (Leads first) begun (leads_itself first)) s.plays)

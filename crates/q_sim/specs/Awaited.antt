@@ -19,7 +19,7 @@ Attempts s message node false t = t ≡ s
 -- they are deliveries within the limit.
 pub record IsOnward (limit : ℕ) (s : SimState) (left : ℕ) (t : SimState) : Type 0 where
   pub nodes : t.nodes ≡ s.nodes
-  pub sent : length s.cluster.world.sent ≤ length t.cluster.world.sent
+  pub sent : length s.cluster.past.sent ≤ length t.cluster.past.sent
   pub rest : (text : List ℕ) (u : SimState) → DeliversAll left t text u → DeliversAll limit s text u
 
 -- The message was delivered to each node that awaited it, or it is told why not. Where memory was refused, that is

@@ -59,7 +59,7 @@ message_lines sent first (suc count) = message_line sent first ++ message_lines 
 
 -- what is printed of an event that led to this cluster: what it told and its messages, or its refusal
 abbrev pub printed : ClusterState → Result ClusterStep Reason → List ℕ
-printed c (Ok stepped) = told_lines stepped.told ++ message_lines c.world.sent stepped.sent.first stepped.sent.count
+printed c (Ok stepped) = told_lines stepped.told ++ message_lines c.past.sent stepped.sent.first stepped.sent.count
 printed c (Err f) = refusal_line (Cluster f)
 
 -- a journal of so many events was written

@@ -6,7 +6,6 @@ use Rattle.std.specs.FinSet as set
 use Rattle.bq_check.specs.Certificate.{Certificate}
 use Rattle.sc_members.specs.Members.{Config, IsFraction}
 use Rattle.sc_msg.specs.declared.version.Version.TheVariants.{Second}
-use Rattle.sc_world.specs.Worlds.{live_at}
 use Rattle.reasons.specs.declared.Reason.TheVariants as reasons
 use Rattle.q_book.specs.State.{BookState}
 use Rattle.q_script.specs.declared.founding.Founding.{Founding}
@@ -19,7 +18,7 @@ use Rattle.q_history.specs.declared.event.ClusterStep.{ClusterStep}
 use Rattle.reasons.specs.declared.Reason.{Reason}
 use Rattle.reasons.specs.declared.Reason.TheVariants.{OutOfMemory as memory}
 use Rattle.q_history.specs.State.{ClusterState}
-use Rattle.q_history.specs.Clusters.{started}
+use Rattle.q_history.specs.Clusters.{live_at, started}
 use Rattle.q_history.specs.Calls.{Takes}
 use Rattle.q_history.specs.Headline.{AnswersAreTrue}
 use Rattle.q_history.specs.Books.{BooksAreReplays}
@@ -109,9 +108,9 @@ Registers node code s text t =
 
 -- the message was sent, the node is live, and this delivery was neither made nor tried
 pub record Awaits (s : SimState) (message node : ℕ) : Type 0 where
-  pub sent : message < length s.cluster.world.sent
+  pub sent : message < length s.cluster.past.sent
   pub there : Contains s.nodes node
-  pub live : IsSome (live_at s.cluster.world node)
+  pub live : IsSome (live_at s.cluster node)
   pub left : IsFalse (set.contains s.delivered (message, node))
 
 -- of all such deliveries that of the least message, and of these that to the least node
@@ -153,7 +152,7 @@ Spreads limit = DeliversAll limit
 
 -- each pair of a store and a later collect is told, and nothing is done
 abbrev pub Tells : SimState → List ℕ → SimState → Type 0
-Tells s text t = TellsPairs (pairs_of s.cluster.world.ops) text × (t ≡ s)
+Tells s text t = TellsPairs (pairs_of s.cluster.past.ops) text × (t ≡ s)
 
 -- ---- journals
 
@@ -259,8 +258,8 @@ IsSimulationFault f refusal.OutOfMemory = Unit {0}
 IsSimulationFault f r = ⊥
 
 -- The script's lines in turn make this cluster of its founders, over files that stand thus before and after, and print
--- this text; and each answer that the cluster recorded is right, and each node with its desk is the replay of its
--- journal. It is told whether a journal was not written, and whether a line was refused.
+-- this text; and each answer that the cluster recorded is right, and each node's book is the replay of its journal. It
+-- is told whether a journal was not written, and whether a line was refused.
 pub record Simulates {F : Type 0} (writes : Writing F) (script : Script) (before : F) (text : List ℕ) (unwritten refused : Bool) (after : F) : Type 0 where
   pub first : SimState
   pub last : SimState

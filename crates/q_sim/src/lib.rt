@@ -1,10 +1,10 @@
 //! Scripts, run over a cluster in memory, and the lines that they print.
 //!
 //! [`simulate`] takes each line of a script in turn. A line is one event of a cluster, whose type keeps that every
-//! recorded answer is right and that each node with its desk is the replay of its journal; or, `all`, deliveries of
-//! what was not delivered. The text that `simulate` answers is exactly the lines of what the events tell. So each
-//! `answer` line is an answer that the last cluster has recorded, and that is true: [`laws`] says it of all scripts.
-//! `simulate` tells beside the text whether a line was refused, and whether a journal was not written.
+//! recorded answer is right and that each node's book is the replay of its journal; or, `all`, deliveries of what was
+//! not delivered. The text that `simulate` answers is exactly the lines of what the events tell. So each `answer` line
+//! is an answer that the last cluster has recorded, and that is true: [`laws`] says it of all scripts. `simulate` tells
+//! beside the text whether a line was refused, and whether a journal was not written.
 //!
 //! - [`Refusal`] is each reason for which an event or a command is refused, with the line that is printed of it.
 //! - [`certified_code`] and [`certified_text`] make programs with their certificates, from their bytes.

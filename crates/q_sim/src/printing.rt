@@ -42,7 +42,7 @@ pub fn print_told(lines: &mut String, told: &EventAnswer) -> Result<(), AllocErr
 
 /// Prints the number of a message and its kind, if it was sent.
 fn print_message(lines: &mut String, cluster: &Cluster, number: usize) -> Result<(), AllocError>
-    ensures { OnOk result (string_bytes lines.new ≡ string_bytes lines.old ++ message_line cluster.now.world.sent number) }
+    ensures { OnOk result (string_bytes lines.new ≡ string_bytes lines.old ++ message_line cluster.now.past.sent number) }
 {
     match cluster.message(number) {
         Some(message) => {
@@ -55,7 +55,7 @@ fn print_message(lines: &mut String, cluster: &Cluster, number: usize) -> Result
 
 /// Prints the messages that an accepted event sent, in the order of their numbers.
 pub fn print_messages(lines: &mut String, cluster: &Cluster, sent: Sent) -> Result<(), AllocError>
-    ensures { OnOk result (string_bytes lines.new ≡ string_bytes lines.old ++ message_lines cluster.now.world.sent sent.first sent.count) }
+    ensures { OnOk result (string_bytes lines.new ≡ string_bytes lines.old ++ message_lines cluster.now.past.sent sent.first sent.count) }
 {
     let there = cluster.sent().saturating_sub(sent.first);
     for offset in 0..sent.count.min(there) {

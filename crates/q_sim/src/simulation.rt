@@ -39,7 +39,7 @@ struct Simulation {
     faults: Vec<RefusedLine>,
     lines: String,
     ghost rising: { Rises nodes.items },
-    ghost sent: { awaited_from ≤ length cluster.world.sent },
+    ghost sent: { awaited_from ≤ length cluster.past.sent },
     ghost passed: { AwaitsFrom awaited_from (record { cluster = cluster; nodes = nodes.items; delivered = delivered; unwritten = unwritten; line = line; faults = faults.items }) },
 }
 
@@ -136,7 +136,7 @@ fn put_id(ids: &mut Vec<u64>, id: u64) -> Result<(), AllocError>
 impl Simulation {
     ghost use Rattle.std.specs.Option.{IsSome};
     ghost use Rattle.std.specs.FinSet as set;
-    ghost use Rattle.sc_world.specs.Worlds.{live_at};
+    ghost use Rattle.q_history.specs.Clusters.{live_at};
     ghost use Rattle.q_history.specs.Calls.{Takes};
     ghost use Rattle.q_sim.specs.Simulates.{Acts, Begins, Does, Registers, Saves, Spreads, Tells, at_next_line, joined, noted, or_refused, refusing};
     ghost use Rattle.q_sim.specs.Awaited.{Attempts, IsSpread};
@@ -315,7 +315,7 @@ impl Simulation {
     /// Delivers a message to each live node that it was not delivered to, the least node first, so many times at most.
     /// A refused delivery counts as one, but for want of memory.
     fn spread(&mut self, message: usize, limit: u64) -> Result<Spread, AllocError>
-        requires sent { message < length self.old.cluster.world.sent }
+        requires sent { message < length self.old.cluster.past.sent }
         requires passed { AwaitsFrom message (seen self.old) }
         ensures spread { IfOk result (λ how. IsSpread message limit (seen self.old) how (seen self.new)) }
         ensures silent { OnOk result (self.new.lines ≡ self.old.lines) }
@@ -352,7 +352,7 @@ impl Simulation {
 
     /// Whether the node is live and the message was not delivered to it.
     fn awaits(&self, message: usize, node: u64) -> bool
-        ensures { IsTrue result ↔ (IsSome (live_at self.now.cluster.world node) × IsFalse (set.contains self.now.delivered (message, node))) }
+        ensures { IsTrue result ↔ (IsSome (live_at self.now.cluster node) × IsFalse (set.contains self.now.delivered (message, node))) }
     {
         self.cluster.is_live(node) && !self.delivered.contains(message, node)
     }

@@ -6,7 +6,7 @@ use Rattle.q_sim.proofs.printing.print_messages.Goals as goal
 
 pub loop-offset-preserved : goal.loop-offset-preserved
 loop-offset-preserved c =
-    let sent = c.args.cluster.now.world.sent in
+    let sent = c.args.cluster.now.past.sent in
     let first = c.args.sent.first in
     let offset = c.loop-offset.offset in
     c.in_ok-print_message.ensures
@@ -16,7 +16,7 @@ loop-offset-preserved c =
 
 pub returns : goal.returns
 returns c =
-    let sent = c.args.cluster.now.world.sent in
+    let sent = c.args.cluster.now.past.sent in
     let first = c.args.sent.first in
     let there : c.saturating_sub-there.result ≡ length sent - first = search rules in
     let all : c.loop-offset.offset ≡ min c.args.sent.count c.saturating_sub-there.result = search rules in

@@ -12,8 +12,8 @@ invariant_of-self-2 c =
     let cluster = c.step-answer.new.self in
     let delivered = c.insert.new.self in
     let goes = takes_goes s.cluster cluster _ c.step-answer.result (λ id is. absurd (cc)) c.step-answer.ensures.takes in
-    let low : s.awaited_from ≤ length s.cluster.world.sent = s.sent in
-    let more : length s.cluster.world.sent ≤ length cluster.world.sent = goes.sent in
+    let low : s.awaited_from ≤ length s.cluster.past.sent = s.sent in
+    let more : length s.cluster.past.sent ≤ length cluster.past.sent = goes.sent in
     let after : SimState = record { cluster = cluster; nodes = s.nodes.items; delivered = delivered; unwritten = s.unwritten; line = s.line; faults = s.faults.items } in
     record {
       rising = s.rising;

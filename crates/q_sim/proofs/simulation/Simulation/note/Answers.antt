@@ -14,5 +14,5 @@ invariant_of-self c =
     record {
       rising = s.rising;
       sent = s.sent;
-      passed = still_from (seen s) after (goes_itself s.cluster.world) refl (grows_either c.insert.result s.delivered delivered (c.in-Ok-Deliver.message, c.in-Ok-Deliver.node) c.insert.ensures.ok c.insert.ensures.err) s.awaited_from s.sent s.passed;
+      passed = still_from (seen s) after (goes_itself s.cluster) refl (grows_either c.insert.result s.delivered delivered (c.in-Ok-Deliver.message, c.in-Ok-Deliver.node) c.insert.ensures.ok c.insert.ensures.err) s.awaited_from s.sent s.passed;
     }

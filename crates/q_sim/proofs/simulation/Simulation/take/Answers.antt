@@ -11,8 +11,8 @@ invariant_of-self-in_default c =
     let s = c.args.self.now in
     let cluster = c.step.new.self in
     let goes = takes_goes s.cluster cluster c.args.event.now (Ok c.in_ok-stepped.stepped) c.in_default.not-Enter c.in_ok-stepped.ensures.takes in
-    let low : s.awaited_from ≤ length s.cluster.world.sent = s.sent in
-    let more : length s.cluster.world.sent ≤ length cluster.world.sent = goes.sent in
+    let low : s.awaited_from ≤ length s.cluster.past.sent = s.sent in
+    let more : length s.cluster.past.sent ≤ length cluster.past.sent = goes.sent in
     let after : SimState = record { cluster = cluster; nodes = s.nodes.items; delivered = s.delivered; unwritten = s.unwritten; line = s.line; faults = s.faults.items } in
     record {
       rising = s.rising;
