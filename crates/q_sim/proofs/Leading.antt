@@ -15,6 +15,7 @@ use Rattle.q_history.specs.declared.event.ClusterStep.{ClusterStep}
 use Rattle.q_history.specs.State.{ClusterState}
 use Rattle.q_history.specs.Calls.{Reaches, Takes}
 use Rattle.q_history.specs.Clusters.{start}
+use Rattle.q_history.proofs.Histories.{reaches_on}
 use Rattle.q_cluster.specs.Acts.{book_at}
 use Rattle.q_sim.specs.declared.refusal.RefusedLine.{RefusedLine}
 use Rattle.q_sim.specs.declared.refusal.Refusal.{Refusal}
@@ -27,10 +28,6 @@ Leads c d = (es : List ClusterEvent) × Reaches c es d
 
 pub leads_itself : (c : ClusterState) → Leads c c
 leads_itself c = ([], refl)
-
-reaches_on : (es fs : List ClusterEvent) (a b c : ClusterState) → Reaches a es b → Reaches b fs c → Reaches a (es ++ fs) c
-reaches_on [] fs a b c r q = subst (λ (x : ClusterState). Reaches x fs c) r q
-reaches_on (e ∷ es) fs a b c r q = (r.0, r.1, r.2, reaches_on es fs r.1 b c r.3 q)
 
 pub leads_on : (a b c : ClusterState) → Leads a b → Leads b c → Leads a c
 leads_on a b c h k = (h.0 ++ k.0, reaches_on h.0 k.0 a b c h.1 k.1)

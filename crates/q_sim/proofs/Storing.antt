@@ -1,5 +1,5 @@
 -- Stores of more bytes than a value has.
-use Rattle.std.proofs.Common.{◌≡◌, ◌↔◌, ◌&&◌, ℕ, ◌<◌, Bool, true, false, true≢false, List, length, ◌++◌, Option, Some, None, is_some, refl, sym, ap, ◌∙◌, subst, arith}
+use Rattle.std.proofs.Common.{◌≡◌, ◌↔◌, ◌&&◌, ℕ, ◌<◌, Bool, true, false, true≢false, List, length, ◌++◌, Option, Some, None, is_some, refl, sym, ap, ◌∙◌, arith}
 use Rattle.std.specs.Prelude.{nat_le, if◌then◌else◌, Result, Ok, Err, OnOk, IsErrOf}
 use Rattle.std.specs.FinSet as set
 use Rattle.std.proofs.lemmas.Bool.{lt-leb}
@@ -18,6 +18,7 @@ use Rattle.q_history.specs.Clusters.{Said, live, live_at, by_book, lift, stores,
 use Rattle.q_history.specs.State.{ClusterState}
 use Rattle.q_history.specs.declared.event.ClusterEvent.TheVariants as event
 use Rattle.q_cluster.specs.Acts.{book_at}
+use Rattle.q_cluster.proofs.Coming.{live_none}
 use Rattle.q_sim.specs.declared.refusal.Refusal.TheVariants as refusal
 use Rattle.q_sim.specs.Refusal.{refusal_line}
 use Rattle.q_sim.specs.Simulates.{SimState, refusing, Acts}
@@ -44,18 +45,14 @@ module _ (value : List ℕ) (over : most_bytes < length value) where
 
 -- ---- a cluster
 
-no_live : (crashed : Bool) → is_some (live crashed None) ≡ false
-no_live true = refl
-no_live false = refl
+not_gone : (b : BookState) (gone : Bool) → is_some (if gone then None else Some b) ≡ true → gone ≡ false
+not_gone b true h = absurd (true≢false (sym h))
+not_gone b false h = refl
 
 -- a book that is there
 is_there : (crashed : Bool) (b : BookState) → is_some (live crashed (Some b)) ≡ true → (b.node.gone ≡ false) × (live crashed (Some b) ≡ Some b)
 is_there true b h = absurd (true≢false (sym h))
-is_there false b h = by_test b.node.gone refl h
-  where
-    by_test : (gone : Bool) → b.node.gone ≡ gone → is_some (if gone then None else Some b) ≡ true → (b.node.gone ≡ false) × ((if b.node.gone then None else Some b) ≡ Some b)
-    by_test true is l = absurd (true≢false (sym l))
-    by_test false is l = (is, ap (λ (g : Bool). let o : Option BookState = if g then None else Some b in o) is)
+is_there false b h = let here = not_gone b b.node.gone h in (here, ap (λ (gone : Bool). let o : Option BookState = if gone then None else Some b in o) here)
 
 not_there : (o : Option BookState) (f : BookState → Said) → is_some o ≡ false → by_book o f ≡ Err reasons.NoSuchNode
 not_there None f is = refl
@@ -66,7 +63,7 @@ module _ (c : ClusterState) (id : ℕ) where
   at_no_node is value ran over = not_there (live_at c id) (stored c id value) is
 
   pub at_no_book : None ≡ book_at c id → RefusesLonger c id reasons.NoSuchNode
-  at_no_book is = let crashed = set.contains c.past.crashed id in at_no_node (ap (λ (o : Option BookState). is_some (live crashed o)) (sym is) ∙ no_live crashed)
+  at_no_book is = at_no_node (sym (live_none (set.contains c.past.crashed id) (book_at c id) is))
 
   module _ (b : BookState) (is : Some b ≡ book_at c id) (lives : is_some (live_at c id) ≡ true) where
     by_its_book : (value : List ℕ) (e : Reason) → (b.node.gone ≡ false → book.stored b value ≡ Err e) → by_book (live_at c id) (stored c id value) ≡ Err e

@@ -23,8 +23,8 @@ IsUncertified lengths text r = ⊥
 abbrev pub program_lengths : Interval
 program_lengths = record_lengths Second
 
--- the certificate is of the text that the bytes spell, for records of these lengths, with the verifier's notes: no notes
--- that pass say more
+-- the certificate is of the text that the bytes spell, for records of these lengths, with the verifier's notes: no
+-- notes that pass say more
 pub record IsProgram (code : List ℕ) (certificate : Certificate) : Type 0 where
   pub spelled : code ≡ spelling certificate.text
   pub certified : IsCertified certificate

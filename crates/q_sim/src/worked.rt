@@ -1,6 +1,6 @@
 //! Worked values of what scripts do and print.
 
-ghost use Rattle.std.specs.Prelude.{◌≡◌, ℕ, List, [], ◌∷◌, length, Bool, true, false, Some, None, Ok, Err, codes};
+ghost use Rattle.std.specs.Prelude.{◌≡◌, ℕ, List, [], ◌∷◌, length, true, false, Some, None, Ok, Err, codes};
 ghost use Rattle.std.specs.FinSet as set;
 ghost use Rattle.bq_check.specs.Certificate.{Certificate};
 ghost use Rattle.bq_insn.specs.declared.fault.DecodeFault.TheVariants as decode_fault;
