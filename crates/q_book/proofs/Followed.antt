@@ -22,30 +22,13 @@ use Rattle.q_desk.proofs.Changes.{Change, stays, registered_change, asked_change
 use Rattle.q_book.specs.State.{BookState}
 use Rattle.q_book.specs.Books as book
 use Rattle.q_book.specs.Replays.{Follows, EntryFits}
+use Rattle.q_book.specs.Sends.{seen, sends, handed}
 use Rattle.q_book.specs.declared.answer.Asked.{Asked}
 use Rattle.q_book.specs.declared.answer.Taken.{Taken}
 use Rattle.reasons.specs.declared.Reason.{Reason}
 use Rattle.q_book.proofs.Parts.{is_there, left-parts, stored-parts, asked-parts, delivered-parts, desk-parts, stored-fits, delivered-fits}
 
 -- ---- what is said of a call
-
--- what is seen of an answer, where the call is accepted
-abbrev pub seen : {A X : Type 0} → (A → X) → X → Result (A × BookState) Reason → X
-seen f none (Ok a) = f a.0
-seen f none (Err e) = none
-
--- the messages that the call of an entry sends
-abbrev pub sends : BookState → Entry → List Message
-sends b entry.Leave = seen (λ outs. outs) [] (book.left b)
-sends b (entry.Ask program start) = seen (λ (a : Asked). a.begun.outs) [] (book.asked b program start)
-sends b (entry.Store value) = seen (λ (a : Begun). a.outs) [] (book.stored b value)
-sends b (entry.Deliver m) = seen (λ (a : Taken). a.outs) [] (book.delivered b m)
-sends b e = []
-
--- the job that it hands out
-abbrev pub handed : BookState → Entry → Option Job
-handed b entry.HandOut = seen (λ o. o) None (book.handed_out b)
-handed b e = None
 
 -- what the node does at it and sends: its own call, or nothing
 abbrev pub NodeDid : BookState → Entry → List Message → NodeState → Type 0

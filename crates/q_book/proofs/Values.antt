@@ -20,7 +20,8 @@ use Rattle.q_desk.specs.declared.journal.Entry.{Entry}
 use Rattle.q_desk.specs.declared.journal.Entry.TheVariants as entry
 use Rattle.q_book.specs.State.{BookState}
 use Rattle.q_book.specs.Replays.{Follows, Replays, IsFirst, IsReplay, EntryFits}
-use Rattle.q_book.proofs.Followed.{NodeDid, sends, IsAccepted, follows-accepted}
+use Rattle.q_book.specs.Sends.{sends}
+use Rattle.q_book.proofs.Followed.{NodeDid, IsAccepted, follows-accepted}
 
 -- no call changes the version
 pub same_version : (b : BookState) (e : Entry) (c : BookState) → Follows b e c → c.version ≡ b.version

@@ -3,5 +3,6 @@ pub mod State
 pub mod Books
 pub mod Called
 pub mod Replays
+pub mod Sends
 pub mod Noted
 pub mod Sample

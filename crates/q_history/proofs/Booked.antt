@@ -15,7 +15,8 @@ use Rattle.q_session.specs.declared.job.Job.{Job}
 use Rattle.q_book.specs.State.{BookState}
 use Rattle.q_book.specs.Books as book
 use Rattle.q_book.specs.Replays.{IsReplay}
-use Rattle.q_book.proofs.Followed.{sends, handed, follows-accepted}
+use Rattle.q_book.specs.Sends.{sends, handed}
+use Rattle.q_book.proofs.Followed.{follows-accepted}
 use Rattle.q_book.proofs.Replays.{replay_next}
 use Rattle.q_book.proofs.Values.{accepted_fit, replay_values}
 use Rattle.q_history.specs.State.{ClusterState}

@@ -16,7 +16,8 @@ use Rattle.q_desk.specs.declared.journal.Entry.TheVariants as entry
 use Rattle.q_book.specs.State.{BookState}
 use Rattle.q_book.specs.Books as book
 use Rattle.q_book.specs.Replays as replays
-use Rattle.q_book.proofs.Followed.{seen, sends, handed, none-handed}
+use Rattle.q_book.specs.Sends.{seen, sends, handed}
+use Rattle.q_book.proofs.Followed.{none-handed}
 use Rattle.q_book.specs.declared.answer.Asked.{Asked}
 use Rattle.q_book.specs.declared.answer.Taken.{Taken}
 use Rattle.reasons.specs.declared.Reason.{Reason}
