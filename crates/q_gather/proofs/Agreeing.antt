@@ -12,16 +12,16 @@ use Rattle.sc_msg.specs.declared.version.Version.TheVariants.{First, Second}
 use Rattle.sc_msg.specs.contracts.version.Version as versions
 use Rattle.sc_msg.specs.contracts.version.VersionPartialEq.TheImpl.{eq-value as version_eq}
 use denote.Enum.Bare.{same_true}
-use Rattle.sc_world.specs.State.{WorldState}
-use Rattle.sc_world.specs.Worlds as world
+use Rattle.sc_node.specs.Nodes.{are_founders}
 use Rattle.reasons.specs.declared.Reason.{Reason}
+use Rattle.reasons.specs.declared.Reason.TheVariants as reasons
 use Rattle.sc_world.proofs.Acting.{has_at}
 use Rattle.sc_world.proofs.Inverts.{same_answer, no_refusal}
 use Rattle.sc_world.proofs.Steps.{and_left, and_right}
 use Rattle.q_book.specs.State.{BookState}
 use Rattle.q_history.specs.State.{ClusterState}
 use Rattle.q_history.specs.Heads.{founders_for}
-use Rattle.q_history.specs.Clusters.{start, started, founded}
+use Rattle.q_history.specs.Clusters.{start, started}
 use Rattle.q_history.proofs.Lists.{same_some, no_some}
 use Rattle.q_gather.specs.Gathered.{HasBook, AreDistinct, AgreeOn}
 use Rattle.q_gather.specs.Gather.{AreReplayed, Agree, IsRefused}
@@ -121,12 +121,13 @@ versions_refused journals books i k a b r distinct at here other = (books, r, di
 
 -- ---- the start
 
-starts_by : (version : Version) (config : Config) (ids : List ℕ) (r : Result WorldState Reason) (c : ClusterState) → founded version config ids r ≡ Ok c → c ≡ start version config ids
-starts_by version config ids (Ok w) c h = same_answer {E = Reason} c (start version config ids) (sym h)
-starts_by version config ids (Err e) c h = absurd (no_refusal _ c h)
+starts_by : (version : Version) (config : Config) (ids : List ℕ) (are : Bool) (c : ClusterState) → (let r : Result ClusterState Reason = cond are (Ok (start version config ids)) (Err reasons.BadFounders) in r) ≡ Ok c
+    → c ≡ start version config ids
+starts_by version config ids true c h = same_answer {E = Reason} c (start version config ids) (sym h)
+starts_by version config ids false c h = absurd (no_refusal _ c h)
 
 pub starts : (version : Version) (config : Config) (ids : List ℕ) (c : ClusterState) → started version config ids ≡ Ok c → c ≡ start version config ids
-starts version config ids c h = starts_by version config ids (world.started config ids) c h
+starts version config ids c h = starts_by version config ids (are_founders ids) c h
 
 pub agree_on : (books : List BookState) (version : Version) (config : Config) (ids : List ℕ) (c : ClusterState) → started version config ids ≡ Ok c → AreHeaded books version config ids → AreThere books ids → AgreeOn books version config ids
 agree_on books version config ids c h heads there = record {

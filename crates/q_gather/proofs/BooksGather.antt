@@ -1,7 +1,7 @@
 -- Books are gathered one step after another.
-use Rattle.std.proofs.Common.{◌≡◌, ℕ, ◌==◌, Bool, true, false, List, [], ◌∷◌, ◌++◌, Option, Some, None, refl, sym, ap, ◌∙◌, subst, inl, inr, slice_get, slice_set}
+use Rattle.std.proofs.Common.{◌≡◌, ℕ, ◌==◌, Bool, true, false, List, [], ◌∷◌, ◌++◌, Option, Some, None, refl, sym, ap, ◌∙◌, subst, inl, inr, slice_get, slice_set, get_or}
 use Rattle.std.proofs.lemmas.Bool.{eqb-true, eqb-false}
-use Rattle.std.proofs.lemmas.Option.{get_or_from_slice_get, slice_get_within}
+use Rattle.std.proofs.lemmas.Option.{get_or_from_slice_get, slice_get_within, slice_get-get_or}
 use Rattle.std.specs.Ordering.{nat_cmp}
 use Rattle.std.specs.FinSet as set
 use Rattle.sc_msg.specs.declared.message.Message.{Message}
@@ -24,8 +24,8 @@ use Rattle.q_gather.specs.Gathered.{HasBook, IsGathered, IsAt, IsUnderWay, Goes}
 use Rattle.q_gather.specs.Gathered.IsAt.{Away, There}
 use Rattle.q_gather.proofs.Lists.{get-same, get_after}
 use Rattle.q_gather.proofs.Merging.{same_first}
-use Rattle.q_gather.proofs.EveryJob.{history_jobs}
-use Rattle.q_gather.proofs.Entries.{next_up, next_event, entry_makes, enter_makes}
+use Rattle.q_gather.proofs.Turning.{next_up}
+use Rattle.q_gather.proofs.Entries.{next_event, entry_makes, enter_makes}
 use Rattle.q_book.proofs.Replays.{replays_later}
 use Rattle.q_gather.proofs.Keeping.{trace_replays}
 
@@ -42,23 +42,23 @@ no_first x xs e = absurd (cc)
 
 module _ (c : ClusterState) (whole : BookState) (s : Step Message) (rest : List (Step Message)) (h : IsHistory c) where
   -- the node enters
-  pub enter_goes : whole.version ≡ c.version → whole.config ≡ c.world.config → book_at c whole.id ≡ None → whole.founders ≡ None → IsTrace whole (s ∷ rest) → NodeGoes c whole s rest (event.Enter whole.id) whole.desk.journal
+  pub enter_goes : whole.version ≡ c.version → whole.config ≡ c.past.config → book_at c whole.id ≡ None → whole.founders ≡ None → IsTrace whole (s ∷ rest) → NodeGoes c whole s rest (event.Enter whole.id) whole.desk.journal
   enter_goes its same absent none t =
       let first : Step Message = record { wants = None; gives = (book.entered whole.version whole.config whole.id).1 } in
       let is : s ∷ rest ≡ first ∷ t.rest = t.is ∙ ap (λ (o : Option (List ℕ)). entering whole o ++ t.rest) none in
       let parts = same_first s first rest t.rest is in
       let begun : IsFirst whole t.first None = subst (IsFirst whole t.first) none t.begun in
       let begins : book.new_book whole.version whole.id whole.config whole.founders t.first ≡ (book.entered whole.version whole.config whole.id).0 = λ i. book.new_book whole.version whole.id whole.config (none i) (begun i) in
-      let outs : s.gives ≡ (book.entered c.version c.world.config whole.id).1 = ap (λ (x : Step Message). x.gives) parts.0 ∙ (λ i. (book.entered (its i) (same i) whole.id).1) in
+      let outs : s.gives ≡ (book.entered c.version c.past.config whole.id).1 = ap (λ (x : Step Message). x.gives) parts.0 ∙ (λ i. (book.entered (its i) (same i) whole.id).1) in
       record {
-        book = (book.entered c.version c.world.config whole.id).0;
-        makes = subst (Makes c (event.Enter whole.id) whole.id (book.entered c.version c.world.config whole.id).0) (sym outs) (enter_makes c whole.id h absent);
+        book = (book.entered c.version c.past.config whole.id).0;
+        makes = subst (Makes c (event.Enter whole.id) whole.id (book.entered c.version c.past.config whole.id).0) (sym outs) (enter_makes c whole.id absent);
         trace =
             subst (λ (x : BookState). IsTraceFrom x whole.desk.journal rest whole) (begins ∙ (λ i. (book.entered (its i) (same i) whole.id).0))
             (subst (λ (x : List (Step Message)). IsTraceFrom (book.new_book whole.version whole.id whole.config whole.founders t.first) whole.desk.journal x whole) (sym parts.1) t.trace);
       }
 
-  module _ (nobody : c.world.crashed ≡ set.empty) (e : Entry) (es : List Entry) (b : BookState) (at : book_at c whole.id ≡ Some b) (t : IsTraceFrom b (e ∷ es) (s ∷ rest) whole) where
+  module _ (nobody : c.past.crashed ≡ set.empty) (e : Entry) (es : List Entry) (b : BookState) (at : book_at c whole.id ≡ Some b) (t : IsTraceFrom b (e ∷ es) (s ∷ rest) whole) where
     is_next : IsNext c whole.id b e t.0
     is_next = record {
       book = at;
@@ -74,23 +74,23 @@ module _ (c : ClusterState) (whole : BookState) (s : Step Message) (rest : List 
           book = t.0;
           makes =
               subst (Makes c ev whole.id t.0) (sym (ap (λ (x : Step Message). x.gives) parts.0))
-              (entry_makes c whole.id b t.0 e ev (history_jobs c h) (next_up c whole.id b t.0 e is_next)
+              (entry_makes c h whole.id b t.0 (next_up c whole.id b t.0 e is_next) e ev
               (record { later = whole.desk; keeps = (replays_later es t.0 whole (trace_replays es t.0 whole t.2 t.4)).keeps; right = right }) t.1 is);
           trace = subst (λ (x : List (Step Message)). IsTraceFrom t.0 es x whole) (sym parts.1) t.4;
         }
 
     -- and there is one where it can go
-    pub entry_event : CanGo c.world.sent s → (ev : ClusterEvent) × IsEventOf c whole.id e ev
-    entry_event can = next_event c whole.id b t.0 e h is_next (subst (CanGo c.world.sent) (same_first s (step_of b e) rest t.2 t.3).0 can)
+    pub entry_event : CanGo c.past.sent s → (ev : ClusterEvent) × IsEventOf c whole.id e ev
+    entry_event can = next_event c whole.id b t.0 e h is_next (subst (CanGo c.past.sent) (same_first s (step_of b e) rest t.2 t.3).0 can)
 
-  module _ (nobody : c.world.crashed ≡ set.empty) (right : AnswersAreRight whole.desk) (can : CanGo c.world.sent s) where
+  module _ (nobody : c.past.crashed ≡ set.empty) (right : AnswersAreRight whole.desk) (can : CanGo c.past.sent s) where
     entries_go : (left : List Entry) (b : BookState) → book_at c whole.id ≡ Some b → IsTraceFrom b left (s ∷ rest) whole → (ev : ClusterEvent) × (rests : List Entry) × NodeGoes c whole s rest ev rests
     entries_go [] b at t = absurd (no_first s rest (sym t.0))
     entries_go (e ∷ es) b at t =
         let ev = entry_event nobody e es b at t can in
         (ev.0, es, entry_goes nobody e es b at t right ev.0 ev.1)
 
-    node_goes : (left : List Entry) → whole.version ≡ c.version → whole.config ≡ c.world.config → IsAt c whole left (s ∷ rest) → (ev : ClusterEvent) × (rests : List Entry) × NodeGoes c whole s rest ev rests
+    node_goes : (left : List Entry) → whole.version ≡ c.version → whole.config ≡ c.past.config → IsAt c whole left (s ∷ rest) → (ev : ClusterEvent) × (rests : List Entry) × NodeGoes c whole s rest ev rests
     node_goes left its same (Away absent none is t) = (event.Enter whole.id, whole.desk.journal, enter_goes its same absent none t)
     node_goes left its same (There b at t) = entries_go left b at t
 
@@ -110,7 +110,7 @@ module _ (books : List BookState) (c : ClusterState) (lists : List (List (Step M
   placed : IsPlaced c lists k whole
   placed = u.at k whole mine
 
-  now : CanGo c.world.sent s → (ev : ClusterEvent) × (left : List Entry) × NodeGoes c whole s rest ev left
+  now : CanGo c.past.sent s → (ev : ClusterEvent) × (left : List Entry) × NodeGoes c whole s rest ev left
   now can =
       node_goes c whole s rest u.history u.nobody (u.right k whole mine) can placed.2 (u.versions k whole mine) (u.same k whole mine)
       (subst (IsAt c whole placed.2) (same_some placed.0 (s ∷ rest) (sym placed.1 ∙ at)) placed.3)
@@ -161,12 +161,12 @@ module _ (books : List BookState) (c : ClusterState) (lists : List (List (Step M
       sent = λ told later f. (g.makes.turns told later f).sent;
     }
 
-  step_by : CanGo c.world.sent s → (ev : ClusterEvent) × Goes books c lists k s rest ev
+  step_by : CanGo c.past.sent s → (ev : ClusterEvent) × Goes books c lists k s rest ev
   step_by can = let g = now can in (g.0, goes_by g.0 g.1 g.2)
 
 -- a first step that can go is an event of the cluster
 pub step_goes : (books : List BookState) (c : ClusterState) (lists : List (List (Step Message))) → IsUnderWay books c lists → (k : ℕ) (s : Step Message) (rest : List (Step Message)) → slice_get lists k ≡ Some (s ∷ rest)
-    → CanGo c.world.sent s → (ev : ClusterEvent) × Goes books c lists k s rest ev
+    → CanGo c.past.sent s → (ev : ClusterEvent) × Goes books c lists k s rest ev
 step_goes books c lists u k s rest at can =
     let b = u.few k (s ∷ rest) at in
     step_by books c lists u k b.0 b.1 s rest at can
@@ -185,6 +185,9 @@ done_at c whole left (There b at t) = done_by c whole b left at t
 
 pub over_at : (lists : List (List (Step Message))) (k : ℕ) (steps : List (Step Message)) → AreOver lists → slice_get lists k ≡ Some steps → steps ≡ []
 over_at lists k steps over at = sym (get_or_from_slice_get lists k steps [] at) ∙ over k [] (slice_get_within lists k steps at)
+
+pub all_over : (lists : List (List (Step Message))) → ((k : ℕ) (steps : List (Step Message)) → slice_get lists k ≡ Some steps → steps ≡ []) → AreOver lists
+all_over lists over k d within = over k (get_or lists k d) (slice_get-get_or lists k d within)
 
 -- where no step is left, the books are gathered
 pub gathered : (books : List BookState) (c : ClusterState) (lists : List (List (Step Message))) → IsUnderWay books c lists → AreOver lists → IsGathered books c

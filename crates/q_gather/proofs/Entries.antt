@@ -1,20 +1,15 @@
 -- An entry that a node's book can take next is an event that its cluster accepts.
-use Rattle.std.proofs.Common.{◌≡◌, ℕ, ◌==◌, Bool, true, false, cond, List, [], ◌∷◌, ◌++◌, length, Option, Some, None, refl, sym, ap, ◌∙◌, subst, slice_get, Result, Ok}
+use Rattle.std.proofs.Common.{◌≡◌, ℕ, ◌==◌, true, List, [], ◌∷◌, ◌++◌, length, Option, Some, None, refl, sym, ap, ◌∙◌, subst, slice_get, Result, Ok}
 use Rattle.std.specs.Prelude.{IfSome}
 use Rattle.std.proofs.lemmas.Bool.{eq-eqb}
 use Rattle.std.proofs.lemmas.List.{append-nil}
 use Rattle.std.proofs.lemmas.Option.{slice_get_read}
-use Rattle.std.specs.Ordering.{nat_cmp}
-use Rattle.std.specs.FinMap as fin
-use Rattle.std.specs.FinSet as set
 use Rattle.forms.specs.Calls.{tested}
 use Rattle.forms.proofs.Calls.{tested_pass}
 use Rattle.sc_view.specs.Views.{ViewMap}
 use Rattle.sc_msg.specs.declared.message.Message.{Message}
-use Rattle.sc_node.specs.State.{NodeState}
 use Rattle.sc_node.specs.declared.answer.Begun.{Begun}
 use Rattle.sc_world.specs.declared.event.WorldEvent.TheVariants as world_event
-use Rattle.sc_world.specs.State.{past_of}
 use Rattle.sc_world.specs.Ledgers.{recorded}
 use Rattle.bq_meaning.proofs.Folding as folding
 use Rattle.bq_check.specs.Certificate.{Certificate}
@@ -40,24 +35,24 @@ use Rattle.q_book.specs.declared.answer.Taken.{Taken}
 use Rattle.q_history.specs.declared.event.ClusterEvent.{ClusterEvent}
 use Rattle.q_history.specs.declared.event.ClusterEvent.TheVariants as event
 use Rattle.q_history.specs.State.{ClusterState}
-use Rattle.q_history.specs.Heads.{book_of}
-use Rattle.q_history.specs.Clusters.{at as at_node, enters, entered, registers, opened, asks, stores, delivers, delivered_as, hands, posts, posted, finished, leaves}
+use Rattle.q_history.specs.Clusters.{live_at, at as at_node, enters, entered, registers, opened, asks, stores, delivers, delivered_as, hands, posts, posted, finished, leaves}
 use Rattle.q_history.specs.Calls.{Answers, IsHistory}
-use Rattle.q_history.proofs.Lists.{same_some, no_some}
+use Rattle.q_history.proofs.Lists.{same_some}
 use Rattle.q_desk.proofs.Accepted.{Keeps, keeps_itself, answered as with_answer, IsPosted}
 use Rattle.bq_insn.specs.Slots.{spelling}
 use Rattle.q_table.specs.Programs as table
 use Rattle.q_desk.proofs.Own.{job_by, and_both, same_bytes, same_number, own_fits}
-use Rattle.q_book.proofs.Followed.{is_posted, posted-accepted, follows-accepted}
-use Rattle.q_history.proofs.EveryBook.{history_are}
-use Rattle.q_cluster.specs.Acts.{booked, book_at}
+use Rattle.q_book.proofs.Followed.{is_posted}
+use Rattle.q_history.proofs.World.{at_live}
+use Rattle.q_history.proofs.Histories.{history_kept}
+use Rattle.q_cluster.specs.Acts.{book_at}
 use Rattle.q_gather.specs.Merging.{CanGo}
 use Rattle.q_gather.specs.Traces.{sent_by, gives, step_of}
 use Rattle.q_gather.specs.Turns.{IsJobFor, IsEventOf, IsNext, IsTurn, Makes}
 use Rattle.q_gather.proofs.Lists.{get-same}
-use Rattle.q_gather.proofs.Turning.{IsUp, is_up, IsHeadedAs, call_says, put_turn, makes, head_of}
+use Rattle.q_gather.proofs.Turning.{next_up, call_says, put_turn, makes}
 use Rattle.q_gather.proofs.HistoryJobs.{RunsOver, IsOut}
-use Rattle.q_gather.proofs.EveryJob.{JobsOf, history_jobs}
+use Rattle.q_gather.proofs.EveryJob.{history_jobs}
 
 -- an answer that nobody asks for
 nothing : Ran
@@ -65,41 +60,41 @@ nothing = record { acc = 0; steps = 0 }
 
 -- ---- calls that run no job
 
-module _ (c : ClusterState) (id : ℕ) (b d : BookState) (up : IsUp c id b) (headed : IsHeadedAs c id d) where
+module _ (c : ClusterState) (id : ℕ) (b d : BookState) (up : live_at c id ≡ Some b) where
   leave_makes : (outs : List Message) → book.left b ≡ Ok (outs, d) → Makes c (event.Leave id) id d (gives b entry.Leave)
   leave_makes outs h =
       subst (Makes c (event.Leave id) id d) (sym (ap (sent_by (λ (x : List Message). x)) h))
-      (makes c (event.Leave id) id d outs nothing (leaves c id outs d) tt (λ r _. call_says c id b up (leaves c id) book.left outs d h)
-      (put_turn c (recorded (past_of c.world) (world_event.Leave id) id outs None None) c.jobs id d outs headed refl))
+      (makes c (event.Leave id) id d outs nothing (leaves c id outs d) tt (λ r _. call_says c id b d up (leaves c id) book.left outs h)
+      (put_turn c (recorded c.past (world_event.Leave id) id outs None None) c.jobs id d outs refl))
 
   register_makes : (program : Certificate) (n : ℕ) → book.registered b program ≡ Ok (n, d) → Makes c (event.Register id program) id d []
   register_makes program n h =
-      makes c (event.Register id program) id d [] nothing (registers c id n d) tt (λ r _. call_says c id b up (registers c id) (λ x. book.registered x program) n d h)
-      (put_turn c (past_of c.world) c.jobs id d [] headed (sym (append-nil c.world.sent)))
+      makes c (event.Register id program) id d [] nothing (registers c id n d) tt (λ r _. call_says c id b d up (registers c id) (λ x. book.registered x program) n h)
+      (put_turn c c.past c.jobs id d [] (sym (append-nil c.past.sent)))
 
   ask_makes : (program start : ℕ) (a : Asked) → book.asked b program start ≡ Ok (a, d) → Makes c (event.Ask id program start) id d (gives b (entry.Ask program start))
   ask_makes program start a h =
       subst (Makes c (event.Ask id program start) id d) (sym (ap (sent_by (λ (x : Asked). x.begun.outs)) h))
-      (makes c (event.Ask id program start) id d a.begun.outs nothing (asks c id a d) tt (λ r _. call_says c id b up (asks c id) (λ x. book.asked x program start) a d h)
-      (put_turn c (recorded (past_of c.world) (world_event.Collect id) id a.begun.outs None (opened a.begun)) c.jobs id d a.begun.outs headed refl))
+      (makes c (event.Ask id program start) id d a.begun.outs nothing (asks c id a d) tt (λ r _. call_says c id b d up (asks c id) (λ x. book.asked x program start) a h)
+      (put_turn c (recorded c.past (world_event.Collect id) id a.begun.outs None (opened a.begun)) c.jobs id d a.begun.outs refl))
 
   store_makes : (value : List ℕ) (a : Begun) → book.stored b value ≡ Ok (a, d) → Makes c (event.Store id value) id d (gives b (entry.Store value))
   store_makes value a h =
       subst (Makes c (event.Store id value) id d) (sym (ap (sent_by (λ (x : Begun). x.outs)) h))
-      (makes c (event.Store id value) id d a.outs nothing (stores c id value a d) tt (λ r _. call_says c id b up (stores c id value) (λ x. book.stored x value) a d h)
-      (put_turn c (recorded (past_of c.world) (world_event.Store id value) id a.outs None (opened a)) c.jobs id d a.outs headed refl))
+      (makes c (event.Store id value) id d a.outs nothing (stores c id value a d) tt (λ r _. call_says c id b d up (stores c id value) (λ x. book.stored x value) a h)
+      (put_turn c (recorded c.past (world_event.Store id value) id a.outs None (opened a)) c.jobs id d a.outs refl))
 
-  deliver_makes : (m : Message) (number : ℕ) (a : Taken) → slice_get c.world.sent number ≡ Some m → book.delivered b m ≡ Ok (a, d) → Makes c (event.Deliver number id) id d (gives b (entry.Deliver m))
+  deliver_makes : (m : Message) (number : ℕ) (a : Taken) → slice_get c.past.sent number ≡ Some m → book.delivered b m ≡ Ok (a, d) → Makes c (event.Deliver number id) id d (gives b (entry.Deliver m))
   deliver_makes m number a at h =
       subst (Makes c (event.Deliver number id) id d) (sym (ap (sent_by (λ (x : Taken). x.outs)) h))
       (makes c (event.Deliver number id) id d a.outs nothing (delivers c number id a d) tt
-      (λ r _. ap (λ (o : Option Message). at_node c id (λ x. delivered_as c number id x o)) at ∙ call_says c id b up (delivers c number id) (λ x. book.delivered x m) a d h)
-      (put_turn c (recorded (past_of c.world) (world_event.Deliver number id) id a.outs a.progress None) c.jobs id d a.outs headed refl))
+      (λ r _. ap (λ (o : Option Message). at_node c id (λ x. delivered_as c number id x o)) at ∙ call_says c id b d up (delivers c number id) (λ x. book.delivered x m) a h)
+      (put_turn c (recorded c.past (world_event.Deliver number id) id a.outs a.progress None) c.jobs id d a.outs refl))
 
   hand_out_makes : (j : Job) → book.handed_out b ≡ Ok (Some j, d) → Makes c (event.HandOut id) id d []
   hand_out_makes j h =
-      makes c (event.HandOut id) id d [] nothing (hands c id (Some j) d) tt (λ r _. call_says c id b up (hands c id) book.handed_out (Some j) d h)
-      (put_turn c (past_of c.world) (c.jobs ++ j ∷ []) id d [] headed (sym (append-nil c.world.sent)))
+      makes c (event.HandOut id) id d [] nothing (hands c id (Some j) d) tt (λ r _. call_says c id b d up (hands c id) book.handed_out (Some j) h)
+      (put_turn c c.past (c.jobs ++ j ∷ []) id d [] (sym (append-nil c.past.sent)))
 
 -- ---- an answer
 
@@ -157,7 +152,7 @@ pub record IsRightLater (d : DeskState) : Type 0 where
   pub right : AnswersAreRight later
 
 -- the answer that a book recorded is right of the job that the cluster has for its query
-module _ (c : ClusterState) (b d : BookState) (ran : Ran) (i j : Job) (up : IsUp c j.node b) (own : b.id ≡ j.node) (same : j.query ≡ i.query) (h : book.posted b i ran ≡ Ok (tt, d)) (o : IsOut b.desk.programs b.desk.queries j)
+module _ (c : ClusterState) (b d : BookState) (ran : Ran) (i j : Job) (up : live_at c j.node ≡ Some b) (own : b.id ≡ j.node) (same : j.query ≡ i.query) (h : book.posted b i ran ≡ Ok (tt, d)) (o : IsOut b.desk.programs b.desk.queries j)
     (right : IsRightLater d.desk) where
   was_posted : ((i.node == b.id) ≡ true) × IsPosted b.desk i ran d.desk
   was_posted = is_posted b i ran d h
@@ -213,95 +208,61 @@ module _ (c : ClusterState) (b d : BookState) (ran : Ran) (i j : Job) (up : IsUp
       makes c (event.Finish number) j.node d [] ran (posts c j ran tt d) (subst (λ (x : Option Job). IfSome x (λ k. Answers k ran)) (sym at) right_of_it)
       (λ r other. ap (finished c r) at
       ∙ ap (λ (x : Ran). at_node c j.node (posted c j x)) (sym (one_answer r (subst (λ (x : Option Job). IfSome x (λ k. Answers k r)) at other)))
-      ∙ call_says c j.node b up (posts c j ran) (λ x. book.posted x j ran) tt d posts_too)
-      (put_turn c (past_of c.world) c.jobs j.node d [] (head_of c j.node b d up (posted-accepted b j ran d posts_too).same) (sym (append-nil c.world.sent)))
+      ∙ call_says c j.node b d up (posts c j ran) (λ x. book.posted x j ran) tt posts_too)
+      (put_turn c c.past c.jobs j.node d [] (sym (append-nil c.past.sent)))
 
 -- ---- every entry
 
--- the jobs of this node's book
-job_is_out : (c : ClusterState) (id : ℕ) (b : BookState) → JobsOf c → IsUp c id b → (number : ℕ) (j : Job) → slice_get c.jobs number ≡ Some j → j.node ≡ id → IsOut b.desk.programs b.desk.queries j
-job_is_out c id b are up number j at by =
-    let k = are.jobs.each number j at in
-    let same : k.0 ≡ b.desk = same_some k.0 up.desk (sym k.1 ∙ ap (fin.get c.desks) by ∙ up.here) ∙ ap (λ (x : BookState). x.desk) up.is in
-    subst (λ (x : DeskState). IsOut x.programs x.queries j) same k.2
+module _ (c : ClusterState) (h : IsHistory c) (id : ℕ) (b d : BookState) (up : live_at c id ≡ Some b) where
+  stands : book_at c id ≡ Some b
+  stands = at_live c id b up
 
-post_makes : (c : ClusterState) (id : ℕ) (b d : BookState) (query : ℕ) (ran : Ran) (i : Job) (number : ℕ) → JobsOf c → IsUp c id b → IsRightLater d.desk → i.query ≡ query → book.posted b i ran ≡ Ok (tt, d)
-    → IsJobFor c.jobs id query number → Makes c (event.Finish number) id d []
-post_makes c id b d query ran i number are up right of h it =
-    let j = it.job in
-    subst (λ (x : ℕ). Makes c (event.Finish number) x d []) it.by
-    (finish_makes c b d ran i j (subst (λ (x : ℕ). IsUp c x b) (sym it.by) up) (ap (λ (x : BookState). x.id) (sym up.is) ∙ sym it.by) (it.of ∙ sym of) h (job_is_out c id b are up number j it.at it.by) right number it.at)
+  post_makes : (query : ℕ) (ran : Ran) (i : Job) (number : ℕ) → IsRightLater d.desk → i.query ≡ query → book.posted b i ran ≡ Ok (tt, d) → IsJobFor c.jobs id query number → Makes c (event.Finish number) id d []
+  post_makes query ran i number right of posts it =
+      subst (λ (x : ℕ). Makes c (event.Finish number) x d []) it.by
+      (finish_makes c b d ran i it.job (ap (live_at c) it.by ∙ up) (((history_kept c h).headed id b stands).id ∙ sym it.by) (it.of ∙ sym of) posts
+      ((history_jobs c h id b stands).each number it.job it.at it.by) right number it.at)
 
-pub entry_makes : (c : ClusterState) (id : ℕ) (b d : BookState) (e : Entry) (ev : ClusterEvent) → JobsOf c → IsUp c id b → IsRightLater d.desk → Follows b e d
-    → IsEventOf c id e ev → Makes c ev id d (gives b e)
-entry_makes c id b d e ev are up right f is = go e (head_of c id b d up (follows-accepted b e d f).same) f is
-  where
-    go : (e : Entry) → IsHeadedAs c id d → Follows b e d → IsEventOf c id e ev → Makes c ev id d (gives b e)
-    go entry.Leave head f is = subst (λ (x : ClusterEvent). Makes c x id d (gives b entry.Leave)) (sym is) (leave_makes c id b d up head f.0 f.1)
-    go (entry.Register program) head f is = subst (λ (x : ClusterEvent). Makes c x id d []) (sym is) (register_makes c id b d up head program f.0 f.1)
-    go (entry.Ask program start) head f is =
-        subst (λ (x : ClusterEvent). Makes c x id d (gives b (entry.Ask program start))) (sym is) (ask_makes c id b d up head program start f.0 f.1)
-    go (entry.Store value) head f is = subst (λ (x : ClusterEvent). Makes c x id d (gives b (entry.Store value))) (sym is) (store_makes c id b d up head value f.0 f.1)
-    go (entry.Deliver m) head f is =
-        subst (λ (x : ClusterEvent). Makes c x id d (gives b (entry.Deliver m))) (sym is.2) (deliver_makes c id b d up head m is.0 f.0 is.1 f.1)
-    go entry.HandOut head f is = subst (λ (x : ClusterEvent). Makes c x id d []) (sym is) (hand_out_makes c id b d up head f.0 f.1)
-    go (entry.Post query ran) head f is =
-        subst (λ (x : ClusterEvent). Makes c x id d []) (sym is.2) (post_makes c id b d query ran f.0 is.0 are up right f.1 f.3 is.1)
+  pub entry_makes : (e : Entry) (ev : ClusterEvent) → IsRightLater d.desk → Follows b e d → IsEventOf c id e ev → Makes c ev id d (gives b e)
+  entry_makes entry.Leave ev right f is = subst (λ (x : ClusterEvent). Makes c x id d (gives b entry.Leave)) (sym is) (leave_makes c id b d up f.0 f.1)
+  entry_makes (entry.Register program) ev right f is = subst (λ (x : ClusterEvent). Makes c x id d []) (sym is) (register_makes c id b d up program f.0 f.1)
+  entry_makes (entry.Ask program start) ev right f is =
+      subst (λ (x : ClusterEvent). Makes c x id d (gives b (entry.Ask program start))) (sym is) (ask_makes c id b d up program start f.0 f.1)
+  entry_makes (entry.Store value) ev right f is = subst (λ (x : ClusterEvent). Makes c x id d (gives b (entry.Store value))) (sym is) (store_makes c id b d up value f.0 f.1)
+  entry_makes (entry.Deliver m) ev right f is =
+      subst (λ (x : ClusterEvent). Makes c x id d (gives b (entry.Deliver m))) (sym is.2) (deliver_makes c id b d up m is.0 f.0 is.1 f.1)
+  entry_makes entry.HandOut ev right f is = subst (λ (x : ClusterEvent). Makes c x id d []) (sym is) (hand_out_makes c id b d up f.0 f.1)
+  entry_makes (entry.Post query ran) ev right f is = subst (λ (x : ClusterEvent). Makes c x id d []) (sym is.2) (post_makes query ran f.0 is.0 right f.1 f.3 is.1)
 
--- where what an entry wants was sent, there is such an event
-pub entry_event : (c : ClusterState) (id : ℕ) (b d : BookState) (e : Entry) → JobsOf c → IsUp c id b → Follows b e d → CanGo c.world.sent (step_of b e) → (ev : ClusterEvent) × IsEventOf c id e ev
-entry_event c id b d entry.Leave are up f can = (event.Leave id, refl)
-entry_event c id b d (entry.Register program) are up f can = (event.Register id program, refl)
-entry_event c id b d (entry.Ask program start) are up f can = (event.Ask id program start, refl)
-entry_event c id b d (entry.Store value) are up f can = (event.Store id value, refl)
-entry_event c id b d (entry.Deliver m) are up f can = (event.Deliver can.0 id, (can.0, slice_get_read c.world.sent (length c.world.sent) can.0 m refl can.1 (sym can.2), refl))
-entry_event c id b d entry.HandOut are up f can = (event.HandOut id, refl)
-entry_event c id b d (entry.Post query ran) are up f can =
-    let a = (is_posted b f.0 ran d f.3).1 in
-    let desk_is : up.desk ≡ b.desk = ap (λ (x : BookState). x.desk) up.is in
-    let h = are.jobs.all id up.desk f.0.query a.query a.view up.here (ap (λ (x : DeskState). slice_get x.queries f.0.query) desk_is ∙ a.at) a.phase in
-    (event.Finish h.number, (h.number, subst (λ (k : ℕ). IsJobFor c.jobs id k h.number) f.1 h.is, refl))
-
--- ---- a node enters
-
-no_founder : (c : ClusterState) (id : ℕ) → IsHistory c → fin.get c.world.nodes id ≡ None → (k : Bool) → set.contains (set.from_list {R = nat_cmp} c.world.founders) id ≡ k
-    → (let o : Option (List ℕ) = None in o) ≡ cond k (Some c.world.founders) None
-no_founder c id h none true is = let f = (history_are c h).founders id is in absurd (no_some f.0 (sym none ∙ f.1))
-no_founder c id h none false is = refl
-
--- each node has a desk
-nobody_by : (c : ClusterState) (id : ℕ) (o : Option NodeState) (p : Option DeskState) → ((n : NodeState) → o ≡ Some n → p ≡ None → ⊥) → booked c id o p ≡ None → o ≡ None
-nobody_by c id None p both h = refl
-nobody_by c id (Some n) None both h = absurd (both n refl refl)
-nobody_by c id (Some n) (Some d) both h = absurd (no_some (book_of c id n d) (sym h))
-
-nobody_at : (c : ClusterState) (id : ℕ) → IsHistory c → book_at c id ≡ None → fin.get c.world.nodes id ≡ None
-nobody_at c id h absent =
-    nobody_by c id (fin.get c.world.nodes id) (fin.get c.desks id) (λ n at none. let d = (history_jobs c h).desks id n at in no_some d.0 (sym none ∙ d.1)) absent
+  -- where what an entry wants was sent, there is such an event
+  pub entry_event : (e : Entry) → Follows b e d → CanGo c.past.sent (step_of b e) → (ev : ClusterEvent) × IsEventOf c id e ev
+  entry_event entry.Leave f can = (event.Leave id, refl)
+  entry_event (entry.Register program) f can = (event.Register id program, refl)
+  entry_event (entry.Ask program start) f can = (event.Ask id program start, refl)
+  entry_event (entry.Store value) f can = (event.Store id value, refl)
+  entry_event (entry.Deliver m) f can = (event.Deliver can.0 id, (can.0, slice_get_read c.past.sent (length c.past.sent) can.0 m refl can.1 (sym can.2), refl))
+  entry_event entry.HandOut f can = (event.HandOut id, refl)
+  entry_event (entry.Post query ran) f can =
+      let a = (is_posted b f.0 ran d f.3).1 in
+      let had = (history_jobs c h id b stands).all f.0.query a.query a.view a.at a.phase in
+      (event.Finish had.number, (had.number, subst (λ (k : ℕ). IsJobFor c.jobs id k had.number) f.1 had.is, refl))
 
 -- ---- as laws
 
-pub next_up : (c : ClusterState) (id : ℕ) (b d : BookState) (e : Entry) → IsNext c id b e d → IsUp c id b
-next_up c id b d e n = is_up c id b n.book n.stays (follows-accepted b e d n.takes).there
-
-pub next_event : (c : ClusterState) (id : ℕ) (b d : BookState) (e : Entry) → IsHistory c → IsNext c id b e d → CanGo c.world.sent (step_of b e) → (ev : ClusterEvent) × IsEventOf c id e ev
-next_event c id b d e h n can = entry_event c id b d e (history_jobs c h) (next_up c id b d e n) n.takes can
+pub next_event : (c : ClusterState) (id : ℕ) (b d : BookState) (e : Entry) → IsHistory c → IsNext c id b e d → CanGo c.past.sent (step_of b e) → (ev : ClusterEvent) × IsEventOf c id e ev
+next_event c id b d e h n can = entry_event c h id b d (next_up c id b d e n) e n.takes can
 
 pub next_makes : (c : ClusterState) (id : ℕ) (b d : BookState) (e : Entry) (ev : ClusterEvent) → IsHistory c → IsNext c id b e d → AnswersAreRight d.desk → IsEventOf c id e ev → Makes c ev id d (gives b e)
 next_makes c id b d e ev h n right is =
-    entry_makes c id b d e ev (history_jobs c h) (next_up c id b d e n) (record { later = d.desk; keeps = keeps_itself d.desk; right = right }) n.takes is
+    entry_makes c h id b d (next_up c id b d e n) e ev (record { later = d.desk; keeps = keeps_itself d.desk; right = right }) n.takes is
 
 -- a node that was never there enters
-pub enter_turn : (c : ClusterState) (id : ℕ) → IsHistory c → fin.get c.world.nodes id ≡ None
-    → (let e = book.entered c.version c.world.config id in IsTurn c id e.0 e.1 (enters c id e).1)
-enter_turn c id h none =
-    let e = book.entered c.version c.world.config id in
-    put_turn c (recorded (past_of c.world) (world_event.Enter id) id e.1 None None) c.jobs id e.0 e.1
-    (refl, refl, refl, no_founder c id h none (set.contains (set.from_list {R = nat_cmp} c.world.founders) id) refl) refl
+pub enter_turn : (c : ClusterState) (id : ℕ) → (let e = book.entered c.version c.past.config id in IsTurn c id e.0 e.1 (enters c id e).1)
+enter_turn c id =
+    let e = book.entered c.version c.past.config id in
+    put_turn c (recorded c.past (world_event.Enter id) id e.1 None None) c.jobs id e.0 e.1 refl
 
-pub enter_makes : (c : ClusterState) (id : ℕ) → IsHistory c → book_at c id ≡ None
-    → Makes c (event.Enter id) id (book.entered c.version c.world.config id).0 (book.entered c.version c.world.config id).1
-enter_makes c id h absent =
-    let e = book.entered c.version c.world.config id in
-    let none = nobody_at c id h absent in
-    makes c (event.Enter id) id e.0 e.1 nothing (enters c id e) tt (λ r _. ap (entered c id) none) (enter_turn c id h none)
+pub enter_makes : (c : ClusterState) (id : ℕ) → book_at c id ≡ None → Makes c (event.Enter id) id (book.entered c.version c.past.config id).0 (book.entered c.version c.past.config id).1
+enter_makes c id absent =
+    let e = book.entered c.version c.past.config id in
+    makes c (event.Enter id) id e.0 e.1 nothing (enters c id e) tt (λ r _. ap (entered c id) absent) (enter_turn c id)

@@ -1,9 +1,8 @@
 -- The books are gathered by the events that are found, until none is.
-use Rattle.std.proofs.Common.{◌≡◌, ◌<◌, ℕ, true, List, [], ◌∷◌, ◌++◌, length, length-append, Some, refl, sym, ap, ◌∙◌, subst, slice_get, slice_set, get_or, arith, ◌+◌, inl, inr}
+use Rattle.std.proofs.Common.{◌≡◌, ◌<◌, ℕ, true, List, [], ◌∷◌, ◌++◌, length, length-append, Some, refl, sym, ap, ◌∙◌, subst, slice_get, slice_set, arith, ◌+◌, inl, inr}
 use Rattle.std.specs.List.{list_any}
 use Rattle.std.specs.Prelude.{nat_eq}
 use Rattle.std.proofs.lemmas.List.{append-nil}
-use Rattle.std.proofs.lemmas.Option.{slice_get-get_or}
 use Rattle.sc_msg.specs.declared.message.Message.{Message}
 use Rattle.q_desk.specs.declared.journal.Entry.{Entry}
 use Rattle.q_book.specs.State.{BookState}
@@ -12,7 +11,6 @@ use Rattle.q_history.specs.declared.event.ClusterStep.{ClusterStep}
 use Rattle.q_history.specs.State.{ClusterState}
 use Rattle.q_history.specs.Calls.{Follows}
 use Rattle.q_history.proofs.Lists.{same_some, no_some}
-use Rattle.q_cluster.specs.Acts.{book_at}
 use Rattle.q_gather.specs.Merging.{Step, CanGo, AreOver, Merges}
 use Rattle.q_gather.specs.Merging.Merges.{Over, Takes}
 use Rattle.q_gather.specs.Traces.{IsTraceFrom}
@@ -22,7 +20,7 @@ use Rattle.q_gather.specs.Gathered.{IsAt, Goes}
 use Rattle.q_gather.specs.Gathered.IsAt.{Away, There}
 use Rattle.q_gather.proofs.Lists.{get_after}
 use Rattle.q_gather.proofs.Merging.{merges_next, merges_stuck}
-use Rattle.q_gather.proofs.BooksGather.{goes_by, gathered, done_at, over_at}
+use Rattle.q_gather.proofs.BooksGather.{goes_by, gathered, done_at, over_at, all_over}
 use Rattle.q_gather.proofs.Tracing.{traces_one}
 use Rattle.q_gather.specs.Gather.{Merge}
 use Rattle.q_gather.specs.Gathering.{IsNextOf, IsNextAmong, HasTaken, HaveTaken, AreIdle, IsGathering, IsMerged}
@@ -44,10 +42,10 @@ module _ (books : List BookState) (c later : ClusterState) (numbers after : Numb
   goes : Goes books c g.left n.place turn.step turn.rest ev
   goes = goes_by books c g.left g.under_way n.place n.book n.at turn.step turn.rest turn.at ev turn.left turn.goes
 
-  pub goes_on : ((outs : List Message) → AreNumbers c.world.sent numbers → later.world.sent ≡ c.world.sent ++ outs → AreNumbers later.world.sent after) → IsGathering books later after
+  pub goes_on : ((outs : List Message) → AreNumbers c.past.sent numbers → later.past.sent ≡ c.past.sent ++ outs → AreNumbers later.past.sent after) → IsGathering books later after
   goes_on numbered =
       let rests : List (List (Step Message)) = slice_set g.left n.place turn.rest in
-      let sent : later.world.sent ≡ c.world.sent ++ turn.step.gives = goes.sent told later f in
+      let sent : later.past.sent ≡ c.past.sent ++ turn.step.gives = goes.sent told later f in
       record {
         lists = g.lists;
         traces = g.traces;
@@ -72,29 +70,23 @@ module _ (books : List BookState) (c later : ClusterState) (numbers after : Numb
       idle k b ev among at (subst (λ (x : BookState). IsNextOf c x ev) one n.next)
 
   -- where the event sent nothing, those that could not go on still cannot
-  idle_on : (places : List ℕ) → AreIdle c books places → length later.world.sent ≡ length c.world.sent → AreIdle later books places
+  idle_on : (places : List ℕ) → AreIdle c books places → length later.past.sent ≡ length c.past.sent → AreIdle later books places
   idle_on places idle long k b next among at is =
       let rests : List (List (Step Message)) = slice_set g.left n.place turn.rest in
-      let same : later.world.sent ≡ c.world.sent = sent_same c.world.sent later.world.sent turn.step.gives (goes.sent told later f) long in
+      let same : later.past.sent ≡ c.past.sent = sent_same c.past.sent later.past.sent turn.step.gives (goes.sent told later f) long in
       let now : Turn later rests k b next = turn_of books later rests (goes.goes told later f) k b at next is in
       elim (get_after g.left n.place turn.rest k (now.step ∷ now.rest) now.at) [
         | inl old ↦
-            let can : CanGo c.world.sent now.step = subst (λ (x : List Message). CanGo x now.step) same now.can in
+            let can : CanGo c.past.sent now.step = subst (λ (x : List Message). CanGo x now.step) same now.can in
             let before = next_is books c g.left g.under_way k b at now.step now.rest can old in
             idle k b before.0 among at before.1
         | inr new ↦ not_idle places idle k b new.0 among at
       ]
 
-  pub waiting_on : (places : List ℕ) (sent : ℕ) → sent ≡ length c.world.sent → AreIdle c books places → length later.world.sent ≡ sent → AreIdle later books places
+  pub waiting_on : (places : List ℕ) (sent : ℕ) → sent ≡ length c.past.sent → AreIdle c books places → length later.past.sent ≡ sent → AreIdle later books places
   waiting_on places sent is idle long = idle_on places idle (long ∙ is)
 
 -- ---- no event
-
-all_over : (lists : List (List (Step Message))) → ((k : ℕ) (steps : List (Step Message)) → slice_get lists k ≡ Some steps → steps ≡ []) → AreOver lists
-all_over lists over k d within = over k (get_or lists k d) (slice_get-get_or lists k d within)
-
-same_book : (c : ClusterState) (whole a b : BookState) → book_at c whole.id ≡ Some a → book_at c whole.id ≡ Some b → a ≡ b
-same_book c whole a b at here = same_some a b (sym at ∙ here)
 
 no_more : (left : List Entry) (n : ℕ) → n ≡ n + length left → left ≡ []
 no_more [] n h = refl
@@ -104,7 +96,7 @@ no_more (e ∷ es) n h = absurd (omega (arith, h))
 taken_over : (c : ClusterState) (whole : BookState) (left : List Entry) (steps : List (Step Message)) → IsAt c whole left steps → HasTaken c whole → steps ≡ []
 taken_over c whole left steps (Away absent none is t) taken = absurd (no_some taken.book (sym absent ∙ taken.at))
 taken_over c whole left steps (There b here t) taken =
-    let same : taken.book ≡ b = same_book c whole taken.book b taken.at here in
+    let same : taken.book ≡ b = same_some taken.book b (sym taken.at ∙ here) in
     let long : length b.desk.journal ≡ length b.desk.journal + length left =
     ap (λ (x : BookState). length x.desk.journal) (sym same) ∙ taken.all ∙ trace_length left b steps whole t in
     over_by left (no_more left (length b.desk.journal) long) t
@@ -140,7 +132,7 @@ module _ (books : List BookState) (c : ClusterState) (numbers : NumberList) (g :
   pub stuck : ((ev : ClusterEvent) → IsNextAmong c books ev → ⊥) → (HaveTaken c books → ⊥) → Merge books → ⊥
   stuck none some m =
       let same : m.lists ≡ g.lists = traces_one books m.lists g.lists m.traces g.traces in
-      let on : Merges Message c.world.sent g.left = g.on (subst (Merges Message []) same m.merges) in
+      let on : Merges Message c.past.sent g.left = g.on (subst (Merges Message []) same m.merges) in
       some (taken_by (merges_stuck on (λ k s rest at can.
       let b = g.under_way.few k (s ∷ rest) at in
       let ev = next_is books c g.left g.under_way k b.0 b.1 s rest can at in

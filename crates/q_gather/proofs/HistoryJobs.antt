@@ -1,9 +1,7 @@
 -- The jobs of every history: each is that of a query which runs or was answered, and each query that runs has one.
-use Rattle.std.proofs.Common.{◌≡◌, ℕ, ◌==◌, Bool, true, false, cond, List, [], ◌∷◌, ◌++◌, length, Option, Some, None, refl, sym, ap, ◌∙◌, subst, ◌⊎◌, inl, inr, slice_get, slice_set}
+use Rattle.std.proofs.Common.{◌≡◌, ℕ, ◌==◌, Bool, true, false, List, [], ◌∷◌, ◌++◌, length, Option, Some, None, refl, sym, ap, ◌∙◌, subst, ◌⊎◌, inl, inr, slice_get, slice_set}
 use Rattle.std.proofs.lemmas.Bool.{eqb-true, eqb-false}
-use Rattle.std.specs.FinMap as fin
 use Rattle.sc_view.specs.Views.{ViewMap}
-use Rattle.sc_world.proofs.Finite.{get-insert, get-insert_same}
 use Rattle.sc_world.proofs.Histories.{slice_get_front, slice_get_last}
 use Rattle.bq_check.specs.Certificate.{Certificate}
 use Rattle.q_session.specs.declared.query.Phase.{Phase}
@@ -13,8 +11,8 @@ use Rattle.q_session.specs.declared.job.Job.{Job}
 use Rattle.q_desk.specs.State.{DeskState}
 use Rattle.q_desk.proofs.Accepted.{IsReadyJob}
 use Rattle.q_desk.proofs.Changes.{GoesOver, readied, handed, recorded, Change, stays, grows, begins, rephased}
-use Rattle.q_history.specs.Clusters.{Desks, with_job}
-use Rattle.q_history.proofs.Lists.{same_some, get_snoc, get_elsewhere}
+use Rattle.q_history.specs.Clusters.{with_job}
+use Rattle.q_history.proofs.Lists.{same_some, no_some, get_snoc, get_elsewhere}
 use Rattle.q_gather.specs.Turns.{IsJobFor}
 use Rattle.q_gather.proofs.Lists.{get-same, get_after}
 
@@ -40,55 +38,28 @@ pub record HasJob (jobs : List Job) (id k : ℕ) : Type 0 where
   pub number : ℕ
   pub is : IsJobFor jobs id k number
 
-pub record JobsAre (desks : Desks) (jobs : List Job) : Type 0 where
-  pub each : (number : ℕ) (j : Job) → slice_get jobs number ≡ Some j → (d : DeskState) × (fin.get desks j.node ≡ Some d) × IsOut d.programs d.queries j
-  pub all : (id : ℕ) (d : DeskState) (k : ℕ) (q : Query) (v : ViewMap) → fin.get desks id ≡ Some d → slice_get d.queries k ≡ Some q → q.phase ≡ Running v → HasJob jobs id k
+-- the jobs of the cluster that are this node's are those of its desk
+pub record AreJobsOf (jobs : List Job) (id : ℕ) (d : DeskState) : Type 0 where
+  pub each : (number : ℕ) (j : Job) → slice_get jobs number ≡ Some j → j.node ≡ id → IsOut d.programs d.queries j
+  pub all : (k : ℕ) (q : Query) (v : ViewMap) → slice_get d.queries k ≡ Some q → q.phase ≡ Running v → HasJob jobs id k
 
--- ---- a desk is put in
+-- ---- a call after which no other query runs
 
-module _ (desks : Desks) (jobs : List Job) (are : JobsAre desks jobs) (id : ℕ) (e : DeskState) (later : List Job) (more : (number : ℕ) (j : Job) → slice_get jobs number ≡ Some j → slice_get later number ≡ Some j)
-    (new : (number : ℕ) (j : Job) → slice_get later number ≡ Some j → (slice_get jobs number ≡ Some j) ⊎ ((j.node ≡ id) × IsOut e.programs e.queries j))
-    (stay : (d : DeskState) (j : Job) → fin.get desks id ≡ Some d → IsOut d.programs d.queries j → IsOut e.programs e.queries j)
-    (run : (k : ℕ) (q : Query) (v : ViewMap) → slice_get e.queries k ≡ Some q → q.phase ≡ Running v → HasJob later id k) where
-  old_by : (j : Job) (d : DeskState) (b : Bool) → (j.node == id) ≡ b → fin.get desks j.node ≡ Some d → IsOut d.programs d.queries j
-      → (x : DeskState) × (fin.get (fin.insert desks id e) j.node ≡ Some x) × IsOut x.programs x.queries j
-  old_by j d true is at out = (
-    e,
-    get-insert desks id e j.node ∙ ap (λ (b : Bool). cond b (Some e) (fin.get desks j.node)) is,
-    stay d j (ap (fin.get desks) (sym (eqb-true j.node id is)) ∙ at) out,
-  )
-  old_by j d false is at out = (d, get-insert desks id e j.node ∙ ap (λ (b : Bool). cond b (Some e) (fin.get desks j.node)) is ∙ at, out)
-
-  each_by : (number : ℕ) (j : Job) → (slice_get jobs number ≡ Some j) ⊎ ((j.node ≡ id) × IsOut e.programs e.queries j)
-      → (x : DeskState) × (fin.get (fin.insert desks id e) j.node ≡ Some x) × IsOut x.programs x.queries j
-  each_by number j (inl old) = let k = are.each number j old in old_by j k.0 (j.node == id) refl k.1 k.2
-  each_by number j (inr n) = (e, ap (fin.get (fin.insert desks id e)) n.0 ∙ get-insert_same desks id e, n.1)
-
-  all_by : (p : ℕ) (d : DeskState) (k : ℕ) (q : Query) (v : ViewMap) (b : Bool) → (p == id) ≡ b → cond b (Some e) (fin.get desks p) ≡ Some d → slice_get d.queries k ≡ Some q → q.phase ≡ Running v → HasJob later p k
-  all_by p d k q v true is at here runs =
-      subst (λ (x : ℕ). HasJob later x k) (sym (eqb-true p id is))
-      (run k q v (ap (λ (x : DeskState). slice_get x.queries k) (same_some e d at) ∙ here) runs)
-  all_by p d k q v false is at here runs =
-      let h = are.all p d k q v at here runs in
-      record { number = h.number; is = record { job = h.is.job; at = more h.number h.is.job h.is.at; by = h.is.by; of = h.is.of } }
-
-  pub put_jobs : JobsAre (fin.insert desks id e) later
-  put_jobs = record {
-    each = λ number j at. each_by number j (new number j at);
-    all = λ p d k q v at here runs. all_by p d k q v (p == id) refl (sym (get-insert desks id e p) ∙ at) here runs;
-  }
-
--- a call after which no other query runs
 record IsQuiet (d e : DeskState) : Type 0 where
   stay : (j : Job) → IsOut d.programs d.queries j → IsOut e.programs e.queries j
   run : (k : ℕ) (q : Query) (v : ViewMap) → slice_get e.queries k ≡ Some q → q.phase ≡ Running v → slice_get d.queries k ≡ Some q
 
-quiet_jobs : (desks : Desks) (jobs : List Job) (id : ℕ) (d e : DeskState) → JobsAre desks jobs
-    → fin.get desks id ≡ Some d → IsQuiet d e → JobsAre (fin.insert desks id e) jobs
-quiet_jobs desks jobs id d e are at quiet =
-    put_jobs desks jobs are id e jobs (λ number j h. h) (λ number j h. inl h)
-    (λ x j here out. quiet.stay j (subst (λ (z : DeskState). IsOut z.programs z.queries j) (same_some x d (sym here ∙ at)) out))
-    (λ k q v here runs. are.all id d k q v at (quiet.run k q v here runs) runs)
+quiet_jobs : (jobs : List Job) (id : ℕ) (d e : DeskState) → AreJobsOf jobs id d → IsQuiet d e → AreJobsOf jobs id e
+quiet_jobs jobs id d e are quiet = record {
+  each = λ number j at by. quiet.stay j (are.each number j at by);
+  all = λ k q v here runs. are.all k q v (quiet.run k q v here runs) runs;
+}
+
+-- a job stays where one more is handed out
+more_jobs : (jobs : List Job) (j : Job) (id k : ℕ) → HasJob jobs id k → HasJob (jobs ++ j ∷ []) id k
+more_jobs jobs j id k h =
+    let at = slice_get_front jobs (j ∷ []) h.number h.is.job h.is.at in
+    record { number = h.number; is = record { job = h.is.job; at = at; by = h.is.by; of = h.is.of } }
 
 -- ---- queries that move
 
@@ -177,9 +148,8 @@ module _ (d e : DeskState) (k : ℕ) (q : Query) (p : Phase) (at : slice_get d.q
   }
 
   -- its job is handed out
-  handed_jobs : (desks : Desks) (jobs : List Job) (id : ℕ) (j : Job) → JobsAre desks jobs → fin.get desks id ≡ Some d → IsReadyJob d id j → j.query ≡ k
-      → p ≡ Running j.view → JobsAre (fin.insert desks id e) (jobs ++ j ∷ [])
-  handed_jobs desks jobs id j are here r of is =
+  handed_jobs : (jobs : List Job) (id : ℕ) (j : Job) → AreJobsOf jobs id d → IsReadyJob d id j → j.query ≡ k → p ≡ Running j.view → AreJobsOf (jobs ++ j ∷ []) id e
+  handed_jobs jobs id j are r of is =
       let one : r.query ≡ q = same_some r.query q (sym r.at ∙ ap (slice_get d.queries) of ∙ at) in
       let mine : IsOut d.programs (slice_set d.queries k new) j = record {
         query = new;
@@ -189,47 +159,62 @@ module _ (d e : DeskState) (k : ℕ) (q : Query) (p : Phase) (at : slice_get d.q
         certified = r.certified;
         runs = subst (λ (x : Phase). RunsOver x j.view) (sym is) refl;
       } in
-      put_jobs desks jobs are id e (jobs ++ j ∷ []) (λ number i there. slice_get_front jobs (j ∷ []) number i there)
-      (λ number i there. elim (get_snoc jobs j number i there) [
-        | inl old ↦ inl old
-        | inr same ↦ inr (subst (λ (z : Job). (z.node ≡ id) × IsOut e.programs e.queries z) same (r.by, moved_out j mine))
-      ])
-      (λ x i there o. phase_stay i (subst (λ (z : DeskState). IsOut z.programs z.queries i) (same_some x d (sym there ∙ here)) o))
-      (λ i x v there runs. elim (phase_run i x v there runs) [
-        | inl old ↦
-            let had = are.all id d i x v here old runs in
-            let there = slice_get_front jobs (j ∷ []) had.number had.is.job had.is.at in
-            record { number = had.number; is = record { job = had.is.job; at = there; by = had.is.by; of = had.is.of } }
-        | inr b ↦ record { number = length jobs; is = record { job = j; at = slice_get_last jobs j; by = r.by; of = of ∙ sym b.0 } }
-      ])
+      record {
+        each = λ number i there by. elim (get_snoc jobs j number i there) [
+          | inl old ↦ phase_stay i (are.each number i old by)
+          | inr same ↦ subst (λ (z : Job). IsOut e.programs e.queries z) same (moved_out j mine)
+        ];
+        all = λ i x v there runs. elim (phase_run i x v there runs) [
+          | inl old ↦ more_jobs jobs j id i (are.all i x v old runs)
+          | inr b ↦ record { number = length jobs; is = record { job = j; at = slice_get_last jobs j; by = r.by; of = of ∙ sym b.0 } }
+        ];
+      }
 
 -- ---- an accepted call
 
-module _ (desks : Desks) (jobs : List Job) (id : ℕ) (d e : DeskState) (are : JobsAre desks jobs) (here : fin.get desks id ≡ Some d) where
-  with_jobs : (o p : Option Job) → o ≡ p → JobsAre (fin.insert desks id e) (with_job jobs p) → JobsAre (fin.insert desks id e) (with_job jobs o)
-  with_jobs o p is now = subst (λ (x : Option Job). JobsAre (fin.insert desks id e) (with_job jobs x)) (sym is) now
+module _ (jobs : List Job) (id : ℕ) (d e : DeskState) where
+  -- a job that it hands out is one of its node's
+  its_node : (j : Job) → Change d id e (Some j) → j.node ≡ id
+  its_node j (rephased k q p at (readied view is to none) programs queries) = absurd (no_some j (sym none))
+  its_node j (rephased k q p at (handed i r of to some) programs queries) = ap (λ (x : Job). x.node) (same_some j i some) ∙ r.by
+  its_node j (rephased k q p at (recorded i view ran is fits to none) programs queries) = absurd (no_some j (sym none))
 
-  goes_jobs : (k : ℕ) (q : Query) (p : Phase) (o : Option Job) → slice_get d.queries k ≡ Some q → GoesOver d id k q p o → e.programs ≡ d.programs
-      → e.queries ≡ slice_set d.queries k (record q { phase = p }) → JobsAre (fin.insert desks id e) (with_job jobs o)
-  goes_jobs k q p o at (readied view is to none) programs queries =
-      with_jobs o None none
-      (quiet_jobs desks jobs id d e are here
-      (phase_quiet d e k q p at programs queries (λ v r. absurd (none_over q.phase Collecting v is (λ x. x) r))
-      (λ v runs. let no : Ready view ≡ Running v = sym to ∙ runs in absurd (cc))))
-  goes_jobs k q p o at (handed j r of to some) programs queries =
-      let one : r.query ≡ q = same_some r.query q (sym r.at ∙ ap (slice_get d.queries) of ∙ at) in
-      let ready : q.phase ≡ Ready j.view = ap (λ (x : Query). x.phase) (sym one) ∙ r.phase in
-      with_jobs o (Some j) some
-      (handed_jobs d e k q p at programs queries (λ v over. absurd (none_over q.phase (Ready j.view) v ready (λ x. x) over)) desks jobs id j are here r of to)
-  goes_jobs k q p o at (recorded j view ran is fits to none) programs queries =
-      with_jobs o None none
-      (quiet_jobs desks jobs id d e are here
-      (phase_quiet d e k q p at programs queries
-      (λ v r. subst (λ (x : Phase). RunsOver x v) (sym to) (subst (λ (x : Phase). RunsOver x v) is r))
-      (λ v runs. let no : Answered view ran ≡ Running v = sym to ∙ runs in absurd (cc))))
+  -- so the jobs of other nodes are as they were
+  pub away_jobs : (o : Option Job) → Change d id e o → (q : ℕ) (x : DeskState) → (q ≡ id → ⊥) → AreJobsOf jobs q x → AreJobsOf (with_job jobs o) q x
+  away_jobs None change q x away are = are
+  away_jobs (Some j) change q x away are = record {
+    each = λ number i at by. elim (get_snoc jobs j number i at) [
+      | inl old ↦ are.each number i old by
+      | inr same ↦ absurd (away (sym by ∙ ap (λ (y : Job). y.node) (sym same) ∙ its_node j change))
+    ];
+    all = λ k r v here runs. more_jobs jobs j q k (are.all k r v here runs);
+  }
 
-  pub change_jobs : (o : Option Job) → Change d id e o → JobsAre (fin.insert desks id e) (with_job jobs o)
-  change_jobs None (stays programs queries) = quiet_jobs desks jobs id d e are here (still_quiet d e (same_programs d e programs) queries)
-  change_jobs None (grows more queries) = quiet_jobs desks jobs id d e are here (still_quiet d e more queries)
-  change_jobs None (begins q collects programs queries) = quiet_jobs desks jobs id d e are here (begins_quiet d e q collects programs queries)
-  change_jobs o (rephased k q p at goes programs queries) = goes_jobs k q p o at goes programs queries
+  module _ (are : AreJobsOf jobs id d) where
+    with_jobs : (o p : Option Job) → o ≡ p → AreJobsOf (with_job jobs p) id e → AreJobsOf (with_job jobs o) id e
+    with_jobs o p is now = subst (λ (x : Option Job). AreJobsOf (with_job jobs x) id e) (sym is) now
+
+    goes_jobs : (k : ℕ) (q : Query) (p : Phase) (o : Option Job) → slice_get d.queries k ≡ Some q → GoesOver d id k q p o → e.programs ≡ d.programs
+        → e.queries ≡ slice_set d.queries k (record q { phase = p }) → AreJobsOf (with_job jobs o) id e
+    goes_jobs k q p o at (readied view is to none) programs queries =
+        with_jobs o None none
+        (quiet_jobs jobs id d e are
+        (phase_quiet d e k q p at programs queries (λ v r. absurd (none_over q.phase Collecting v is (λ x. x) r))
+        (λ v runs. let no : Ready view ≡ Running v = sym to ∙ runs in absurd (cc))))
+    goes_jobs k q p o at (handed j r of to some) programs queries =
+        let one : r.query ≡ q = same_some r.query q (sym r.at ∙ ap (slice_get d.queries) of ∙ at) in
+        let ready : q.phase ≡ Ready j.view = ap (λ (x : Query). x.phase) (sym one) ∙ r.phase in
+        with_jobs o (Some j) some
+        (handed_jobs d e k q p at programs queries (λ v over. absurd (none_over q.phase (Ready j.view) v ready (λ x. x) over)) jobs id j are r of to)
+    goes_jobs k q p o at (recorded j view ran is fits to none) programs queries =
+        with_jobs o None none
+        (quiet_jobs jobs id d e are
+        (phase_quiet d e k q p at programs queries
+        (λ v r. subst (λ (x : Phase). RunsOver x v) (sym to) (subst (λ (x : Phase). RunsOver x v) is r))
+        (λ v runs. let no : Answered view ran ≡ Running v = sym to ∙ runs in absurd (cc))))
+
+    pub change_jobs : (o : Option Job) → Change d id e o → AreJobsOf (with_job jobs o) id e
+    change_jobs None (stays programs queries) = quiet_jobs jobs id d e are (still_quiet d e (same_programs d e programs) queries)
+    change_jobs None (grows more queries) = quiet_jobs jobs id d e are (still_quiet d e more queries)
+    change_jobs None (begins q collects programs queries) = quiet_jobs jobs id d e are (begins_quiet d e q collects programs queries)
+    change_jobs o (rephased k q p at goes programs queries) = goes_jobs k q p o at goes programs queries

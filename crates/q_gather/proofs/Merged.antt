@@ -1,28 +1,22 @@
 -- The books of each history merge.
-use Rattle.std.proofs.Common.{◌≡◌, ℕ, zero, suc, ◌==◌, Bool, true, false, List, [], ◌∷◌, ◌++◌, get_or, Option, Some, None, refl, sym, ap, ◌∙◌, subst, inl, inr, slice_get, slice_set}
+use Rattle.std.proofs.Common.{◌≡◌, ℕ, zero, suc, ◌==◌, Bool, true, false, List, [], ◌∷◌, ◌++◌, Some, None, refl, sym, ap, ◌∙◌, subst, inl, inr, slice_get, slice_set}
 use Rattle.std.proofs.lemmas.Bool.{eqb-true, eqb-false}
 use Rattle.std.proofs.lemmas.List.{append_cancel_left}
-use Rattle.std.proofs.lemmas.Option.{slice_get-get_or}
-use Rattle.std.specs.FinMap as fin
 use Rattle.sc_msg.specs.declared.message.Message.{Message}
-use Rattle.sc_node.specs.State.{NodeState}
 use Rattle.sc_node.specs.Nodes as node
-use Rattle.q_desk.specs.State.{DeskState}
-use Rattle.q_desk.specs.Answers.{AnswersAreRight}
 use Rattle.q_desk.specs.declared.journal.Entry.{Entry}
 use Rattle.q_book.specs.State.{BookState}
 use Rattle.q_book.specs.Books as book
 use Rattle.q_book.specs.Replays as replays
-use Rattle.q_book.specs.Replays.{IsReplay}
 use Rattle.q_history.specs.declared.event.ClusterEvent.{ClusterEvent}
 use Rattle.q_history.specs.State.{ClusterState}
-use Rattle.q_history.specs.Heads.{book_of}
 use Rattle.q_history.specs.Clusters.{start}
-use Rattle.q_history.specs.Calls.{Reaches, IsHistory}
+use Rattle.q_history.specs.Calls.{Reaches}
 use Rattle.q_history.proofs.Lists.{same_some, no_some, get_elsewhere}
-use Rattle.q_history.proofs.Histories.{history_next, history_kept}
-use Rattle.q_history.proofs.EveryBook.{history_are, history_books}
-use Rattle.q_cluster.specs.Acts.{booked, book_at}
+use Rattle.q_history.proofs.Kept.{IsKept}
+use Rattle.q_history.proofs.Histories.{history_kept}
+use Rattle.q_history.proofs.EveryBook.{history_books}
+use Rattle.q_cluster.specs.Acts.{book_at}
 use Rattle.q_gather.specs.Merging.{Step, CanGo, AreOver, Merges}
 use Rattle.q_gather.specs.Merging.Merges.{Over, Takes}
 use Rattle.q_gather.specs.Traces.{step_of, IsTraceFrom, IsTrace}
@@ -30,8 +24,7 @@ use Rattle.q_gather.specs.Turns.{IsTurn}
 use Rattle.q_gather.specs.Gathered.{AreDistinct, HasBook, AreRight, AgreeOn, IsGathered, IsAt}
 use Rattle.q_gather.specs.Gathered.IsAt.{Away, There}
 use Rattle.q_gather.proofs.Lists.{get-same, get_after}
-use Rattle.q_gather.proofs.EveryJob.{history_jobs}
-use Rattle.q_gather.proofs.BooksGather.{IsPlaced}
+use Rattle.q_gather.proofs.BooksGather.{IsPlaced, all_over}
 use Rattle.q_gather.proofs.Beginning.{begins}
 use Rattle.q_book.proofs.Followed.{follows_one}
 use Rattle.q_book.proofs.Replays.{IsLater, replays_later}
@@ -89,7 +82,7 @@ record IsComing (books : List BookState) (c : ClusterState) (lists : List Steps)
   at : (k : ℕ) (b : BookState) → slice_get books k ≡ Some b → IsPlaced c lists k b
   few : (k : ℕ) (steps : Steps) → slice_get lists k ≡ Some steps → (b : BookState) × (slice_get books k ≡ Some b)
   all : (id : ℕ) (b : BookState) → book_at c id ≡ Some b → HasBook books id
-  merges : Merges Message c.world.sent lists
+  merges : Merges Message c.past.sent lists
 
 -- a node at which nothing happened was where it is
 at_stayed : (c later : ClusterState) (whole : BookState) (left : List Entry) (steps : Steps) → book_at later whole.id ≡ book_at c whole.id → IsAt later whole left steps → IsAt c whole left steps
@@ -97,7 +90,7 @@ at_stayed c later whole left steps same (Away absent none is t) = Away (sym same
 at_stayed c later whole left steps same (There b at t) = There b (sym same ∙ at) t
 
 module _ (books : List BookState) (distinct : AreDistinct books) (c later : ClusterState) (lists : List Steps) (coming : IsComing books later lists) where
-  rests_back : ((id : ℕ) → book_at later id ≡ book_at c id) → later.world.sent ≡ c.world.sent → IsComing books c lists
+  rests_back : ((id : ℕ) → book_at later id ≡ book_at c id) → later.past.sent ≡ c.past.sent → IsComing books c lists
   rests_back same sent = record {
     at = λ k b here. let p = coming.at k b here in (p.0, p.1, p.2, at_stayed c later b p.2 p.0 (same b.id) p.3);
     few = coming.few;
@@ -107,7 +100,7 @@ module _ (books : List BookState) (distinct : AreDistinct books) (c later : Clus
 
   -- a node went on by this step, behind which these are left
   module _ (id : ℕ) (d : BookState) (outs : List Message) (turn : IsTurn c id d outs later) (k : ℕ) (whole : BookState) (mine : slice_get books k ≡ Some whole) (of : whole.id ≡ id) (steps : Steps)
-      (there : slice_get lists k ≡ Some steps) (s : Step Message) (left : List Entry) (was : IsAt c whole left (s ∷ steps)) (can : CanGo c.world.sent s) (sends : s.gives ≡ outs) where
+      (there : slice_get lists k ≡ Some steps) (s : Step Message) (left : List Entry) (was : IsAt c whole left (s ∷ steps)) (can : CanGo c.past.sent s) (sends : s.gives ≡ outs) where
     placed_by : (i : ℕ) (b : BookState) (same : Bool) → (i == k) ≡ same → slice_get books i ≡ Some b → IsPlaced c (slice_set lists k (s ∷ steps)) i b
     placed_by i b true is here =
         let place : i ≡ k = eqb-true i k is in
@@ -130,11 +123,11 @@ module _ (books : List BookState) (distinct : AreDistinct books) (c later : Clus
     all_by q b true is at = record { place = k; book = whole; at = mine; of = of ∙ sym (eqb-true q id is) }
     all_by q b false is at = coming.all q b (turn.others q (eqb-false q id is) ∙ at)
 
-    merges_back : Merges Message c.world.sent (slice_set lists k (s ∷ steps))
+    merges_back : Merges Message c.past.sent (slice_set lists k (s ∷ steps))
     merges_back =
         Takes k s steps (get-same lists k steps (s ∷ steps) there) can
-        (subst (λ (x : List Steps). Merges Message (c.world.sent ++ s.gives) x) (sym (set_back lists k (s ∷ steps) steps there))
-        (subst (λ (x : List Message). Merges Message x lists) (turn.sent ∙ ap (λ (x : List Message). c.world.sent ++ x) (sym sends)) coming.merges))
+        (subst (λ (x : List Steps). Merges Message (c.past.sent ++ s.gives) x) (sym (set_back lists k (s ∷ steps) steps there))
+        (subst (λ (x : List Message). Merges Message x lists) (turn.sent ∙ ap (λ (x : List Message). c.past.sent ++ x) (sym sends)) coming.merges))
 
     went_back : IsComing books c (slice_set lists k (s ∷ steps))
     went_back = record {
@@ -149,7 +142,7 @@ module _ (books : List BookState) (distinct : AreDistinct books) (c later : Clus
   left_there id d whole left steps here of (Away absent none is t) = absurd (no_some d (sym absent ∙ ap (book_at later) of ∙ here))
   left_there id d whole left steps here of (There b at t) = subst (λ (x : BookState). IsTraceFrom x left steps whole) (same_some b d (sym at ∙ ap (book_at later) of ∙ here)) t
 
-  goes_back : (id : ℕ) (b d : BookState) (e : Entry) → book_at c id ≡ Some b → replays.Follows b e d → CanGo c.world.sent (step_of b e) → IsTurn c id d (step_of b e).gives later
+  goes_back : (id : ℕ) (b d : BookState) (e : Entry) → book_at c id ≡ Some b → replays.Follows b e d → CanGo c.past.sent (step_of b e) → IsTurn c id d (step_of b e).gives later
       → (more : List Steps) × IsComing books c more
   goes_back id b d e here f can turn =
       let h = coming.all id d turn.book in
@@ -159,12 +152,12 @@ module _ (books : List BookState) (distinct : AreDistinct books) (c later : Clus
       (slice_set lists h.place (step_of b e ∷ p.0), went_back id d (step_of b e).gives turn h.place h.book h.at h.of p.0 p.1 (step_of b e) (e ∷ p.2) was can refl)
 
   -- the steps of a node that entered
-  module _ (id : ℕ) (whole : BookState) (left : List Entry) (steps : Steps) (t : IsTraceFrom (book.entered c.version c.world.config id).0 left steps whole) where
+  module _ (id : ℕ) (whole : BookState) (left : List Entry) (steps : Steps) (t : IsTraceFrom (book.entered c.version c.past.config id).0 left steps whole) where
     abbrev new : BookState
-    new = (book.entered c.version c.world.config id).0
+    new = (book.entered c.version c.past.config id).0
 
     abbrev first : Step Message
-    first = record { wants = None; gives = (book.entered c.version c.world.config id).1 }
+    first = record { wants = None; gives = (book.entered c.version c.past.config id).1 }
 
     on : IsLater new left whole
     on = from_onward left new whole steps t
@@ -175,7 +168,7 @@ module _ (books : List BookState) (distinct : AreDistinct books) (c later : Clus
         let entries : left ≡ whole.desk.journal = sym on.adds in
         subst (λ (x : BookState). IsTrace x (first ∷ steps)) on.same
         (record {
-          first = (node.entered c.world.config id).0;
+          first = (node.entered c.past.config id).0;
           begun = refl;
           rest = steps;
           trace =
@@ -187,9 +180,9 @@ module _ (books : List BookState) (distinct : AreDistinct books) (c later : Clus
     entered_alone : whole.founders ≡ None
     entered_alone = ap (λ (x : BookState). x.founders) (sym on.same)
 
-  enters_back : (id : ℕ) → book_at c id ≡ None → IsTurn c id (book.entered c.version c.world.config id).0 (book.entered c.version c.world.config id).1 later → (more : List Steps) × IsComing books c more
+  enters_back : (id : ℕ) → book_at c id ≡ None → IsTurn c id (book.entered c.version c.past.config id).0 (book.entered c.version c.past.config id).1 later → (more : List Steps) × IsComing books c more
   enters_back id absent turn =
-      let e = book.entered c.version c.world.config id in
+      let e = book.entered c.version c.past.config id in
       let h = coming.all id e.0 turn.book in
       let p = coming.at h.place h.book h.at in
       let t = left_there id e.0 h.book p.2 p.0 turn.book h.of p.3 in
@@ -202,11 +195,11 @@ module _ (books : List BookState) (distinct : AreDistinct books) (c later : Clus
   back (Goes id b d e here f can turn) = goes_back id b d e here f can turn
   back (Enters id absent turn) = enters_back id absent turn
 
-run_back : (books : List BookState) → AreDistinct books → (es : List ClusterEvent) (c d : ClusterState) → IsHistory c → Reaches c es d → (lists : List Steps) → IsComing books d lists → (more : List Steps) × IsComing books c more
-run_back books distinct [] c d h r lists coming = (lists, subst (λ (x : ClusterState). IsComing books x lists) r coming)
-run_back books distinct (e ∷ es) c d h r lists coming =
-    let rest = run_back books distinct es r.1 d (history_next c r.1 e r.0 h r.2) r.3 lists coming in
-    back books distinct c r.1 rest.0 rest.1 (event_moves c r.1 e r.0 h r.2)
+run_back : (books : List BookState) → AreDistinct books → (es : List ClusterEvent) (c d : ClusterState) → Reaches c es d → (lists : List Steps) → IsComing books d lists → (more : List Steps) × IsComing books c more
+run_back books distinct [] c d r lists coming = (lists, subst (λ (x : ClusterState). IsComing books x lists) r coming)
+run_back books distinct (e ∷ es) c d r lists coming =
+    let rest = run_back books distinct es r.1 d r.3 lists coming in
+    back books distinct c r.1 rest.0 rest.1 (event_moves c r.1 e r.0 r.2)
 
 -- ---- the end, where nothing is left
 
@@ -221,7 +214,7 @@ nothing_few (x ∷ xs) zero steps h = (sym (same_some [] steps h), (x, refl))
 nothing_few (x ∷ xs) (suc k) steps h = nothing_few xs k steps h
 
 nothing_over : (books : List BookState) → AreOver (nothing_left books)
-nothing_over books k d less = (nothing_few books k (get_or (nothing_left books) k d) (slice_get-get_or (nothing_left books) k d less)).0
+nothing_over books = all_over (nothing_left books) (λ k steps at. (nothing_few books k steps at).0)
 
 end_coming : (books : List BookState) (c : ClusterState) → IsGathered books c → IsComing books c (nothing_left books)
 end_coming books c g = record {
@@ -233,50 +226,27 @@ end_coming books c g = record {
 
 -- ---- gathered books may be gathered
 
--- the parts of a book of a cluster
-record IsBooked (c : ClusterState) (id : ℕ) (b : BookState) : Type 0 where
-  node : NodeState
-  desk : DeskState
-  at : fin.get c.world.nodes id ≡ Some node
-  here : fin.get c.desks id ≡ Some desk
-  is : book_of c id node desk ≡ b
-
-booked_is : (c : ClusterState) (id : ℕ) (b : BookState) (o : Option NodeState) (p : Option DeskState) → fin.get c.world.nodes id ≡ o → fin.get c.desks id ≡ p → booked c id o p ≡ Some b → IsBooked c id b
-booked_is c id b None p at here h = absurd (no_some b h)
-booked_is c id b (Some n) None at here h = absurd (no_some b h)
-booked_is c id b (Some n) (Some d) at here h = record { node = n; desk = d; at = at; here = here; is = same_some (book_of c id n d) b h }
-
 module _ (books : List BookState) (c : ClusterState) (g : IsGathered books c) (distinct : AreDistinct books) where
-  parts_of : (k : ℕ) (b : BookState) → slice_get books k ≡ Some b → IsBooked c b.id b
-  parts_of k b here = booked_is c b.id b (fin.get c.world.nodes b.id) (fin.get c.desks b.id) refl refl (g.each k b here)
+  kept : IsKept c
+  kept = history_kept c g.history
 
   are_right : AreRight books
-  are_right k b here =
-      let p = parts_of k b here in
-      subst (λ (x : BookState). AnswersAreRight x.desk) p.is ((history_kept c g.history).desks b.id p.desk p.here).right
+  are_right k b here = (kept.desks b.id b (g.each k b here)).right
 
-  are_replays : (k : ℕ) (b : BookState) → slice_get books k ≡ Some b → IsReplay b
-  are_replays k b here =
-      let p = parts_of k b here in
-      subst IsReplay p.is (history_books c g.history b.id p.node p.desk p.at p.here)
-
-  agree : AgreeOn books c.version c.world.config c.world.founders
+  agree : AgreeOn books c.version c.past.config c.past.founders
   agree = record {
     taken = g.history.2;
-    versions = λ k b here. ap (λ (x : BookState). x.version) (sym (parts_of k b here).is);
-    heads = λ k b here. let is = sym (parts_of k b here).is in (ap (λ (x : BookState). x.config) is, ap (λ (x : BookState). x.founders) is);
-    there = λ id listed.
-        let n = (history_are c g.history).founders id listed in
-        let d = (history_jobs c g.history).desks id n.0 n.1 in
-        g.all id (book_of c id n.0 d.0) (λ i. booked c id (n.1 i) (d.1 i));
+    versions = λ k b here. (kept.headed b.id b (g.each k b here)).version;
+    heads = λ k b here. let head = kept.headed b.id b (g.each k b here) in (head.config, head.founders);
+    there = λ id listed. let b = kept.founders id listed in g.all id b.0 b.1;
   }
 
-  pub gathered_may : MayGather books c.version c.world.config c.world.founders
+  pub gathered_may : MayGather books c.version c.past.config c.past.founders
   gathered_may =
-      let begin = start c.version c.world.config c.world.founders in
-      let own = all_traced books are_replays in
-      let first = begins c.version c.world.config c.world.founders books own.0 distinct are_right agree own.1 in
-      let way = run_back books distinct g.history.0 begin c first.history g.history.1 (nothing_left books) (end_coming books c g) in
+      let begin = start c.version c.past.config c.past.founders in
+      let own = all_traced books (λ k b here. (history_books c g.history b.id b (g.each k b here)).1) in
+      let first = begins c.version c.past.config c.past.founders books own.0 distinct are_right agree own.1 in
+      let way = run_back books distinct g.history.0 begin c g.history.1 (nothing_left books) (end_coming books c g) in
       record {
         distinct = distinct;
         right = are_right;

@@ -1,20 +1,16 @@
 -- Books that stand are gathered, or refused.
-use Rattle.std.proofs.Common.{◌≡◌, ℕ, zero, suc, List, [], ◌∷◌, Some, Result, Ok, Err, refl, sym, ◌∙◌, subst, slice_get}
+use Rattle.std.proofs.Common.{◌≡◌, ℕ, List, [], Result, Ok, Err, refl, sym, ◌∙◌, subst}
 use Rattle.std.specs.Prelude.{IfOk, IfErr, IsErrAnd, MatchResult}
 use Rattle.sc_members.specs.Members.{Config}
-use Rattle.sc_msg.specs.declared.message.Message.{Message}
 use Rattle.sc_msg.specs.declared.version.Version.{Version}
 use Rattle.q_book.specs.State.{BookState}
 use Rattle.q_history.specs.State.{ClusterState}
 use Rattle.q_history.specs.Clusters.{start}
-use Rattle.q_history.proofs.Lists.{same_some, no_some}
-use Rattle.q_gather.specs.Merging.{Step}
 use Rattle.q_gather.specs.Numbers.{NumberList}
-use Rattle.q_gather.specs.Traces.{IsTrace}
-use Rattle.q_gather.specs.Gathered.{AreDistinct, AreRight, AgreeOn, AreTraces, IsGathered}
-use Rattle.q_gather.proofs.Tracing.{trace_some}
+use Rattle.q_gather.specs.Gathered.{AreDistinct, AreRight, AgreeOn, IsGathered}
 use Rattle.q_gather.proofs.Beginning.{begins}
 use Rattle.q_gather.proofs.NumberFinding.{no_numbers}
+use Rattle.q_gather.proofs.FrontsGather.{all_traced}
 use Rattle.q_gather.specs.Gather.{Agree, Merge, GathersBooks, AreRefused}
 use Rattle.q_gather.specs.Heads.{AreReplays, IsUnfounded}
 use Rattle.q_gather.specs.Gathering.{IsGathering, IsMerged, IsStuck}
@@ -23,29 +19,10 @@ use Rattle.q_gather.specs.declared.fault.GatherFault.TheVariants.{Journal, IdUse
 
 -- ---- the start
 
-module _ (x : BookState) (xs : List BookState) (steps : List (Step Message)) (own : IsTrace x steps) (lists : List (List (Step Message))) (t : AreTraces xs lists) where
-  each_with : (k : ℕ) (b : BookState) → slice_get (x ∷ xs) k ≡ Some b → (s : List (Step Message)) × (slice_get (steps ∷ lists) k ≡ Some s) × IsTrace b s
-  each_with zero b at = (steps, refl, subst (λ (y : BookState). IsTrace y steps) (same_some x b at) own)
-  each_with (suc k) b at = t.each k b at
-
-  few_with : (k : ℕ) (s : List (Step Message)) → slice_get (steps ∷ lists) k ≡ Some s → (b : BookState) × (slice_get (x ∷ xs) k ≡ Some b)
-  few_with zero s at = (x, refl)
-  few_with (suc k) s at = t.few k s at
-
-  traces_with : AreTraces (x ∷ xs) (steps ∷ lists)
-  traces_with = record { each = each_with; few = few_with }
-
-traces_some : (books : List BookState) → AreReplays books → (lists : List (List (Step Message))) × AreTraces books lists
-traces_some [] all = ([], record { each = λ k b at. absurd (no_some b at); few = λ k s at. absurd (no_some s at) })
-traces_some (x ∷ xs) all =
-    let own = trace_some x (all 0 x refl).0 in
-    let rest = traces_some xs (λ k b at. all (suc k) b at) in
-    (own.0 ∷ rest.0, traces_with x xs own.0 own.1 rest.0 rest.1)
-
 -- before any event
 gathering_starts : (books : List BookState) → AreReplays books → AreDistinct books → (version : Version) (config : Config) (founders : List ℕ) → AgreeOn books version config founders → IsGathering books (start version config founders) []
 gathering_starts books all distinct version config founders agree =
-    let t = traces_some books all in
+    let t = all_traced books (λ k b at. (all k b at).0) in
     let right : AreRight books = λ k b at. (all k b at).1 in
     record {
       lists = t.0;

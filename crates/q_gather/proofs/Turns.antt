@@ -1,7 +1,6 @@
 -- The next event of a node takes the first of its steps.
 use Rattle.std.proofs.Common.{◌≡◌, ◌<◌, ◌+◌, ◌-◌, ℕ, zero, suc, List, [], ◌∷◌, ◌++◌, length, Option, Some, None, refl, sym, ap, ◌∙◌, subst, slice_get, arith, length-append}
 use Rattle.std.specs.Prelude.{IfSome, Contains}
-use Rattle.std.proofs.lemmas.Option.{get_or_from_slice_get, slice_get_within}
 use Rattle.sc_msg.specs.declared.message.Message.{Message}
 use Rattle.q_desk.specs.declared.journal.Entry.{Entry}
 use Rattle.q_desk.specs.declared.journal.Entry.TheVariants as entry
@@ -17,6 +16,7 @@ use Rattle.q_gather.specs.Traces.{wants, step_of, IsTraceFrom, entering, IsTrace
 use Rattle.q_gather.specs.Turns.{IsEventOf, IsTurn}
 use Rattle.q_gather.specs.Gathered.{IsAt, IsUnderWay}
 use Rattle.q_gather.specs.Gathered.IsAt.{Away, There}
+use Rattle.q_gather.proofs.Lists.{get_contains}
 use Rattle.q_gather.proofs.BooksGather.{NodeGoes, enter_goes, entry_goes, entry_event}
 use Rattle.q_gather.specs.Gathering.{IsNextEntry, IsNextAfter, IsNextOf}
 use Rattle.q_book.proofs.Replays.{replays_later}
@@ -60,17 +60,13 @@ pub record Turn (c : ClusterState) (lists : List (List (Step Message))) (k : ℕ
   pub step : Step Message
   pub rest : List (Step Message)
   pub at : slice_get lists k ≡ Some (step ∷ rest)
-  pub can : CanGo c.world.sent step
+  pub can : CanGo c.past.sent step
   pub left : List Entry
   pub goes : NodeGoes c whole step rest ev left
   pub before : left_of c whole ≡ suc (length left)
 
--- a message that was sent is among the messages that were
-sent_is : (sent : List Message) (number : ℕ) (m : Message) → slice_get sent number ≡ Some m → Contains sent m
-sent_is sent number m at = (number, slice_get_within sent number m at, get_or_from_slice_get sent number m m at)
-
-can_go : (c : ClusterState) (id : ℕ) (ev : ClusterEvent) (e : Entry) → IsEventOf c id e ev → IfSome (wants e) (Contains c.world.sent)
-can_go c id ev (entry.Deliver m) is = sent_is c.world.sent is.0 m is.1
+can_go : (c : ClusterState) (id : ℕ) (ev : ClusterEvent) (e : Entry) → IsEventOf c id e ev → IfSome (wants e) (Contains c.past.sent)
+can_go c id ev (entry.Deliver m) is = get_contains c.past.sent is.0 m is.1
 can_go c id ev entry.Leave is = tt
 can_go c id ev (entry.Register program) is = tt
 can_go c id ev (entry.Ask program start) is = tt
@@ -125,7 +121,7 @@ module _ (books : List BookState) (c : ClusterState) (lists : List (List (Step M
     pub turn_of : Turn c lists k whole ev
     turn_of = let p = u.at k whole mine in turn_by p.0 p.1 p.2 p.3
 
-  module _ (s : Step Message) (rest : List (Step Message)) (can : CanGo c.world.sent s) where
+  module _ (s : Step Message) (rest : List (Step Message)) (can : CanGo c.past.sent s) where
     next_there : (b : BookState) → book_at c whole.id ≡ Some b → (left : List Entry) → IsTraceFrom b left (s ∷ rest) whole → (ev : ClusterEvent) × IsNextOf c whole ev
     next_there b here [] t = absurd (no_step s rest t.0)
       where

@@ -52,7 +52,7 @@ pub record IsGathered (books : List BookState) (c : ClusterState) : Type 0 where
   pub history : IsHistory c
   pub each : (k : ℕ) (b : BookState) → slice_get books k ≡ Some b → book_at c b.id ≡ Some b
   pub all : (id : ℕ) (b : BookState) → book_at c id ≡ Some b → HasBook books id
-  pub nobody : c.world.crashed ≡ set.empty
+  pub nobody : c.past.crashed ≡ set.empty
 
 -- ---- while they are gathered
 
@@ -68,10 +68,10 @@ pub record IsUnderWay (books : List BookState) (c : ClusterState) (lists : List 
   pub distinct : AreDistinct books
   pub right : AreRight books
   pub versions : (k : ℕ) (b : BookState) → slice_get books k ≡ Some b → b.version ≡ c.version
-  pub same : (k : ℕ) (b : BookState) → slice_get books k ≡ Some b → b.config ≡ c.world.config
+  pub same : (k : ℕ) (b : BookState) → slice_get books k ≡ Some b → b.config ≡ c.past.config
   pub at : (k : ℕ) (b : BookState) → slice_get books k ≡ Some b → (steps : List (Step Message)) × (slice_get lists k ≡ Some steps) × (left : List Entry) × IsAt c b left steps
   pub all : (id : ℕ) (b : BookState) → book_at c id ≡ Some b → HasBook books id
-  pub nobody : c.world.crashed ≡ set.empty
+  pub nobody : c.past.crashed ≡ set.empty
   pub few : (k : ℕ) (steps : List (Step Message)) → slice_get lists k ≡ Some steps → (b : BookState) × (slice_get books k ≡ Some b)
 
 -- the event takes the first step of this list
@@ -80,4 +80,4 @@ pub record Goes (books : List BookState) (c : ClusterState) (lists : List (List 
   pub later : ClusterState
   pub accepted : Follows c event told later
   pub goes : (told : ClusterStep) (later : ClusterState) → Follows c event told later → IsUnderWay books later (slice_set lists k rest)
-  pub sent : (told : ClusterStep) (later : ClusterState) → Follows c event told later → later.world.sent ≡ c.world.sent ++ s.gives
+  pub sent : (told : ClusterStep) (later : ClusterState) → Follows c event told later → later.past.sent ≡ c.past.sent ++ s.gives

@@ -49,7 +49,7 @@ AreIdle c books places = (k : ℕ) (b : BookState) (ev : ClusterEvent) → list_
 
 -- as long as no more was sent, those of which it was noted that they wait cannot go on
 abbrev pub AreWaiting : ClusterState → List BookState → Rounds → Type 0
-AreWaiting c books rounds = length c.world.sent ≡ rounds.sent → AreIdle c books rounds.waiting.keys
+AreWaiting c books rounds = length c.past.sent ≡ rounds.sent → AreIdle c books rounds.waiting.keys
 
 -- what is next of the books from one place up to another: nothing, or the event of a book
 abbrev pub IsNextWithin : ClusterState → List BookState → ℕ → ℕ → Option ClusterEvent → Type 0
@@ -73,9 +73,9 @@ pub record IsGathering (books : List BookState) (c : ClusterState) (numbers : Nu
   pub traces : AreTraces books lists
   pub left : List (List (Step Message))
   pub under_way : IsUnderWay books c left
-  pub on : Merges Message [] lists → Merges Message c.world.sent left
-  pub back : Merges Message c.world.sent left → Merges Message [] lists
-  pub numbered : AreNumbers c.world.sent numbers
+  pub on : Merges Message [] lists → Merges Message c.past.sent left
+  pub back : Merges Message c.past.sent left → Merges Message [] lists
+  pub numbered : AreNumbers c.past.sent numbers
 
 -- all are gathered
 abbrev pub IsMerged : List BookState → ClusterState → Type 0

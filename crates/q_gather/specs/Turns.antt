@@ -28,25 +28,25 @@ IsEventOf c id entry.Leave ev = ev ≡ event.Leave id
 IsEventOf c id (entry.Register program) ev = ev ≡ event.Register id program
 IsEventOf c id (entry.Ask program start) ev = ev ≡ event.Ask id program start
 IsEventOf c id (entry.Store value) ev = ev ≡ event.Store id value
-IsEventOf c id (entry.Deliver m) ev = (number : ℕ) × (slice_get c.world.sent number ≡ Some m) × (ev ≡ event.Deliver number id)
+IsEventOf c id (entry.Deliver m) ev = (number : ℕ) × (slice_get c.past.sent number ≡ Some m) × (ev ≡ event.Deliver number id)
 IsEventOf c id entry.HandOut ev = ev ≡ event.HandOut id
 IsEventOf c id (entry.Post query ran) ev = (number : ℕ) × IsJobFor c.jobs id query number × (ev ≡ event.Finish number)
 
 -- the entry is the next of this node, which has not crashed, and its call leads to another book
 pub record IsNext (c : ClusterState) (id : ℕ) (b : BookState) (e : Entry) (d : BookState) : Type 0 where
   pub book : book_at c id ≡ Some b
-  pub stays : set.contains c.world.crashed id ≡ false
+  pub stays : set.contains c.past.crashed id ≡ false
   pub takes : replays.Follows b e d
 
 -- the node's book is this later, the others are as they were, and these messages were sent; nobody crashed
 pub record IsTurn (c : ClusterState) (id : ℕ) (b : BookState) (outs : List Message) (later : ClusterState) : Type 0 where
   pub book : book_at later id ≡ Some b
   pub others : (p : ℕ) → (p ≡ id → ⊥) → book_at later p ≡ book_at c p
-  pub sent : later.world.sent ≡ c.world.sent ++ outs
-  pub crashed : later.world.crashed ≡ c.world.crashed
+  pub sent : later.past.sent ≡ c.past.sent ++ outs
+  pub crashed : later.past.crashed ≡ c.past.crashed
   pub version : later.version ≡ c.version
-  pub config : later.world.config ≡ c.world.config
-  pub founders : later.world.founders ≡ c.world.founders
+  pub config : later.past.config ≡ c.past.config
+  pub founders : later.past.founders ≡ c.past.founders
 
 -- the event is accepted, and makes this turn
 pub record Makes (c : ClusterState) (ev : ClusterEvent) (id : ℕ) (b : BookState) (outs : List Message) : Type 0 where

@@ -39,7 +39,7 @@ pub fn beginnings_merge()
 /// A law: the books of a cluster may be gathered, where each is there once. So books gather into some cluster just
 /// where they are of different nodes, have right answers, agree on their heads, and merge.
 pub fn gathered_books_merge()
-    ensures may { (books : List BookState) (c : ClusterState) → IsGathered books c → AreDistinct books → MayGather books c.version c.world.config c.world.founders }
+    ensures may { (books : List BookState) (c : ClusterState) → IsGathered books c → AreDistinct books → MayGather books c.version c.past.config c.past.founders }
     ensures gathers { (books : List BookState) (version : Version) (config : Config) (founders : List ℕ) → MayGather books version config founders → (c : ClusterState) × IsGathered books c }
 {
     books_gather();

@@ -51,7 +51,7 @@ impl Gathering {
 
     /// How many messages were sent.
     pub(crate) fn sent(&self) -> usize
-        ensures { result ≡ length self.now.cluster.world.sent }
+        ensures { result ≡ length self.now.cluster.past.sent }
     {
         self.cluster.sent()
     }
@@ -59,7 +59,7 @@ impl Gathering {
     /// Takes an event, and gives the messages that it sends their numbers.
     pub(crate) fn take(&mut self, event: &ClusterEvent) -> Result<(), AllocError>
         ensures event { OnOk result ((told : ClusterStep) × Follows self.old.cluster event.now told self.new.cluster) }
-        ensures numbers { (outs : List Message) → AreNumbers self.old.cluster.world.sent self.old.numbers → self.new.cluster.world.sent ≡ self.old.cluster.world.sent ++ outs → OnOk result (AreNumbers self.new.cluster.world.sent self.new.numbers) }
+        ensures numbers { (outs : List Message) → AreNumbers self.old.cluster.past.sent self.old.numbers → self.new.cluster.past.sent ≡ self.old.cluster.past.sent ++ outs → OnOk result (AreNumbers self.new.cluster.past.sent self.new.numbers) }
     {
         let before = self.cluster.sent();
         // An event that can go is refused for want of memory alone.
@@ -72,7 +72,7 @@ impl Gathering {
 
     /// The event by which the node of a book goes on, where it can: it enters, or takes its next entry.
     pub(crate) fn next_of(&self, book: &Book) -> Result<Option<ClusterEvent>, AllocError>
-        ensures { AreNumbers self.now.cluster.world.sent self.now.numbers → IfOk result (Finds (IsNextOf self.now.cluster book.now)) }
+        ensures { AreNumbers self.now.cluster.past.sent self.now.numbers → IfOk result (Finds (IsNextOf self.now.cluster book.now)) }
     {
         let id = book.id();
         let Some(now) = self.cluster.book(id) else {
@@ -86,7 +86,7 @@ impl Gathering {
 
     /// The entry as an event of this node, where the message that it delivers was sent.
     fn event_of(&self, node: u64, entry: &Entry) -> Result<Option<ClusterEvent>, AllocError>
-        ensures { AreNumbers self.now.cluster.world.sent self.now.numbers → IfOk result (Finds (IsEventOf self.now.cluster node entry.now)) }
+        ensures { AreNumbers self.now.cluster.past.sent self.now.numbers → IfOk result (Finds (IsEventOf self.now.cluster node entry.now)) }
     {
         let event = match entry {
             Entry::Leave => ClusterEvent::Leave(node),
@@ -192,7 +192,7 @@ fn keep_job(jobs: &mut Jobs, event: &ClusterEvent, told: EventAnswer) -> Result<
 
 /// Gives the messages from this number on their numbers.
 fn number_from(cluster: &Cluster, numbers: &mut Numbers, first: usize) -> Result<(), AllocError>
-    ensures { AreNumbers (take first cluster.now.world.sent) numbers.old → OnOk result (AreNumbers cluster.now.world.sent numbers.new) }
+    ensures { AreNumbers (take first cluster.now.past.sent) numbers.old → OnOk result (AreNumbers cluster.now.past.sent numbers.new) }
 {
     numbers_are_least();
     for number in first..cluster.sent() {

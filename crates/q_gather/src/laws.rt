@@ -52,9 +52,9 @@ pub fn order_is_free()
 /// the cluster. The event is accepted; then the node's book is the one that the entry leads to, the others are as they
 /// were, and what the entry gives was sent. So is it where a node enters that was never there.
 pub fn entries_are_events()
-    ensures event { (c : ClusterState) (id : ℕ) (b d : BookState) (e : Entry) → IsHistory c → IsNext c id b e d → CanGo c.world.sent (step_of b e) → (ev : ClusterEvent) × IsEventOf c id e ev }
+    ensures event { (c : ClusterState) (id : ℕ) (b d : BookState) (e : Entry) → IsHistory c → IsNext c id b e d → CanGo c.past.sent (step_of b e) → (ev : ClusterEvent) × IsEventOf c id e ev }
     ensures makes { (c : ClusterState) (id : ℕ) (b d : BookState) (e : Entry) (ev : ClusterEvent) → IsHistory c → IsNext c id b e d → AnswersAreRight d.desk → IsEventOf c id e ev → Makes c ev id d (gives b e) }
-    ensures enters { (c : ClusterState) (id : ℕ) → IsHistory c → book_at c id ≡ None → Makes c (ClusterEvent.Enter id) id (entered c.version c.world.config id).0 (entered c.version c.world.config id).1 }
+    ensures enters { (c : ClusterState) (id : ℕ) → IsHistory c → book_at c id ≡ None → Makes c (ClusterEvent.Enter id) id (entered c.version c.past.config id).0 (entered c.version c.past.config id).1 }
 {}
 
 /// A law: each book that is the replay of its journal has one trace.
@@ -69,7 +69,7 @@ pub fn one_trace()
 /// event of the cluster, after which one step less is left; and where none is left, the books of the cluster are these.
 pub fn books_gather()
     ensures begins { (books : List BookState) (version : Version) (config : Config) (founders : List ℕ) (lists : List (List (Step Message))) → AreDistinct books → AreRight books → AgreeOn books version config founders → AreTraces books lists → IsUnderWay books (start version config founders) lists }
-    ensures goes { (books : List BookState) (c : ClusterState) (lists : List (List (Step Message))) (k : ℕ) (s : Step Message) (rest : List (Step Message)) → IsUnderWay books c lists → slice_get lists k ≡ Some (s ∷ rest) → CanGo c.world.sent s → (event : ClusterEvent) × Goes books c lists k s rest event }
+    ensures goes { (books : List BookState) (c : ClusterState) (lists : List (List (Step Message))) (k : ℕ) (s : Step Message) (rest : List (Step Message)) → IsUnderWay books c lists → slice_get lists k ≡ Some (s ∷ rest) → CanGo c.past.sent s → (event : ClusterEvent) × Goes books c lists k s rest event }
     ensures over { (books : List BookState) (c : ClusterState) (lists : List (List (Step Message))) → IsUnderWay books c lists → AreOver lists → IsGathered books c }
     ensures gathers { (books : List BookState) (version : Version) (config : Config) (founders : List ℕ) (lists : List (List (Step Message))) → AreDistinct books → AreRight books → AgreeOn books version config founders → AreTraces books lists → Merges Message [] lists → (c : ClusterState) × IsGathered books c }
 {}

@@ -60,9 +60,9 @@ impl Rounds {
         gathering: &Gathering,
         books: &[Book],
     ) -> Result<Option<ClusterEvent>, AllocError>
-        ensures next { AreNumbers gathering.now.cluster.world.sent gathering.now.numbers → AreWaiting gathering.now.cluster books.now self.old → IfOk result (Finds (IsNextAmong gathering.now.cluster books.now)) }
-        ensures waiting { AreNumbers gathering.now.cluster.world.sent gathering.now.numbers → AreWaiting gathering.now.cluster books.now self.old → OnOk result (AreIdle gathering.now.cluster books.now self.new.waiting.keys) }
-        ensures sent { self.new.sent ≡ length gathering.now.cluster.world.sent }
+        ensures next { AreNumbers gathering.now.cluster.past.sent gathering.now.numbers → AreWaiting gathering.now.cluster books.now self.old → IfOk result (Finds (IsNextAmong gathering.now.cluster books.now)) }
+        ensures waiting { AreNumbers gathering.now.cluster.past.sent gathering.now.numbers → AreWaiting gathering.now.cluster books.now self.old → OnOk result (AreIdle gathering.now.cluster books.now self.new.waiting.keys) }
+        ensures sent { self.new.sent ≡ length gathering.now.cluster.past.sent }
     {
         self.wake(gathering.sent());
         let first = self.first.min(books.len());
@@ -93,8 +93,8 @@ impl Rounds {
         end: usize,
     ) -> Result<Option<ClusterEvent>, AllocError>
         requires { end ≤ length books.now }
-        ensures next { AreNumbers gathering.now.cluster.world.sent gathering.now.numbers → AreIdle gathering.now.cluster books.now self.old.waiting.keys → IfOk result (IsNextWithin gathering.now.cluster books.now first end) }
-        ensures waiting { AreNumbers gathering.now.cluster.world.sent gathering.now.numbers → AreIdle gathering.now.cluster books.now self.old.waiting.keys → OnOk result (AreIdle gathering.now.cluster books.now self.new.waiting.keys) }
+        ensures next { AreNumbers gathering.now.cluster.past.sent gathering.now.numbers → AreIdle gathering.now.cluster books.now self.old.waiting.keys → IfOk result (IsNextWithin gathering.now.cluster books.now first end) }
+        ensures waiting { AreNumbers gathering.now.cluster.past.sent gathering.now.numbers → AreIdle gathering.now.cluster books.now self.old.waiting.keys → OnOk result (AreIdle gathering.now.cluster books.now self.new.waiting.keys) }
         ensures sent { self.new.sent ≡ self.old.sent }
     {
         for place in first..end {
@@ -113,8 +113,8 @@ impl Rounds {
         place: usize,
     ) -> Result<Option<ClusterEvent>, AllocError>
         requires { place < length books.now }
-        ensures next { AreNumbers gathering.now.cluster.world.sent gathering.now.numbers → AreIdle gathering.now.cluster books.now self.old.waiting.keys → IfOk result (IsNextWithin gathering.now.cluster books.now place (place + 1)) }
-        ensures waiting { AreNumbers gathering.now.cluster.world.sent gathering.now.numbers → AreIdle gathering.now.cluster books.now self.old.waiting.keys → OnOk result (AreIdle gathering.now.cluster books.now self.new.waiting.keys) }
+        ensures next { AreNumbers gathering.now.cluster.past.sent gathering.now.numbers → AreIdle gathering.now.cluster books.now self.old.waiting.keys → IfOk result (IsNextWithin gathering.now.cluster books.now place (place + 1)) }
+        ensures waiting { AreNumbers gathering.now.cluster.past.sent gathering.now.numbers → AreIdle gathering.now.cluster books.now self.old.waiting.keys → OnOk result (AreIdle gathering.now.cluster books.now self.new.waiting.keys) }
         ensures sent { self.new.sent ≡ self.old.sent }
     {
         if self.waiting.contains(&place) {

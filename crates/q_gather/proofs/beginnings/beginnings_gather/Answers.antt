@@ -7,10 +7,10 @@ pub returns : goal.returns
 returns c = record {
   gathers = λ wholes parts d g distinct begun hold.
       let may = c.gathered_books_merge.ensures.may wholes d g distinct in
-      let later = c.gathered_books_merge.ensures.gathers parts d.version d.world.config d.world.founders (parts_gather wholes parts d.version d.world.config d.world.founders may begun hold) in
+      let later = c.gathered_books_merge.ensures.gathers parts d.version d.past.config d.past.founders (parts_gather wholes parts d.version d.past.config d.past.founders may begun hold) in
       let e = later.0 in
       let h = later.1.history in
-      (e, later.1, c.every_answer_is_true.ensures e.version e.world.config e.world.founders h.0 e h.1);
+      (e, later.1, c.every_answer_is_true.ensures e.version e.past.config e.past.founders h.0 e h.1);
   may = λ wholes parts version config founders may begun hold. parts_gather wholes parts version config founders may begun hold;
   stay = λ part whole r is. answers_stay part whole r is;
 }
