@@ -1,7 +1,6 @@
 -- Books are gathered one step after another.
-use Rattle.std.proofs.Common.{◌≡◌, ℕ, ◌==◌, Bool, true, false, List, [], ◌∷◌, ◌++◌, Option, Some, None, refl, sym, ap, ◌∙◌, subst, inl, inr, slice_get, slice_set, get_or}
+use Rattle.std.proofs.Common.{◌≡◌, ℕ, ◌==◌, Bool, true, false, List, [], ◌∷◌, ◌++◌, Option, Some, None, refl, sym, ap, ◌∙◌, subst, inl, inr, slice_get, slice_set}
 use Rattle.std.proofs.lemmas.Bool.{eqb-true, eqb-false}
-use Rattle.std.proofs.lemmas.Option.{get_or_from_slice_get, slice_get_within, slice_get-get_or}
 use Rattle.std.specs.Ordering.{nat_cmp}
 use Rattle.std.specs.FinSet as set
 use Rattle.sc_msg.specs.declared.message.Message.{Message}
@@ -23,7 +22,7 @@ use Rattle.q_gather.specs.Turns.{IsEventOf, IsNext, IsTurn, Makes}
 use Rattle.q_gather.specs.Gathered.{HasBook, IsGathered, IsAt, IsUnderWay, Goes}
 use Rattle.q_gather.specs.Gathered.IsAt.{Away, There}
 use Rattle.q_gather.proofs.Lists.{get-same, get_after}
-use Rattle.q_gather.proofs.Merging.{same_first}
+use Rattle.q_gather.proofs.Merging.{over_at, same_first}
 use Rattle.q_gather.proofs.Turning.{next_up}
 use Rattle.q_gather.proofs.Entries.{next_event, entry_makes, enter_makes}
 use Rattle.q_book.proofs.Replays.{replays_later}
@@ -95,15 +94,45 @@ module _ (c : ClusterState) (whole : BookState) (s : Step Message) (rest : List 
     node_goes left its same (There b at t) = entries_go left b at t
 
 -- a node at which nothing happens stays where it is
-at_stays : (c later : ClusterState) (id : ℕ) (b : BookState) (outs : List Message) → IsTurn c id b outs later → (whole : BookState) (left : List Entry) (steps : List (Step Message)) → (whole.id ≡ id → ⊥)
-    → IsAt c whole left steps → IsAt later whole left steps
-at_stays c later id b outs turn whole left steps away (Away absent none is t) = Away (turn.others whole.id away ∙ absent) none is t
-at_stays c later id b outs turn whole left steps away (There x at t) = There x (turn.others whole.id away ∙ at) t
+pub at_stays : (c d : ClusterState) (whole : BookState) (left : List Entry) (steps : List (Step Message)) → book_at d whole.id ≡ book_at c whole.id → IsAt c whole left steps → IsAt d whole left steps
+at_stays c d whole left steps same (Away absent none is t) = Away (same ∙ absent) none is t
+at_stays c d whole left steps same (There b at t) = There b (same ∙ at) t
 
 -- ---- all nodes
 
 abbrev pub IsPlaced : ClusterState → List (List (Step Message)) → ℕ → BookState → Type 0
 IsPlaced c lists k b = (steps : List (Step Message)) × (slice_get lists k ≡ Some steps) × (left : List Entry) × IsAt c b left steps
+
+-- the steps that are left of one book are others
+module _ (books : List BookState) (k : ℕ) (whole : BookState) (mine : slice_get books k ≡ Some whole) where
+  module _ (c : ClusterState) (lists : List (List (Step Message))) (steps : List (Step Message)) (own : IsPlaced c (slice_set lists k steps) k whole)
+      (others : (i : ℕ) (b : BookState) → (i ≡ k → ⊥) → slice_get books i ≡ Some b → IsPlaced c lists i b) where
+    placed_by : (i : ℕ) (b : BookState) (same : Bool) → (i == k) ≡ same → slice_get books i ≡ Some b → IsPlaced c (slice_set lists k steps) i b
+    placed_by i b true is here =
+        let place : k ≡ i = sym (eqb-true i k is) in
+        let one : whole ≡ b = same_some whole b (sym mine ∙ ap (slice_get books) place ∙ here) in
+        subst (λ (p : ℕ). IsPlaced c (slice_set lists k steps) p b) place (subst (IsPlaced c (slice_set lists k steps) k) one own)
+    placed_by i b false is here =
+        let p = others i b (eqb-false i k is) here in
+        (p.0, get_elsewhere lists k steps i p.0 (eqb-false i k is) p.1, p.2, p.3)
+
+    pub placed_set : (i : ℕ) (b : BookState) → slice_get books i ≡ Some b → IsPlaced c (slice_set lists k steps) i b
+    placed_set i b here = placed_by i b (i == k) refl here
+
+  pub few_set : (lists : List (List (Step Message))) (steps : List (Step Message)) → ((i : ℕ) (x : List (Step Message)) → slice_get lists i ≡ Some x → (b : BookState) × (slice_get books i ≡ Some b))
+      → (i : ℕ) (x : List (Step Message)) → slice_get (slice_set lists k steps) i ≡ Some x → (b : BookState) × (slice_get books i ≡ Some b)
+  few_set lists steps few i x here = elim (get_after lists k steps i x here) [
+    | inl old ↦ few i x old
+    | inr new ↦ (whole, ap (slice_get books) new.0 ∙ mine)
+  ]
+
+  has_by : (id : ℕ) (same : Bool) → (id == whole.id) ≡ same → ((id ≡ whole.id → ⊥) → HasBook books id) → HasBook books id
+  has_by id true is other = record { place = k; book = whole; at = mine; of = sym (eqb-true id whole.id is) }
+  has_by id false is other = other (eqb-false id whole.id is)
+
+  -- a node has a book if it has one where it is another
+  pub has_book : (id : ℕ) → ((id ≡ whole.id → ⊥) → HasBook books id) → HasBook books id
+  has_book id other = has_by id (id == whole.id) refl other
 
 module _ (books : List BookState) (c : ClusterState) (lists : List (List (Step Message))) (u : IsUnderWay books c lists) (k : ℕ) (whole : BookState) (mine : slice_get books k ≡ Some whole) (s : Step Message)
     (rest : List (Step Message)) (at : slice_get lists k ≡ Some (s ∷ rest)) where
@@ -117,26 +146,10 @@ module _ (books : List BookState) (c : ClusterState) (lists : List (List (Step M
 
   module _ (ev : ClusterEvent) (left : List Entry) (g : NodeGoes c whole s rest ev left) where
     module _ (later : ClusterState) (turn : IsTurn c whole.id g.book s.gives later) where
-      placed_by : (i : ℕ) (b : BookState) (same : Bool) → (i == k) ≡ same → slice_get books i ≡ Some b → IsPlaced later (slice_set lists k rest) i b
-      placed_by i b true is here =
-          let place : i ≡ k = eqb-true i k is in
-          let one : whole ≡ b = same_some whole b (sym mine ∙ ap (slice_get books) (sym place) ∙ here) in
-          subst (IsPlaced later (slice_set lists k rest) i) one
-          (rest, ap (slice_get (slice_set lists k rest)) place ∙ get-same lists k (s ∷ rest) rest at, left, There g.book turn.book g.trace)
-      placed_by i b false is here =
-          let away : i ≡ k → ⊥ = eqb-false i k is in
+      elsewhere : (i : ℕ) (b : BookState) → (i ≡ k → ⊥) → slice_get books i ≡ Some b → IsPlaced later lists i b
+      elsewhere i b away here =
           let p = u.at i b here in
-          (p.0, get_elsewhere lists k rest i p.0 away p.1, p.2, at_stays c later whole.id g.book s.gives turn b p.2 p.0 (λ same. away (u.distinct i k b whole here mine same)) p.3)
-
-      all_by : (id : ℕ) (b : BookState) (same : Bool) → (id == whole.id) ≡ same → book_at later id ≡ Some b → HasBook books id
-      all_by id b true is here = record { place = k; book = whole; at = mine; of = sym (eqb-true id whole.id is) }
-      all_by id b false is here = u.all id b (sym (turn.others id (eqb-false id whole.id is)) ∙ here)
-
-      few_by : (i : ℕ) (steps : List (Step Message)) → slice_get (slice_set lists k rest) i ≡ Some steps → (b : BookState) × (slice_get books i ≡ Some b)
-      few_by i steps here = elim (get_after lists k rest i steps here) [
-        | inl old ↦ u.few i steps old
-        | inr new ↦ (whole, ap (slice_get books) new.0 ∙ mine)
-      ]
+          (p.0, p.1, p.2, at_stays c later b p.2 p.0 (turn.others b.id (λ same. away (u.distinct i k b whole here mine same))) p.3)
 
       under_way : IsHistory later → IsUnderWay books later (slice_set lists k rest)
       under_way h = record {
@@ -145,10 +158,10 @@ module _ (books : List BookState) (c : ClusterState) (lists : List (List (Step M
         right = u.right;
         versions = λ i b here. u.versions i b here ∙ sym turn.version;
         same = λ i b here. u.same i b here ∙ sym turn.config;
-        at = λ i b here. placed_by i b (i == k) refl here;
-        all = λ id b here. all_by id b (id == whole.id) refl here;
+        at = placed_set books k whole mine later lists rest (rest, get-same lists k (s ∷ rest) rest at, left, There g.book turn.book g.trace) elsewhere;
+        all = λ id b here. has_book books k whole mine id (λ away. u.all id b (sym (turn.others id away) ∙ here));
         nobody = turn.crashed ∙ u.nobody;
-        few = few_by;
+        few = few_set books k whole mine lists rest u.few;
       }
 
     -- an event of the node takes its first step
@@ -182,12 +195,6 @@ pub done_at : (c : ClusterState) (whole : BookState) (left : List Entry) → IsA
 done_at c whole left (Away absent none is t) =
     absurd (no_first (record { wants = None; gives = (book.entered whole.version whole.config whole.id).1 }) t.rest (t.is ∙ ap (λ (o : Option (List ℕ)). entering whole o ++ t.rest) none))
 done_at c whole left (There b at t) = done_by c whole b left at t
-
-pub over_at : (lists : List (List (Step Message))) (k : ℕ) (steps : List (Step Message)) → AreOver lists → slice_get lists k ≡ Some steps → steps ≡ []
-over_at lists k steps over at = sym (get_or_from_slice_get lists k steps [] at) ∙ over k [] (slice_get_within lists k steps at)
-
-pub all_over : (lists : List (List (Step Message))) → ((k : ℕ) (steps : List (Step Message)) → slice_get lists k ≡ Some steps → steps ≡ []) → AreOver lists
-all_over lists over k d within = over k (get_or lists k d) (slice_get-get_or lists k d within)
 
 -- where no step is left, the books are gathered
 pub gathered : (books : List BookState) (c : ClusterState) (lists : List (List (Step Message))) → IsUnderWay books c lists → AreOver lists → IsGathered books c

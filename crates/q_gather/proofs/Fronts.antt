@@ -3,18 +3,15 @@ use Rattle.std.proofs.Common.{◌≡◌, ℕ, zero, suc, ◌==◌, Bool, true, f
 use Rattle.std.specs.Prelude.{Contains, IfSome, slice_get, slice_set}
 use Rattle.std.proofs.lemmas.Bool.{eqb-true, eqb-false}
 use Rattle.std.proofs.lemmas.List.Elements.{Contains-append_left, Contains-append_right, Contains-append_cases}
-use Rattle.std.proofs.lemmas.Option.{get_or_from_slice_get, slice_get_within, slice_get-get_or}
+use Rattle.std.proofs.lemmas.Option.{slice_get-get_or}
 use Rattle.q_history.proofs.Lists.{same_some, no_some, get_elsewhere}
 use Rattle.q_gather.specs.Merging.{Step, CanGo, AreOver, Merges}
 use Rattle.q_gather.specs.Merging.Merges.{Over, Takes}
 use Rattle.q_gather.proofs.Lists.{get-same, get_after}
-use Rattle.q_gather.proofs.Merging.{same_first}
+use Rattle.q_gather.proofs.Merging.{over_at, same_first}
 use Rattle.q_gather.proofs.FrontLists.{IsFront, get-front, get_other, find_place}
 
 -- ---- the steps of lists
-
-over_at : {M : Type 0} (lists : List (List (Step M))) (k : ℕ) (steps : List (Step M)) → AreOver lists → slice_get lists k ≡ Some steps → steps ≡ []
-over_at lists k steps over at = sym (get_or_from_slice_get lists k steps [] at) ∙ over k [] (slice_get_within lists k steps at)
 
 -- the list at this place has the step
 pub record HasStep {M : Type 0} (lists : List (List (Step M))) (list : ℕ) (s : Step M) : Type 0 where

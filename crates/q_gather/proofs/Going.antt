@@ -19,8 +19,8 @@ use Rattle.q_gather.specs.Numbers.{NumberList, AreNumbers}
 use Rattle.q_gather.specs.Gathered.{IsAt, Goes}
 use Rattle.q_gather.specs.Gathered.IsAt.{Away, There}
 use Rattle.q_gather.proofs.Lists.{get_after}
-use Rattle.q_gather.proofs.Merging.{merges_next, merges_stuck}
-use Rattle.q_gather.proofs.BooksGather.{goes_by, gathered, done_at, over_at, all_over}
+use Rattle.q_gather.proofs.Merging.{over_at, all_over, merges_next, merges_stuck}
+use Rattle.q_gather.proofs.BooksGather.{goes_by, gathered, done_at}
 use Rattle.q_gather.proofs.Tracing.{traces_one}
 use Rattle.q_gather.specs.Gather.{Merge}
 use Rattle.q_gather.specs.Gathering.{IsNextOf, IsNextAmong, HasTaken, HaveTaken, AreIdle, IsGathering, IsMerged}

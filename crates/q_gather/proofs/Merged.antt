@@ -1,6 +1,5 @@
 -- The books of each history merge.
-use Rattle.std.proofs.Common.{◌≡◌, ℕ, zero, suc, ◌==◌, Bool, true, false, List, [], ◌∷◌, ◌++◌, Some, None, refl, sym, ap, ◌∙◌, subst, inl, inr, slice_get, slice_set}
-use Rattle.std.proofs.lemmas.Bool.{eqb-true, eqb-false}
+use Rattle.std.proofs.Common.{◌≡◌, ℕ, zero, suc, List, [], ◌∷◌, ◌++◌, Some, None, refl, sym, ap, ◌∙◌, subst, slice_get, slice_set}
 use Rattle.std.proofs.lemmas.List.{append_cancel_left}
 use Rattle.sc_msg.specs.declared.message.Message.{Message}
 use Rattle.sc_node.specs.Nodes as node
@@ -12,7 +11,7 @@ use Rattle.q_history.specs.declared.event.ClusterEvent.{ClusterEvent}
 use Rattle.q_history.specs.State.{ClusterState}
 use Rattle.q_history.specs.Clusters.{start}
 use Rattle.q_history.specs.Calls.{Reaches}
-use Rattle.q_history.proofs.Lists.{same_some, no_some, get_elsewhere}
+use Rattle.q_history.proofs.Lists.{same_some, no_some}
 use Rattle.q_history.proofs.Kept.{IsKept}
 use Rattle.q_history.proofs.Histories.{history_kept}
 use Rattle.q_history.proofs.EveryBook.{history_books}
@@ -23,8 +22,9 @@ use Rattle.q_gather.specs.Traces.{step_of, IsTraceFrom, IsTrace}
 use Rattle.q_gather.specs.Turns.{IsTurn}
 use Rattle.q_gather.specs.Gathered.{AreDistinct, HasBook, AreRight, AgreeOn, IsGathered, IsAt}
 use Rattle.q_gather.specs.Gathered.IsAt.{Away, There}
-use Rattle.q_gather.proofs.Lists.{get-same, get_after}
-use Rattle.q_gather.proofs.BooksGather.{IsPlaced, all_over}
+use Rattle.q_gather.proofs.Lists.{get-same}
+use Rattle.q_gather.proofs.Merging.{all_over}
+use Rattle.q_gather.proofs.BooksGather.{at_stays, IsPlaced, placed_set, few_set, has_book}
 use Rattle.q_gather.proofs.Beginning.{begins}
 use Rattle.q_book.proofs.Followed.{follows_one}
 use Rattle.q_book.proofs.Replays.{IsLater, replays_later}
@@ -84,15 +84,10 @@ record IsComing (books : List BookState) (c : ClusterState) (lists : List Steps)
   all : (id : ℕ) (b : BookState) → book_at c id ≡ Some b → HasBook books id
   merges : Merges Message c.past.sent lists
 
--- a node at which nothing happened was where it is
-at_stayed : (c later : ClusterState) (whole : BookState) (left : List Entry) (steps : Steps) → book_at later whole.id ≡ book_at c whole.id → IsAt later whole left steps → IsAt c whole left steps
-at_stayed c later whole left steps same (Away absent none is t) = Away (sym same ∙ absent) none is t
-at_stayed c later whole left steps same (There b at t) = There b (sym same ∙ at) t
-
 module _ (books : List BookState) (distinct : AreDistinct books) (c later : ClusterState) (lists : List Steps) (coming : IsComing books later lists) where
   rests_back : ((id : ℕ) → book_at later id ≡ book_at c id) → later.past.sent ≡ c.past.sent → IsComing books c lists
   rests_back same sent = record {
-    at = λ k b here. let p = coming.at k b here in (p.0, p.1, p.2, at_stayed c later b p.2 p.0 (same b.id) p.3);
+    at = λ k b here. let p = coming.at k b here in (p.0, p.1, p.2, at_stays later c b p.2 p.0 (sym (same b.id)) p.3);
     few = coming.few;
     all = λ id b at. coming.all id b (same id ∙ at);
     merges = subst (λ (x : List Message). Merges Message x lists) sent coming.merges;
@@ -101,27 +96,10 @@ module _ (books : List BookState) (distinct : AreDistinct books) (c later : Clus
   -- a node went on by this step, behind which these are left
   module _ (id : ℕ) (d : BookState) (outs : List Message) (turn : IsTurn c id d outs later) (k : ℕ) (whole : BookState) (mine : slice_get books k ≡ Some whole) (of : whole.id ≡ id) (steps : Steps)
       (there : slice_get lists k ≡ Some steps) (s : Step Message) (left : List Entry) (was : IsAt c whole left (s ∷ steps)) (can : CanGo c.past.sent s) (sends : s.gives ≡ outs) where
-    placed_by : (i : ℕ) (b : BookState) (same : Bool) → (i == k) ≡ same → slice_get books i ≡ Some b → IsPlaced c (slice_set lists k (s ∷ steps)) i b
-    placed_by i b true is here =
-        let place : i ≡ k = eqb-true i k is in
-        let one : whole ≡ b = same_some whole b (sym mine ∙ ap (slice_get books) (sym place) ∙ here) in
-        subst (IsPlaced c (slice_set lists k (s ∷ steps)) i) one
-        (s ∷ steps, ap (slice_get (slice_set lists k (s ∷ steps))) place ∙ get-same lists k steps (s ∷ steps) there, left, was)
-    placed_by i b false is here =
-        let away : i ≡ k → ⊥ = eqb-false i k is in
-        let p = coming.at i b here in (
-          p.0,
-          get_elsewhere lists k (s ∷ steps) i p.0 away p.1,
-          p.2,
-          at_stayed c later b p.2 p.0 (turn.others b.id (λ same. away (distinct i k b whole here mine (same ∙ sym of)))) p.3,
-        )
-
-    few_by : (i : ℕ) (own : Steps) → slice_get (slice_set lists k (s ∷ steps)) i ≡ Some own → (b : BookState) × (slice_get books i ≡ Some b)
-    few_by i own here = elim (get_after lists k (s ∷ steps) i own here) [ inl old ↦ coming.few i own old | inr new ↦ (whole, ap (slice_get books) new.0 ∙ mine) ]
-
-    all_by : (q : ℕ) (b : BookState) (same : Bool) → (q == id) ≡ same → book_at c q ≡ Some b → HasBook books q
-    all_by q b true is at = record { place = k; book = whole; at = mine; of = of ∙ sym (eqb-true q id is) }
-    all_by q b false is at = coming.all q b (turn.others q (eqb-false q id is) ∙ at)
+    elsewhere : (i : ℕ) (b : BookState) → (i ≡ k → ⊥) → slice_get books i ≡ Some b → IsPlaced c lists i b
+    elsewhere i b away here =
+        let p = coming.at i b here in
+        (p.0, p.1, p.2, at_stays later c b p.2 p.0 (sym (turn.others b.id (λ same. away (distinct i k b whole here mine (same ∙ sym of))))) p.3)
 
     merges_back : Merges Message c.past.sent (slice_set lists k (s ∷ steps))
     merges_back =
@@ -131,9 +109,9 @@ module _ (books : List BookState) (distinct : AreDistinct books) (c later : Clus
 
     went_back : IsComing books c (slice_set lists k (s ∷ steps))
     went_back = record {
-      at = λ i b here. placed_by i b (i == k) refl here;
-      few = few_by;
-      all = λ q b at. all_by q b (q == id) refl at;
+      at = placed_set books k whole mine c lists (s ∷ steps) (s ∷ steps, get-same lists k steps (s ∷ steps) there, left, was) elsewhere;
+      few = few_set books k whole mine lists (s ∷ steps) coming.few;
+      all = λ q b at. has_book books k whole mine q (λ away. coming.all q b (turn.others q (λ same. away (same ∙ sym of)) ∙ at));
       merges = merges_back;
     }
 

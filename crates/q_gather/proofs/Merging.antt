@@ -4,10 +4,17 @@ use Rattle.std.specs.Prelude.{Contains, slice_get, slice_set, IfSome}
 use Rattle.std.proofs.lemmas.Bool.{eqb-true, eqb-false}
 use Rattle.std.proofs.lemmas.List.{set_comm}
 use Rattle.std.proofs.lemmas.List.Elements.{Contains-append_left, Contains-append_right, Contains-append_cases}
-use Rattle.std.proofs.lemmas.Option.{get_or_from_slice_get, slice_get_within}
+use Rattle.std.proofs.lemmas.Option.{get_or_from_slice_get, slice_get_within, slice_get-get_or}
 use Rattle.q_history.proofs.Lists.{same_some, get_elsewhere}
 use Rattle.q_gather.specs.Merging.{Step, CanGo, AreOver, Merges}
 use Rattle.q_gather.specs.Merging.Merges.{Over, Takes}
+
+-- where all lists are over, each is, and the other way round
+pub over_at : {M : Type 0} (lists : List (List (Step M))) (k : ℕ) (steps : List (Step M)) → AreOver lists → slice_get lists k ≡ Some steps → steps ≡ []
+over_at lists k steps over at = sym (get_or_from_slice_get lists k steps [] at) ∙ over k [] (slice_get_within lists k steps at)
+
+pub all_over : {M : Type 0} (lists : List (List (Step M))) → ((k : ℕ) (steps : List (Step M)) → slice_get lists k ≡ Some steps → steps ≡ []) → AreOver lists
+all_over lists over k d within = over k (get_or lists k d) (slice_get-get_or lists k d within)
 
 -- what was given is given there too
 abbrev pub IsWithin : {M : Type 0} → List M → List M → Type 0

@@ -1,6 +1,6 @@
 //! Books on their way into a cluster.
 
-ghost use Rattle.std.specs.Prelude.{◌≡◌, ◌++◌, ℕ, List, [], length, take, IfOk, OnOk, IfSome, MatchBool};
+ghost use Rattle.std.specs.Prelude.{◌≡◌, ◌++◌, List, [], length, take, IfOk, OnOk, IfSome, MatchBool};
 ghost use Rattle.sc_msg.specs.declared.message.Message.{Message};
 ghost use Rattle.q_history.specs.declared.event.ClusterStep.{ClusterStep};
 ghost use Rattle.q_history.specs.Calls.{Follows};
