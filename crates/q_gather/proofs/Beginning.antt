@@ -1,14 +1,11 @@
 -- Where the founders are known, books begin to be gathered; and where their steps merge, all of them are.
-use Rattle.std.proofs.Common.{◌≡◌, ℕ, Bool, true, false, cond, List, [], ◌++◌, Option, Some, None, refl, sym, ap, ◌∙◌, subst, inr, Ok}
+use Rattle.std.proofs.Common.{◌≡◌, ℕ, Bool, true, false, cond, List, [], ◌++◌, Option, Some, None, refl, sym, ap, ◌∙◌, subst, inr}
 use Rattle.std.specs.Ordering.{nat_cmp}
 use Rattle.std.specs.FinMap as fin
 use Rattle.std.specs.FinSet as set
 use Rattle.sc_members.specs.Members.{Config}
 use Rattle.sc_msg.specs.declared.message.Message.{Message}
 use Rattle.sc_msg.specs.declared.version.Version.{Version}
-use Rattle.sc_node.specs.Nodes as node
-use Rattle.reasons.specs.declared.Reason.{Reason}
-use Rattle.sc_world.proofs.Inverts.{same_answer}
 use Rattle.q_book.specs.State.{BookState}
 use Rattle.q_book.specs.Books.{new_book}
 use Rattle.q_book.specs.Replays.{IsFirst, IsReplay}
@@ -26,6 +23,7 @@ use Rattle.q_gather.specs.Traces.{IsTraceFrom, entering, IsTrace}
 use Rattle.q_gather.specs.Gathered.{AreDistinct, AreRight, AgreeOn, AreTraces, IsGathered, IsAt, IsUnderWay}
 use Rattle.q_gather.specs.Gathered.IsAt.{Away, There}
 use Rattle.q_gather.proofs.BooksGather.{step_goes, gathered}
+use Rattle.q_gather.proofs.Tracing.{first_same}
 
 module _ (version : Version) (config : Config) (ids : List ℕ) where
   abbrev c : ClusterState
@@ -46,8 +44,7 @@ module _ (version : Version) (config : Config) (ids : List ℕ) where
         let is = (every_founder version config ids b.id x.0 x.1).is in
         let r : IsReplay (founder_book version config ids b.id) = subst IsReplay (sym is) (history_books c h b.id x.0 x.1).1 in
         let own : IsFirst b t.first (Some ids) = subst (IsFirst b t.first) (heads ∙ some) t.begun in
-        let moved : node.founded config b.id ids ≡ Ok t.first = subst (λ (x : Config). node.founded x b.id ids ≡ Ok t.first) same own in
-        let one : r.first ≡ t.first = same_answer {E = Reason} r.first t.first (sym r.begun ∙ moved) in
+        let one : r.first ≡ t.first = first_same (founder_book version config ids b.id) b refl (sym same) r.first t.first (Some ids) r.begun own in
         There (new_book b.version b.id b.config b.founders t.first)
         (x.1 ∙ ap (λ (x : BookState). let o : Option BookState = Some x in o) (sym is ∙ r.replayed ∙ (λ i. new_book (sym its i) b.id (sym same i) (sym (heads ∙ some) i) (one i))))
         (subst (λ (x : List (Step Message)). IsTraceFrom (new_book b.version b.id b.config b.founders t.first) b.desk.journal x b)

@@ -11,11 +11,11 @@ use Rattle.q_book.specs.Replays.{Replays, IsFirst, IsReplay}
 use Rattle.q_gather.specs.Merging.{Step}
 use Rattle.q_book.proofs.Followed.{follows_one}
 use Rattle.q_book.proofs.Replays.{replays_later}
-use Rattle.q_gather.proofs.Tracing.{trace_some}
+use Rattle.q_gather.proofs.Tracing.{first_same, trace_some}
 use Rattle.q_gather.specs.Beginnings.{IsBeginningOf, IsGivenBy}
 use Rattle.q_gather.proofs.FrontLists.{get-front}
 use Rattle.q_gather.proofs.Senders.{trace_own}
-use Rattle.q_gather.proofs.FrontsTraced.{first_same, headed, trace_front}
+use Rattle.q_gather.proofs.FrontsTraced.{headed, trace_front}
 
 -- ---- there is one
 

@@ -2,20 +2,19 @@
 use Rattle.std.proofs.Common.{◌≡◌, ℕ, zero, suc, List, [], ◌∷◌, ◌++◌, take, drop, Option, Some, None, refl, sym, ap, ◌∙◌, subst, slice_get, take-append-drop, append_assoc}
 use Rattle.sc_msg.specs.declared.message.Message.{Message}
 use Rattle.sc_node.specs.State.{NodeState}
-use Rattle.sc_node.specs.Nodes as node
-use Rattle.reasons.specs.declared.Reason.{Reason}
 use Rattle.q_desk.specs.State.{DeskState}
 use Rattle.q_desk.specs.declared.journal.Entry.{Entry}
 use Rattle.q_desk.specs.declared.journal.Entry.TheVariants as entry
-use Rattle.q_desk.proofs.Accepted.{same_some, no_some, same_answer, Keeps}
+use Rattle.q_desk.proofs.Accepted.{same_some, no_some, Keeps}
 use Rattle.q_book.specs.State.{BookState}
 use Rattle.q_book.specs.Books.{new_book}
-use Rattle.q_book.specs.Replays.{IsFirst, IsReplay}
+use Rattle.q_book.specs.Replays.{IsReplay}
 use Rattle.q_book.proofs.Followed.{follows_one}
 use Rattle.q_book.proofs.Replays.{replays_later}
 use Rattle.q_gather.specs.Merging.{Step}
 use Rattle.q_gather.specs.Traces.{wants, step_of, IsTraceFrom, entering, IsTrace}
 use Rattle.q_gather.proofs.Keeping.{trace_replays}
+use Rattle.q_gather.proofs.Tracing.{first_same}
 use Rattle.q_gather.specs.Beginnings.{IsBeginningOf}
 use Rattle.q_gather.proofs.FrontLists.{IsFront}
 
@@ -33,10 +32,6 @@ from_front (e ∷ es) rest b c d steps others t u =
     let same = follows_one b t.0 u.0 e t.1 u.1 in
     let r = from_front es rest u.0 c d t.2 u.2 (subst (λ (x : BookState). IsTraceFrom x es t.2 c) same t.4) u.4 in
     (r.0, u.3 ∙ ap (λ (x : Steps). step_of b e ∷ x) r.1 ∙ ap (λ (x : Steps). x ++ r.0) (sym t.3), r.2)
-
-pub first_same : (a b : BookState) → a.id ≡ b.id → a.config ≡ b.config → (n m : NodeState) (founders : Option (List ℕ)) → IsFirst a n founders → IsFirst b m founders → n ≡ m
-first_same a b id config n m (Some ids) h k = same_answer {E = Reason} n m (sym h ∙ (λ i. node.founded (config i) (id i) ids) ∙ k)
-first_same a b id config n m None h k = h ∙ (λ i. (node.entered (config i) (id i)).0) ∙ sym k
 
 -- a book with the head of the whole one
 module _ (whole : BookState) (n : NodeState) (d : DeskState) where

@@ -26,10 +26,9 @@ use Rattle.q_gather.proofs.Lists.{get-same}
 use Rattle.q_gather.proofs.Merging.{all_over}
 use Rattle.q_gather.proofs.BooksGather.{at_stays, IsPlaced, placed_set, few_set, has_book}
 use Rattle.q_gather.proofs.Beginning.{begins}
-use Rattle.q_book.proofs.Followed.{follows_one}
 use Rattle.q_book.proofs.Replays.{IsLater, replays_later}
 use Rattle.q_gather.proofs.Keeping.{trace_replays}
-use Rattle.q_gather.proofs.Tracing.{trace_one}
+use Rattle.q_gather.proofs.Tracing.{from_one, trace_one}
 use Rattle.q_gather.specs.Beginnings.{MayGather}
 use Rattle.q_gather.proofs.Moving.{IsMove, event_moves}
 use Rattle.q_gather.proofs.Moving.IsMove.{Rests, Goes, Enters}
@@ -43,20 +42,13 @@ Steps = List (Step Message)
 from_onward : (es : List Entry) (b c : BookState) (steps : Steps) → IsTraceFrom b es steps c → IsLater b es c
 from_onward es b c steps t = replays_later es b c (trace_replays es b c steps t)
 
-from_one : (es : List Entry) (b c : BookState) (steps others : Steps) → IsTraceFrom b es steps c → IsTraceFrom b es others c → steps ≡ others
-from_one [] b c steps others t u = t.0 ∙ sym u.0
-from_one (e ∷ es) b c steps others t u =
-    let same = follows_one b t.0 u.0 e t.1 u.1 in
-    let rest = from_one es u.0 c t.2 u.2 (subst (λ (x : BookState). IsTraceFrom x es t.2 c) same t.4) u.4 in
-    t.3 ∙ ap (λ (x : Steps). step_of b e ∷ x) rest ∙ sym u.3
-
 -- the steps that are left of a book are the same, however it was found how far its node has come
 module _ (c : ClusterState) (whole : BookState) (steps others : Steps) where
   there_one : (b d : BookState) (es fs : List Entry) → b ≡ d → IsTraceFrom b es steps whole → IsTraceFrom d fs others whole → steps ≡ others
   there_one b d es fs same t u =
       let v = subst (λ (x : BookState). IsTraceFrom x fs others whole) (sym same) u in
       let entries : fs ≡ es = append_cancel_left b.desk.journal fs es (sym (from_onward fs b whole others v).adds ∙ (from_onward es b whole steps t).adds) in
-      from_one es b whole steps others t (subst (λ (x : List Entry). IsTraceFrom b x others whole) entries v)
+      from_one es b whole whole steps others t (subst (λ (x : List Entry). IsTraceFrom b x others whole) entries v)
 
   at_one : (es fs : List Entry) → IsAt c whole es steps → IsAt c whole fs others → steps ≡ others
   at_one es fs (Away absent none is t) (Away gone nobody so u) = trace_one whole steps others t u

@@ -1,5 +1,5 @@
 -- The numbers of messages after one more is sent.
-use Rattle.std.proofs.Common.{◌≡◌, ◌<◌, ℕ, zero, suc, Bool, true, false, cond, List, [], ◌∷◌, ◌++◌, length, Option, Some, None, is_some, refl, sym, ap, ◌∙◌, subst, ◌⊎◌, inl, inr, slice_get, arith}
+use Rattle.std.proofs.Common.{◌≡◌, ◌<◌, ℕ, Bool, true, false, cond, List, [], ◌∷◌, ◌++◌, length, Option, Some, None, is_some, refl, sym, ap, ◌∙◌, subst, inl, inr, slice_get, arith}
 use Rattle.std.specs.Prelude.{bytes_eq}
 use Rattle.std.proofs.lemmas.Option.{slice_get_within}
 use Rattle.std.proofs.lemmas.Slice.Eq.{bytes_eq-Decides}
@@ -7,16 +7,14 @@ use Rattle.sc_msg.specs.declared.message.Message.{Message}
 use Rattle.sc_msg.specs.declared.version.Version.TheVariants.{Second}
 use Rattle.sc_msg.specs.Messages.{message_bytes, IsMessage}
 use Rattle.sc_world.proofs.Histories.{slice_get_front, slice_get_last}
-use Rattle.q_history.proofs.Lists.{same_some, no_some, get_snoc}
+use Rattle.q_desk.proofs.Lists.{get-snoc}
+use Rattle.q_history.proofs.Lists.{no_some, get_snoc}
 use Rattle.q_gather.specs.Numbers.{NumberList, number_of, added, IsLeastNumber, AreNumbers}
+use Rattle.q_gather.proofs.Table.{none_there}
 
 -- a message has one spelling
 abbrev pub OneSpelling : Type 0
 OneSpelling = (m n : Message) → IsMessage Second m → IsMessage Second n → message_bytes Second m ≡ message_bytes Second n → m ≡ n
-
-none_of : (o : Option ℕ) → is_some o ≡ false → o ≡ None
-none_of None h = refl
-none_of (Some n) h = absurd (cc)
 
 -- of two alternatives
 last_by : (b : Bool) (k : ℕ) (rest more want : Option ℕ) → cond b (Some k) rest ≡ None → (rest ≡ None → more ≡ want) → cond b (Some k) more ≡ want
@@ -39,23 +37,15 @@ number_first bytes other n k [] h = absurd (no_some k h)
 number_first bytes other n k (e ∷ es) h =
     first_by (bytes_eq bytes e.0) e.1 k (number_of bytes es) (number_of bytes (es ++ (other, n) ∷ [])) h (λ rest. number_first bytes other n k es rest)
 
-place_of : (xs : List Message) (y : Message) (k : ℕ) (z : Message) → slice_get (xs ++ y ∷ []) k ≡ Some z → (slice_get xs k ≡ Some z) ⊎ ((k ≡ length xs) × (y ≡ z))
-place_of [] y zero z at = inr (refl, same_some y z at)
-place_of [] y (suc k) z at = absurd (no_some z at)
-place_of (w ∷ xs) y zero z at = inl at
-place_of (w ∷ xs) y (suc k) z at = elim (place_of xs y k z at) [ inl a ↦ inl a | inr b ↦ inr (ap suc b.0, b.1) ]
-
 earlier : (xs : List Message) (y : Message) (k : ℕ) → k < length xs → slice_get (xs ++ y ∷ []) k ≡ Some y → slice_get xs k ≡ Some y
-earlier [] y k less at = absurd (omega arith)
-earlier (w ∷ xs) y zero less at = at
-earlier (w ∷ xs) y (suc k) less at = earlier xs y k (omega arith) at
+earlier xs y k less at = elim (get-snoc xs y k y at) [ inl old ↦ old | inr new ↦ absurd (omega (arith, less, new.0)) ]
 
 module _ (one : OneSpelling) (sent : List Message) (es : NumberList) (are : AreNumbers sent es) (m : Message) (legal : IsMessage Second m) where
   -- a message that had a number keeps it
   kept : (x : Message) (n : ℕ) → IsLeastNumber sent x (Some n) → IsLeastNumber (sent ++ m ∷ []) x (Some n)
   kept x n h = (
     slice_get_front sent (m ∷ []) n x h.0,
-    λ k less at. elim (place_of sent m k x at) [
+    λ k less at. elim (get-snoc sent m k x at) [
       | inl old ↦ h.1 k less old
       | inr new ↦ let within : n < length sent = slice_get_within sent n x h.0 in absurd (omega (arith, new.0))
     ],
@@ -93,7 +83,7 @@ module _ (one : OneSpelling) (sent : List Message) (es : NumberList) (are : AreN
 
   by_test : (b : Bool) → is_some (number_of (message_bytes Second m) es) ≡ b → AreNumbers (sent ++ m ∷ []) (cond b es (es ++ (message_bytes Second m, length sent) ∷ []))
   by_test true is x good = there_by x good (number_of (message_bytes Second x) es) refl is
-  by_test false is x good = new_by x good (number_of (message_bytes Second x) es) refl (none_of (number_of (message_bytes Second m) es) is)
+  by_test false is x good = new_by x good (number_of (message_bytes Second x) es) refl (none_there (number_of (message_bytes Second m) es) is)
 
   pub numbers_on : AreNumbers (sent ++ m ∷ []) (added (message_bytes Second m) (length sent) es)
   numbers_on = by_test (is_some (number_of (message_bytes Second m) es)) refl

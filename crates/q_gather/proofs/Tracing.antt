@@ -2,6 +2,7 @@
 use Rattle.std.proofs.Common.{◌≡◌, ℕ, suc, List, [], ◌∷◌, ◌++◌, Option, Some, None, refl, sym, ap, ◌∙◌, subst, slice_get}
 use Rattle.sc_msg.specs.declared.message.Message.{Message}
 use Rattle.sc_node.specs.State.{NodeState}
+use Rattle.sc_node.specs.Nodes as node
 use Rattle.reasons.specs.declared.Reason.{Reason}
 use Rattle.sc_world.proofs.Inverts.{same_answer}
 use Rattle.q_desk.specs.Desks as desk
@@ -17,20 +18,20 @@ use Rattle.q_gather.specs.Gathered.{AreTraces}
 
 -- ---- all entries
 
-from_one : (es : List Entry) (b c d : BookState) (steps others : List (Step Message)) → IsTraceFrom b es steps c → IsTraceFrom b es others d → steps ≡ others
+pub from_one : (es : List Entry) (b c d : BookState) (steps others : List (Step Message)) → IsTraceFrom b es steps c → IsTraceFrom b es others d → steps ≡ others
 from_one [] b c d steps others t u = t.0 ∙ sym u.0
 from_one (e ∷ es) b c d steps others t u =
     let same = follows_one b t.0 u.0 e t.1 u.1 in
     let rest = from_one es u.0 c d t.2 u.2 (subst (λ (x : BookState). IsTraceFrom x es t.2 c) same t.4) u.4 in
     t.3 ∙ ap (λ (x : List (Step Message)). step_of b e ∷ x) rest ∙ sym u.3
 
-first_one : (b : BookState) (n m : NodeState) (founders : Option (List ℕ)) → IsFirst b n founders → IsFirst b m founders → n ≡ m
-first_one b n m (Some ids) h k = same_answer {E = Reason} n m (sym h ∙ k)
-first_one b n m None h k = h ∙ sym k
+pub first_same : (a b : BookState) → a.id ≡ b.id → a.config ≡ b.config → (n m : NodeState) (founders : Option (List ℕ)) → IsFirst a n founders → IsFirst b m founders → n ≡ m
+first_same a b id config n m (Some ids) h k = same_answer {E = Reason} n m (sym h ∙ (λ i. node.founded (config i) (id i) ids) ∙ k)
+first_same a b id config n m None h k = h ∙ (λ i. (node.entered (config i) (id i)).0) ∙ sym k
 
 pub trace_one : (b : BookState) (steps others : List (Step Message)) → IsTrace b steps → IsTrace b others → steps ≡ others
 trace_one b steps others t u =
-    let same = first_one b t.first u.first b.founders t.begun u.begun in
+    let same = first_same b b refl refl t.first u.first b.founders t.begun u.begun in
     let rest = from_one b.desk.journal (book.new_book b.version b.id b.config b.founders u.first) b b t.rest u.rest
     (subst (λ (n : NodeState). IsTraceFrom (book.new_book b.version b.id b.config b.founders n) b.desk.journal t.rest b) same t.trace) u.trace
     in
