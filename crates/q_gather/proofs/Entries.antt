@@ -47,7 +47,8 @@ use Rattle.q_history.proofs.World.{at_live}
 use Rattle.q_history.proofs.Histories.{history_kept}
 use Rattle.q_cluster.specs.Acts.{book_at}
 use Rattle.q_gather.specs.Merging.{CanGo}
-use Rattle.q_gather.specs.Traces.{sent_by, gives, step_of}
+use Rattle.q_book.specs.Sends.{seen, sends}
+use Rattle.q_gather.specs.Traces.{step_of}
 use Rattle.q_gather.specs.Turns.{IsJobFor, IsEventOf, IsNext, IsTurn, Makes}
 use Rattle.q_gather.proofs.Lists.{get-same}
 use Rattle.q_gather.proofs.Turning.{next_up, call_says, put_turn, makes}
@@ -61,9 +62,9 @@ nothing = record { acc = 0; steps = 0 }
 -- ---- calls that run no job
 
 module _ (c : ClusterState) (id : ℕ) (b d : BookState) (up : live_at c id ≡ Some b) where
-  leave_makes : (outs : List Message) → book.left b ≡ Ok (outs, d) → Makes c (event.Leave id) id d (gives b entry.Leave)
+  leave_makes : (outs : List Message) → book.left b ≡ Ok (outs, d) → Makes c (event.Leave id) id d (sends b entry.Leave)
   leave_makes outs h =
-      subst (Makes c (event.Leave id) id d) (sym (ap (sent_by (λ (x : List Message). x)) h))
+      subst (Makes c (event.Leave id) id d) (sym (ap (seen (λ (x : List Message). x) []) h))
       (makes c (event.Leave id) id d outs nothing (leaves c id outs d) tt (λ r _. call_says c id b d up (leaves c id) book.left outs h)
       (put_turn c (recorded c.past (world_event.Leave id) id outs None None) c.jobs id d outs refl))
 
@@ -72,21 +73,21 @@ module _ (c : ClusterState) (id : ℕ) (b d : BookState) (up : live_at c id ≡ 
       makes c (event.Register id program) id d [] nothing (registers c id n d) tt (λ r _. call_says c id b d up (registers c id) (λ x. book.registered x program) n h)
       (put_turn c c.past c.jobs id d [] (sym (append-nil c.past.sent)))
 
-  ask_makes : (program start : ℕ) (a : Asked) → book.asked b program start ≡ Ok (a, d) → Makes c (event.Ask id program start) id d (gives b (entry.Ask program start))
+  ask_makes : (program start : ℕ) (a : Asked) → book.asked b program start ≡ Ok (a, d) → Makes c (event.Ask id program start) id d (sends b (entry.Ask program start))
   ask_makes program start a h =
-      subst (Makes c (event.Ask id program start) id d) (sym (ap (sent_by (λ (x : Asked). x.begun.outs)) h))
+      subst (Makes c (event.Ask id program start) id d) (sym (ap (seen (λ (x : Asked). x.begun.outs) []) h))
       (makes c (event.Ask id program start) id d a.begun.outs nothing (asks c id a d) tt (λ r _. call_says c id b d up (asks c id) (λ x. book.asked x program start) a h)
       (put_turn c (recorded c.past (world_event.Collect id) id a.begun.outs None (opened a.begun)) c.jobs id d a.begun.outs refl))
 
-  store_makes : (value : List ℕ) (a : Begun) → book.stored b value ≡ Ok (a, d) → Makes c (event.Store id value) id d (gives b (entry.Store value))
+  store_makes : (value : List ℕ) (a : Begun) → book.stored b value ≡ Ok (a, d) → Makes c (event.Store id value) id d (sends b (entry.Store value))
   store_makes value a h =
-      subst (Makes c (event.Store id value) id d) (sym (ap (sent_by (λ (x : Begun). x.outs)) h))
+      subst (Makes c (event.Store id value) id d) (sym (ap (seen (λ (x : Begun). x.outs) []) h))
       (makes c (event.Store id value) id d a.outs nothing (stores c id value a d) tt (λ r _. call_says c id b d up (stores c id value) (λ x. book.stored x value) a h)
       (put_turn c (recorded c.past (world_event.Store id value) id a.outs None (opened a)) c.jobs id d a.outs refl))
 
-  deliver_makes : (m : Message) (number : ℕ) (a : Taken) → slice_get c.past.sent number ≡ Some m → book.delivered b m ≡ Ok (a, d) → Makes c (event.Deliver number id) id d (gives b (entry.Deliver m))
+  deliver_makes : (m : Message) (number : ℕ) (a : Taken) → slice_get c.past.sent number ≡ Some m → book.delivered b m ≡ Ok (a, d) → Makes c (event.Deliver number id) id d (sends b (entry.Deliver m))
   deliver_makes m number a at h =
-      subst (Makes c (event.Deliver number id) id d) (sym (ap (sent_by (λ (x : Taken). x.outs)) h))
+      subst (Makes c (event.Deliver number id) id d) (sym (ap (seen (λ (x : Taken). x.outs) []) h))
       (makes c (event.Deliver number id) id d a.outs nothing (delivers c number id a d) tt
       (λ r _. ap (λ (o : Option Message). at_node c id (λ x. delivered_as c number id x o)) at ∙ call_says c id b d up (delivers c number id) (λ x. book.delivered x m) a h)
       (put_turn c (recorded c.past (world_event.Deliver number id) id a.outs a.progress None) c.jobs id d a.outs refl))
@@ -223,14 +224,14 @@ module _ (c : ClusterState) (h : IsHistory c) (id : ℕ) (b d : BookState) (up :
       (finish_makes c b d ran i it.job (ap (live_at c) it.by ∙ up) (((history_kept c h).headed id b stands).id ∙ sym it.by) (it.of ∙ sym of) posts
       ((history_jobs c h id b stands).each number it.job it.at it.by) right number it.at)
 
-  pub entry_makes : (e : Entry) (ev : ClusterEvent) → IsRightLater d.desk → Follows b e d → IsEventOf c id e ev → Makes c ev id d (gives b e)
-  entry_makes entry.Leave ev right f is = subst (λ (x : ClusterEvent). Makes c x id d (gives b entry.Leave)) (sym is) (leave_makes c id b d up f.0 f.1)
+  pub entry_makes : (e : Entry) (ev : ClusterEvent) → IsRightLater d.desk → Follows b e d → IsEventOf c id e ev → Makes c ev id d (sends b e)
+  entry_makes entry.Leave ev right f is = subst (λ (x : ClusterEvent). Makes c x id d (sends b entry.Leave)) (sym is) (leave_makes c id b d up f.0 f.1)
   entry_makes (entry.Register program) ev right f is = subst (λ (x : ClusterEvent). Makes c x id d []) (sym is) (register_makes c id b d up program f.0 f.1)
   entry_makes (entry.Ask program start) ev right f is =
-      subst (λ (x : ClusterEvent). Makes c x id d (gives b (entry.Ask program start))) (sym is) (ask_makes c id b d up program start f.0 f.1)
-  entry_makes (entry.Store value) ev right f is = subst (λ (x : ClusterEvent). Makes c x id d (gives b (entry.Store value))) (sym is) (store_makes c id b d up value f.0 f.1)
+      subst (λ (x : ClusterEvent). Makes c x id d (sends b (entry.Ask program start))) (sym is) (ask_makes c id b d up program start f.0 f.1)
+  entry_makes (entry.Store value) ev right f is = subst (λ (x : ClusterEvent). Makes c x id d (sends b (entry.Store value))) (sym is) (store_makes c id b d up value f.0 f.1)
   entry_makes (entry.Deliver m) ev right f is =
-      subst (λ (x : ClusterEvent). Makes c x id d (gives b (entry.Deliver m))) (sym is.2) (deliver_makes c id b d up m is.0 f.0 is.1 f.1)
+      subst (λ (x : ClusterEvent). Makes c x id d (sends b (entry.Deliver m))) (sym is.2) (deliver_makes c id b d up m is.0 f.0 is.1 f.1)
   entry_makes entry.HandOut ev right f is = subst (λ (x : ClusterEvent). Makes c x id d []) (sym is) (hand_out_makes c id b d up f.0 f.1)
   entry_makes (entry.Post query ran) ev right f is = subst (λ (x : ClusterEvent). Makes c x id d []) (sym is.2) (post_makes query ran f.0 is.0 right f.1 f.3 is.1)
 
@@ -252,7 +253,7 @@ module _ (c : ClusterState) (h : IsHistory c) (id : ℕ) (b d : BookState) (up :
 pub next_event : (c : ClusterState) (id : ℕ) (b d : BookState) (e : Entry) → IsHistory c → IsNext c id b e d → CanGo c.past.sent (step_of b e) → (ev : ClusterEvent) × IsEventOf c id e ev
 next_event c id b d e h n can = entry_event c h id b d (next_up c id b d e n) e n.takes can
 
-pub next_makes : (c : ClusterState) (id : ℕ) (b d : BookState) (e : Entry) (ev : ClusterEvent) → IsHistory c → IsNext c id b e d → AnswersAreRight d.desk → IsEventOf c id e ev → Makes c ev id d (gives b e)
+pub next_makes : (c : ClusterState) (id : ℕ) (b d : BookState) (e : Entry) (ev : ClusterEvent) → IsHistory c → IsNext c id b e d → AnswersAreRight d.desk → IsEventOf c id e ev → Makes c ev id d (sends b e)
 next_makes c id b d e ev h n right is =
     entry_makes c h id b d (next_up c id b d e n) e ev (record { later = d.desk; keeps = keeps_itself d.desk; right = right }) n.takes is
 

@@ -10,7 +10,8 @@ use Rattle.q_desk.specs.State.{DeskState}
 use Rattle.q_desk.proofs.Changes.{Change}
 use Rattle.q_book.specs.State.{BookState}
 use Rattle.q_book.specs.Books as book
-use Rattle.q_book.proofs.Followed.{handed, follows-accepted}
+use Rattle.q_book.specs.Sends.{handed}
+use Rattle.q_book.proofs.Followed.{follows-accepted}
 use Rattle.q_history.specs.declared.event.ClusterEvent.{ClusterEvent}
 use Rattle.q_history.specs.State.{BookMap, ClusterState}
 use Rattle.q_history.specs.Clusters.{with_job, start}

@@ -17,7 +17,8 @@ use Rattle.q_desk.proofs.Accepted.{same_some, no_some, Keeps}
 use Rattle.q_desk.proofs.Changes.{GoesOver, readied, handed, recorded, Change, stays, grows, begins, rephased}
 use Rattle.q_book.specs.State.{BookState}
 use Rattle.q_book.specs.Replays.{Follows, Replays, IsReplay}
-use Rattle.q_book.proofs.Followed.{handed as handed_by, follows-accepted}
+use Rattle.q_book.specs.Sends.{handed as handed_by}
+use Rattle.q_book.proofs.Followed.{follows-accepted}
 use Rattle.q_history.proofs.Lists.{get_snoc}
 use Rattle.q_gather.proofs.Lists.{get_after}
 

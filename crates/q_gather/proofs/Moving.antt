@@ -7,7 +7,7 @@ use Rattle.q_desk.specs.declared.journal.Entry.TheVariants as entry
 use Rattle.q_book.specs.State.{BookState}
 use Rattle.q_book.specs.Books as book
 use Rattle.q_book.specs.Replays as replays
-use Rattle.q_book.proofs.Followed.{handed}
+use Rattle.q_book.specs.Sends.{sends, handed}
 use Rattle.q_history.specs.declared.event.ClusterEvent.{ClusterEvent}
 use Rattle.q_history.specs.declared.event.ClusterStep.{ClusterStep}
 use Rattle.q_history.specs.State.{BookMap, ClusterState}
@@ -18,10 +18,9 @@ use Rattle.q_history.proofs.World.{at_live}
 use Rattle.q_history.proofs.Called.{WasSent, IsCalled, IsMade, enters, crashes, rests, calls, event_is}
 use Rattle.q_cluster.specs.Acts.{book_at}
 use Rattle.q_gather.specs.Merging.{CanGo}
-use Rattle.q_gather.specs.Traces.{gives, step_of}
+use Rattle.q_gather.specs.Traces.{step_of}
 use Rattle.q_gather.specs.Turns.{IsTurn}
 use Rattle.q_gather.proofs.Lists.{get_contains}
-use Rattle.q_gather.proofs.Keeping.{gives_is}
 use Rattle.q_gather.proofs.Turning.{put_turn}
 use Rattle.q_gather.proofs.Entries.{enter_turn}
 
@@ -29,7 +28,7 @@ pub data IsMove (c later : ClusterState) : Type 0 where
   -- the books are as they were, and nothing was sent
   Rests : ((id : ℕ) → book_at later id ≡ book_at c id) → later.past.sent ≡ c.past.sent → IsMove c later
   -- a book takes an entry; what it wants was sent before
-  Goes : (id : ℕ) (b d : BookState) (e : Entry) → book_at c id ≡ Some b → replays.Follows b e d → CanGo c.past.sent (step_of b e) → IsTurn c id d (gives b e) later → IsMove c later
+  Goes : (id : ℕ) (b d : BookState) (e : Entry) → book_at c id ≡ Some b → replays.Follows b e d → CanGo c.past.sent (step_of b e) → IsTurn c id d (sends b e) later → IsMove c later
   -- a node enters
   Enters : (id : ℕ) → book_at c id ≡ None → IsTurn c id (book.entered c.version c.past.config id).0 (book.entered c.version c.past.config id).1 later → IsMove c later
 
@@ -41,9 +40,8 @@ module _ (c : ClusterState) where
 
   called_moves : (later : ClusterState) → IsCalled c later → IsMove c later
   called_moves later k =
-      let sent = k.sent ∙ ap (λ (x : List Message). c.past.sent ++ x) (sym (gives_is k.book k.entry)) in
       Goes k.id k.book k.later k.entry (at_live c k.id k.book k.live) k.follows (may_go k.book k.entry k.wants)
-      (subst (IsTurn c k.id k.later (gives k.book k.entry)) k.is (put_turn c k.past (with_job c.jobs (handed k.book k.entry)) k.id k.later (gives k.book k.entry) sent))
+      (subst (IsTurn c k.id k.later (sends k.book k.entry)) k.is (put_turn c k.past (with_job c.jobs (handed k.book k.entry)) k.id k.later (sends k.book k.entry) k.sent))
 
   made_moves : (later : ClusterState) → IsMade c later → IsMove c later
   made_moves later (enters id none is) =

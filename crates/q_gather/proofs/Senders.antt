@@ -20,10 +20,10 @@ use Rattle.q_desk.proofs.Accepted.{same_some, no_some, same_answer, passed}
 use Rattle.q_book.specs.State.{BookState}
 use Rattle.q_book.specs.Books as book
 use Rattle.q_book.specs.Replays.{Follows, IsFirst}
-use Rattle.q_book.proofs.Followed.{NodeDid, sends, follows-accepted}
+use Rattle.q_book.specs.Sends.{sends}
+use Rattle.q_book.proofs.Followed.{NodeDid, follows-accepted}
 use Rattle.q_gather.specs.Merging.{Step}
-use Rattle.q_gather.proofs.Keeping.{gives_is}
-use Rattle.q_gather.specs.Traces.{gives, step_of, IsTraceFrom, entering, IsTrace}
+use Rattle.q_gather.specs.Traces.{step_of, IsTraceFrom, entering, IsTrace}
 
 -- each of these messages names this sender
 abbrev pub AreOwn : ℕ → List Message → Type 0
@@ -70,9 +70,9 @@ did_own b e outs n d = record {
   own = λ k m h. absurd (no_some m (ap (λ (x : List Message). slice_get x k) (sym d.1) ∙ h));
 }
 
-entry_own : (b c : BookState) (e : Entry) → Follows b e c → IsOwn b.node (gives b e) c.node
+entry_own : (b c : BookState) (e : Entry) → Follows b e c → IsOwn b.node (sends b e) c.node
 entry_own b c e f =
-    subst (λ (x : List Message). IsOwn b.node x c.node) (sym (gives_is b e)) (did_own b e (sends b e) c.node (follows-accepted b e c f).node)
+    did_own b e (sends b e) c.node (follows-accepted b e c f).node
 
 -- ---- the steps of a trace
 
@@ -80,7 +80,7 @@ from_own : (es : List Entry) (b c : BookState) (steps : List (Step Message)) →
 from_own [] b c steps r id named k t h = absurd (no_some t (ap (λ (x : List (Step Message)). slice_get x k) (sym r.0) ∙ h))
 from_own (e ∷ es) b c steps r id named zero t h =
     let first : step_of b e ≡ t = same_some (step_of b e) t (ap (λ (x : List (Step Message)). slice_get x 0) (sym r.3) ∙ h) in
-    subst (λ (x : Step Message). AreOwn id x.gives) first (subst (λ (x : ℕ). AreOwn x (gives b e)) named (entry_own b r.0 e r.1).own)
+    subst (λ (x : Step Message). AreOwn id x.gives) first (subst (λ (x : ℕ). AreOwn x (sends b e)) named (entry_own b r.0 e r.1).own)
 from_own (e ∷ es) b c steps r id named (suc k) t h =
     from_own es r.0 c r.2 r.4 id ((entry_own b r.0 e r.1).stays ∙ named) k t (ap (λ (x : List (Step Message)). slice_get x (suc k)) (sym r.3) ∙ h)
 

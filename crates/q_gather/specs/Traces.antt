@@ -1,16 +1,13 @@
 -- What the journal of a book wants and gives: the messages that reach the node, and those that it sends.
-use Rattle.std.specs.Prelude.{◌≡◌, ℕ, List, [], ◌∷◌, ◌++◌, Option, Some, None, Result, Ok, Err}
+use Rattle.std.specs.Prelude.{◌≡◌, ℕ, List, [], ◌∷◌, ◌++◌, Option, Some, None}
 use Rattle.sc_msg.specs.declared.message.Message.{Message}
-use Rattle.sc_node.specs.declared.answer.Begun.{Begun}
 use Rattle.sc_node.specs.State.{NodeState}
 use Rattle.q_desk.specs.declared.journal.Entry.{Entry}
 use Rattle.q_desk.specs.declared.journal.Entry.TheVariants as entry
-use Rattle.q_book.specs.declared.answer.Asked.{Asked}
-use Rattle.q_book.specs.declared.answer.Taken.{Taken}
-use Rattle.reasons.specs.declared.Reason.{Reason}
 use Rattle.q_book.specs.State.{BookState}
-use Rattle.q_book.specs.Books.{asked, stored, delivered, left, new_book, entered}
+use Rattle.q_book.specs.Books.{new_book, entered}
 use Rattle.q_book.specs.Replays.{Follows, IsFirst}
+use Rattle.q_book.specs.Sends.{sends}
 use Rattle.q_gather.specs.Merging.{Step}
 
 -- ---- one entry
@@ -19,21 +16,8 @@ abbrev pub wants : Entry → Option Message
 wants (entry.Deliver m) = Some m
 wants e = None
 
--- what a call sends that is accepted
-abbrev pub sent_by : {A : Type 0} → (A → List Message) → Result (A × BookState) Reason → List Message
-sent_by outs (Ok a) = outs a.0
-sent_by outs (Err e) = []
-
--- what the call of an entry sends
-abbrev pub gives : BookState → Entry → List Message
-gives b entry.Leave = sent_by (λ outs. outs) (left b)
-gives b (entry.Ask program start) = sent_by (λ (a : Asked). a.begun.outs) (asked b program start)
-gives b (entry.Store value) = sent_by (λ (a : Begun). a.outs) (stored b value)
-gives b (entry.Deliver m) = sent_by (λ (a : Taken). a.outs) (delivered b m)
-gives b e = []
-
 abbrev pub step_of : BookState → Entry → Step Message
-step_of b e = record { wants = wants e; gives = gives b e }
+step_of b e = record { wants = wants e; gives = sends b e }
 
 -- ---- all entries
 

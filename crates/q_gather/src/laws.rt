@@ -19,7 +19,8 @@ ghost use Rattle.q_gather.specs.Gathered.{AreDistinct, AreRight, AgreeOn, AreTra
 ghost use Rattle.q_gather.specs.Gather.{AreReplayed, Agree, IsRefused};
 ghost use Rattle.q_gather.specs.declared.fault.GatherFault.{GatherFault as Fault};
 ghost use Rattle.q_gather.specs.Merging.{Step, CanGo, AreOver, Merges};
-ghost use Rattle.q_gather.specs.Traces.{gives, step_of, IsTrace};
+ghost use Rattle.q_book.specs.Sends.{sends};
+ghost use Rattle.q_gather.specs.Traces.{step_of, IsTrace};
 ghost use Rattle.q_gather.specs.Turns.{IsEventOf, IsNext, Makes};
 ghost use Rattle.q_gather.specs.Numbers.{NumberList, added, AreNumbers};
 
@@ -53,8 +54,8 @@ pub fn order_is_free()
 /// were, and what the entry gives was sent. So is it where a node enters that was never there.
 pub fn entries_are_events()
     ensures event { (c : ClusterState) (id : ℕ) (b d : BookState) (e : Entry) → IsHistory c → IsNext c id b e d → CanGo c.past.sent (step_of b e) → (ev : ClusterEvent) × IsEventOf c id e ev }
-    ensures makes { (c : ClusterState) (id : ℕ) (b d : BookState) (e : Entry) (ev : ClusterEvent) → IsHistory c → IsNext c id b e d → AnswersAreRight d.desk → IsEventOf c id e ev → Makes c ev id d (gives b e) }
-    ensures enters { (c : ClusterState) (id : ℕ) → IsHistory c → book_at c id ≡ None → Makes c (ClusterEvent.Enter id) id (entered c.version c.past.config id).0 (entered c.version c.past.config id).1 }
+    ensures makes { (c : ClusterState) (id : ℕ) (b d : BookState) (e : Entry) (ev : ClusterEvent) → IsHistory c → IsNext c id b e d → AnswersAreRight d.desk → IsEventOf c id e ev → Makes c ev id d (sends b e) }
+    ensures enters { (c : ClusterState) (id : ℕ) → book_at c id ≡ None → Makes c (ClusterEvent.Enter id) id (entered c.version c.past.config id).0 (entered c.version c.past.config id).1 }
 {}
 
 /// A law: each book that is the replay of its journal has one trace.

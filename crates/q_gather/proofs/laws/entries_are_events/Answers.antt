@@ -7,5 +7,5 @@ pub returns : goal.returns
 returns c = record {
   event = λ d id b later e h n can. next_event d id b later e h n can;
   makes = λ d id b later e ev h n right is. next_makes d id b later e ev h n right is;
-  enters = λ d id h absent. enter_makes d id absent;
+  enters = λ d id absent. enter_makes d id absent;
 }
