@@ -18,7 +18,7 @@ pub record Tells (c : ClusterState) (books : List BookState) (pairs : Bool) (tex
   pub gathers : GathersBooks books c
   pub are_true : AnswersAreTrue c books
   pub met : List ℕ
-  pub tells_pairs : TellsPairs (if pairs then ended_pairs_of c.world.ops else []) met
+  pub tells_pairs : TellsPairs (if pairs then ended_pairs_of c.past.ops else []) met
   pub says : text ≡ answers_of books ++ (met ++ codes "journals ok\n")
 
 -- the refusal by which it is told that books do not gather

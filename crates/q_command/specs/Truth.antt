@@ -7,21 +7,21 @@ use Rattle.q_session.specs.declared.query.Phase.TheVariants.{Answered}
 use Rattle.q_session.specs.declared.query.Query.{Query}
 use Rattle.q_session.specs.declared.ran.Ran.{Ran}
 use Rattle.q_book.specs.State.{BookState}
-use Rattle.q_desk.specs.State.{DeskState}
 use Rattle.q_history.specs.Headline.{IsTrue}
 use Rattle.q_history.specs.State.{ClusterState}
+use Rattle.q_history.specs.World.{world}
 
 -- The cluster recorded this answer of the node's query of this number, over this view; and it is true: it is the
 -- meaning of the query's program over that view, which is the one that the query's own collect returned, and which
 -- holds each store that ended before the collect began and that meets it. The view has only what nodes began to store
 -- before the collect ended.
 pub record IsTrueAnswer (c : ClusterState) (node query : ℕ) (asked : Query) (view : ViewMap) (ran : Ran) : Type 0 where
-  pub desk : DeskState
-  pub at : fin.get c.desks node ≡ Some desk
-  pub numbered : slice_get desk.queries query ≡ Some asked
+  pub book : BookState
+  pub at : fin.get c.books node ≡ Some book
+  pub numbered : slice_get book.desk.queries query ≡ Some asked
   pub recorded : asked.phase ≡ Answered view ran
-  pub is_true : IsTrue c node desk asked view ran
-  pub genuine : (place : ℕ) → is_true.returned.collect.end ≡ Some place → IsGenuine c.world place view
+  pub is_true : IsTrue c node book asked view ran
+  pub genuine : (place : ℕ) → is_true.returned.collect.end ≡ Some place → IsGenuine (world c) place view
 
 -- so it is of each answer that the books record, whose lines are told
 abbrev pub AnswersAreTrue : ClusterState → List BookState → Type 0

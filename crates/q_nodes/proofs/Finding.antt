@@ -29,10 +29,10 @@ program_is c node id code b p false at has other = λ h.
 
 -- ---- stores
 
-pub no_store : (c : ClusterState) (node tag : ℕ) (bytes : List ℕ) → ((o : Op) → Among o c.world.ops → o.node ≡ node → o.tag ≡ tag → ⊥) → (o : Op) → IsStoreOf c node tag bytes o → ⊥
+pub no_store : (c : ClusterState) (node tag : ℕ) (bytes : List ℕ) → ((o : Op) → Among o c.past.ops → o.node ≡ node → o.tag ≡ tag → ⊥) → (o : Op) → IsStoreOf c node tag bytes o → ⊥
 no_store c node tag bytes none o h = none o h.among h.by h.tagged
 
-pub other_store : (c : ClusterState) (node tag : ℕ) (bytes : List ℕ) (op : Op) → IsOnly c.world.ops node tag op → ((e : Entry) → op.session.kind ≡ kind.Store e → e.value ≡ bytes → ⊥)
+pub other_store : (c : ClusterState) (node tag : ℕ) (bytes : List ℕ) (op : Op) → IsOnly c.past.ops node tag op → ((e : Entry) → op.session.kind ≡ kind.Store e → e.value ≡ bytes → ⊥)
     → (o : Op) → IsStoreOf c node tag bytes o → ⊥
 other_store c node tag bytes op only other o h =
     let same : o ≡ op = only.only o h.among h.by h.tagged in

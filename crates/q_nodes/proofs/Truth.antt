@@ -1,24 +1,19 @@
 -- The cluster of the books of a run, and what is true of the answers that it recorded.
-use Rattle.std.proofs.Common.{◌≡◌, ℕ, List, Option, Some, None, refl, sym, ap, subst}
-use Rattle.std.specs.FinMap as fin
+use Rattle.std.proofs.Common.{◌≡◌, ℕ, List, Option, Some, sym, ap, subst}
 use Rattle.std.specs.Io.KnownBytes.{Appends}
 use Rattle.sc_members.specs.Members.{Config}
 use Rattle.sc_msg.specs.declared.version.Version.{Version}
-use Rattle.sc_node.specs.State.{NodeState}
 use Rattle.sc_view.specs.Views.{ViewMap}
 use Rattle.q_session.specs.declared.query.Phase.{Phase}
 use Rattle.q_session.specs.declared.query.Phase.TheVariants.{Collecting, Ready, Running, Answered}
 use Rattle.q_session.specs.declared.query.Query.{Query}
 use Rattle.q_session.specs.declared.ran.Ran.{Ran}
-use Rattle.q_desk.specs.State.{DeskState}
 use Rattle.q_desk.specs.Desks.{answer_in}
 use Rattle.q_book.specs.State.{BookState}
-use Rattle.q_cluster.specs.Acts.{booked}
 use Rattle.q_history.specs.declared.event.ClusterEvent.{ClusterEvent}
 use Rattle.q_history.specs.Calls.{IsHistory, Reaches}
 use Rattle.q_history.specs.Clusters.{start}
 use Rattle.q_history.specs.Headline as headline
-use Rattle.q_history.specs.Heads.{book_of}
 use Rattle.q_history.specs.State.{ClusterState}
 use Rattle.q_history.proofs.Lists.{same_some, no_some}
 use Rattle.q_gather.specs.Gather.{GathersBooks}
@@ -40,12 +35,6 @@ cluster_of_books script c books gathers founded = record { history = gathers.gat
 
 -- ---- its answers
 
-booked_desk : (c : ClusterState) (id : ℕ) (n : Option NodeState) (d : Option DeskState) (b : BookState) → booked c id n d ≡ Some b → d ≡ Some b.desk
-booked_desk c id (Some n) (Some d) b is = ap (λ (x : BookState). Some x.desk) (same_some (book_of c id n d) b is)
-booked_desk c id (Some n) None b is = absurd (no_some b is)
-booked_desk c id None (Some d) b is = absurd (no_some b is)
-booked_desk c id None None b is = absurd (no_some b is)
-
 answered_by : (p : Phase) (ran : Ran) → Some ran ≡ answer_in p → (view : ViewMap) × (p ≡ Answered view ran)
 answered_by Collecting ran e = absurd (no_some ran (sym e))
 answered_by (Ready view) ran e = absurd (no_some ran (sym e))
@@ -58,18 +47,17 @@ EveryAnswer = (version : Version) (config : Config) (founders : List ℕ) (event
 
 true_answer : EveryAnswer → (c : ClusterState) (node query program start : ℕ) (q : Query) (ran : Ran) → IsHistory c → IsQueryOf c node query program start q → Some ran ≡ answer_in q.phase → IsTrueAnswer c node query program start ran
 true_answer law c node query program start q ran history is e =
-    let desk : fin.get c.desks node ≡ Some is.book.desk = booked_desk c node (fin.get c.world.nodes node) (fin.get c.desks node) is.book is.at in
     let (view, recorded) = answered_by q.phase ran e in
     record {
-      desk = is.book.desk;
-      at = desk;
+      book = is.book;
+      at = is.at;
       asked = q;
       numbered = is.numbered;
       names = is.names;
       begins = is.begins;
       view = view;
       recorded = recorded;
-      is_true = law c.version c.world.config c.world.founders history.0 c history.1 node query is.book.desk q view ran desk is.numbered recorded;
+      is_true = law c.version c.past.config c.past.founders history.0 c history.1 node query is.book q view ran is.at is.numbered recorded;
     }
 
 told_answer : EveryAnswer → (nodes : ℕ) (c : ClusterState) (node program start by query : ℕ) (ran : Ran) → IsHistory c → IsTold nodes c (line.Ask node program start) (Asked by query (Some ran))

@@ -3,18 +3,15 @@
 use Rattle.std.proofs.Common.{◌≡◌, ℕ, Bool, true, false, cond, List, [], ◌∷◌, Option, Some, None, refl, sym, ap, ◌∙◌}
 use Rattle.std.proofs.Common.{subst, slice_get, arith, inl, inr}
 use Rattle.std.specs.Ordering.{nat_cmp}
-use Rattle.std.specs.FinMap as fin
 use Rattle.std.specs.FinSet as set
 use Rattle.sc_msg.specs.declared.version.Version.TheVariants.{First, Second}
-use Rattle.sc_node.specs.State.{NodeState}
 use Rattle.sc_world.specs.Records.{Among}
 use Rattle.q_session.specs.declared.query.Query.{Query}
 use Rattle.q_session.specs.declared.ran.Ran.{Ran}
-use Rattle.q_desk.specs.State.{DeskState}
 use Rattle.q_book.specs.State.{BookState}
-use Rattle.q_cluster.specs.Acts.{book_at, booked}
-use Rattle.q_history.specs.Heads.{book_of, founders_for}
+use Rattle.q_cluster.specs.Acts.{book_at}
 use Rattle.q_history.specs.State.{ClusterState}
+use Rattle.q_history.proofs.Histories.{history_kept}
 use Rattle.q_history.proofs.Lists.{no_some, same_some}
 use Rattle.q_gather.specs.Gather.{Agree, AreRefused, GathersBooks}
 use Rattle.q_gather.specs.declared.fault.GatherFault.{GatherFault}
@@ -62,16 +59,6 @@ no_fault books BadFounders agree h e = h.1 agree
 no_fault books NeverSent agree h e = absurd (cc)
 no_fault books OutOfMemory agree h e = absurd (cc)
 
--- the book of a node has the cluster's head
-headed : (c : ClusterState) (id : ℕ) (n : Option NodeState) (d : Option DeskState) (b : BookState)
-    → booked c id n d ≡ Some b → (b.config ≡ c.world.config) × (b.founders ≡ founders_for id c.world.founders)
-headed c id (Some n) (Some d) b is =
-    let same : book_of c id n d ≡ b = same_some (book_of c id n d) b is in
-    (ap (λ (x : BookState). x.config) (sym same), ap (λ (x : BookState). x.founders) (sym same))
-headed c id (Some n) None b is = absurd (no_some b is)
-headed c id None (Some d) b is = absurd (no_some b is)
-headed c id None None b is = absurd (no_some b is)
-
 all_listed : (t : Bool) (ids few : List ℕ) → (let o : Option (List ℕ) = cond t (Some ids) None in o) ≡ Some few
     → ids ≡ few
 all_listed true ids few is = same_some ids few is
@@ -81,10 +68,10 @@ module _ (s : ClusterScript) (b : BookState) (one : s.nodes ≡ 1) (config : s.c
     (founders : b.founders ≡ Some (1 ∷ [])) where
   founded : (c : ClusterState) → GathersBooks (b ∷ []) c → IsFoundedBy s c
   founded c g =
-      let head = headed c b.id (fin.get c.world.nodes b.id) (fin.get c.desks b.id) b (g.gathered.each 0 b refl) in
-      let is_one : Bool = set.contains (set.from_list {R = nat_cmp} c.world.founders) b.id in
-      let ids = all_listed is_one c.world.founders (1 ∷ []) (sym head.1 ∙ founders) in
-      record { config = sym (config ∙ head.0); founders = ids ∙ ap ids_to (sym one) }
+      let head = (history_kept c g.gathered.history).headed b.id b (g.gathered.each 0 b refl) in
+      let is_one : Bool = set.contains (set.from_list {R = nat_cmp} c.past.founders) b.id in
+      let ids = all_listed is_one c.past.founders (1 ∷ []) (sym head.founders ∙ founders) in
+      record { config = sym (config ∙ head.config); founders = ids ∙ ap ids_to (sym one) }
 
   gathered : s.lines.items ≡ [] → Agree (b ∷ []) → IsUngathered s (b ∷ []) bad_founders → ⊥
   gathered none agree (inl h) = no_fault (b ∷ []) h.0 agree h.1 h.2

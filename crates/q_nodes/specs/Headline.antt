@@ -7,7 +7,6 @@ use Rattle.q_session.specs.declared.query.Phase.TheVariants.{Answered}
 use Rattle.q_session.specs.declared.query.Query.{Query}
 use Rattle.q_session.specs.declared.ran.Ran.{Ran}
 use Rattle.q_book.specs.State.{BookState}
-use Rattle.q_desk.specs.State.{DeskState}
 use Rattle.q_history.specs.Headline.{IsTrue}
 use Rattle.q_history.specs.State.{ClusterState}
 use Rattle.q_nodes.specs.Books.{AreBooksOf}
@@ -22,15 +21,15 @@ use Rattle.q_nodes.specs.declared.script.ClusterScript.{ClusterScript}
 -- start; and it is true: it is the program's meaning over the view that the query's own collect returned, which holds
 -- each store that ended before the collect began and that meets it.
 pub record IsTrueAnswer (c : ClusterState) (node query program start : ℕ) (ran : Ran) : Type 0 where
-  pub desk : DeskState
-  pub at : fin.get c.desks node ≡ Some desk
+  pub book : BookState
+  pub at : fin.get c.books node ≡ Some book
   pub asked : Query
-  pub numbered : slice_get desk.queries query ≡ Some asked
+  pub numbered : slice_get book.desk.queries query ≡ Some asked
   pub names : asked.program ≡ program
   pub begins : asked.start ≡ start
   pub view : ViewMap
   pub recorded : asked.phase ≡ Answered view ran
-  pub is_true : IsTrue c node desk asked view ran
+  pub is_true : IsTrue c node book asked view ran
 
 -- The text that was written is that of reports of the script's lines, in turn; and there is one cluster of the script,
 -- into which the books of its nodes gather, and which recorded each answer that an `ask` line told, for the query that

@@ -80,7 +80,7 @@ pub record IsProgramOf (c : ClusterState) (node id : ℕ) (code : List ℕ) : Ty
 
 -- the operation of the node with this tag is a store of these bytes
 pub record IsStoreOf (c : ClusterState) (node tag : ℕ) (bytes : List ℕ) (op : Op) : Type 0 where
-  pub among : Among op c.world.ops
+  pub among : Among op c.past.ops
   pub by : op.node ≡ node
   pub tagged : op.tag ≡ tag
   pub entry : Entry

@@ -32,8 +32,8 @@ ids_to (suc known) = ids_to known ++ (known + 1) ∷ []
 
 -- the cluster has the fractions of the script, and its founders are the script's nodes
 pub record IsFoundedBy (script : ClusterScript) (c : ClusterState) : Type 0 where
-  pub config : c.world.config ≡ script.config
-  pub founders : c.world.founders ≡ ids_to script.nodes
+  pub config : c.past.config ≡ script.config
+  pub founders : c.past.founders ≡ ids_to script.nodes
 
 -- the cluster is the script's: a history of its founders, into which these books gather
 pub record IsClusterOf (script : ClusterScript) (books : List BookState) (c : ClusterState) : Type 0 where

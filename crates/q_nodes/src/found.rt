@@ -72,7 +72,7 @@ fn store_of<'a>(
     tag: u64,
     bytes: &[u8],
 ) -> Option<&'a Op>
-    requires { AreFiled cluster.now.world.ops (get (λ a b. nat_eq a.0 b.0 && nat_eq a.1 b.1) places.now.by_tag) }
+    requires { AreFiled cluster.now.past.ops (get (λ a b. nat_eq a.0 b.0 && nat_eq a.1 b.1) places.now.by_tag) }
     ensures { MatchOption result
         ((o : Record) → IsStoreOf cluster.now node tag bytes.now o → ⊥)
         (λ op. IsStoreOf cluster.now node tag bytes.now op.now) }
@@ -149,7 +149,7 @@ fn find_program(
 
 /// What a line tells that was answered with this tag.
 fn find_store(cluster: &Cluster, places: &Places, line: &ClusterLine, tag: u64) -> Option<Report>
-    requires { AreFiled cluster.now.world.ops (get (λ a b. nat_eq a.0 b.0 && nat_eq a.1 b.1) places.now.by_tag) }
+    requires { AreFiled cluster.now.past.ops (get (λ a b. nat_eq a.0 b.0 && nat_eq a.1 b.1) places.now.by_tag) }
     ensures { (nodes : ℕ) → ComesTo nodes line.now (outcome.Stored tag) → Finds nodes cluster.now line.now (outcome.Stored tag) result }
 {
     match line {
@@ -195,7 +195,7 @@ fn find_line(
     line: &ClusterLine,
     outcome: Outcome,
 ) -> Result<Option<Report>, AllocError>
-    requires { AreFiled cluster.now.world.ops (get (λ a b. nat_eq a.0 b.0 && nat_eq a.1 b.1) places.now.by_tag) }
+    requires { AreFiled cluster.now.past.ops (get (λ a b. nat_eq a.0 b.0 && nat_eq a.1 b.1) places.now.by_tag) }
     ensures { (nodes : ℕ) → ComesTo nodes line.now outcome → IfOk result (Finds nodes cluster.now line.now outcome) }
 {
     match outcome {

@@ -42,14 +42,14 @@ enum Sought {
 
 /// Whether the cluster has these founders.
 fn has_founders(cluster: &Cluster, ids: &[u64]) -> bool
-    ensures { MatchBool result (cluster.now.world.founders ≡ ids.now) (cluster.now.world.founders ≡ ids.now → ⊥) }
+    ensures { MatchBool result (cluster.now.past.founders ≡ ids.now) (cluster.now.past.founders ≡ ids.now → ⊥) }
 {
     cluster.founders() == ids
 }
 
 /// Whether the cluster has these fractions.
 fn has_config(cluster: &Cluster, config: Config) -> bool
-    ensures { MatchBool result (cluster.now.world.config ≡ config) (cluster.now.world.config ≡ config → ⊥) }
+    ensures { MatchBool result (cluster.now.past.config ≡ config) (cluster.now.past.config ≡ config → ⊥) }
 {
     cluster.config() == config
 }
