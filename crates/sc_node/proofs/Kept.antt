@@ -16,20 +16,18 @@ use Rattle.sc_msg.specs.declared.message.Body.{Body}
 use Rattle.sc_msg.specs.declared.message.Body.TheVariants.{Enter, EnterEcho, Join, Leave, Store, StoreAck, StoreEcho, CollectQuery, CollectReply}
 use Rattle.sc_msg.specs.declared.message.Message.{Message}
 use Rattle.sc_msg.specs.Lengths.{BodyHasValuesWithin, MessageHasValuesWithin}
-use Rattle.sc_operations.specs.declared.session.OperationKind.{OperationKind}
-use Rattle.sc_operations.specs.declared.session.OperationKind.TheVariants as kind
 use Rattle.sc_operations.specs.declared.session.Phase.{Phase}
-use Rattle.sc_operations.specs.declared.session.StoreBack.{StoreBack}
 use Rattle.sc_operations.specs.declared.session.Session.{Session}
+use Rattle.sc_operations.specs.declared.session.Session.TheVariants as session
 use Rattle.sc_operations.specs.declared.progress.Advance.{Advance}
 use Rattle.sc_operations.specs.declared.progress.Advance.TheVariants as advance
 use Rattle.sc_operations.specs.declared.progress.Progress.{Progress}
 use Rattle.sc_node.specs.declared.answer.Begun.{Begun}
 use Rattle.sc_node.specs.declared.answer.Delivered.{Delivered}
-use Rattle.sc_node.specs.Sessions.{apply, advanced_by, session_with, ends, ended_by, ended_at, ended_with, querying, storing, count_sender, is_reached, view_in}
+use Rattle.sc_node.specs.Sessions.{apply, advanced_by, with_phase, open_phase, stored, ends, ended_by, ended_at, ended_with, querying, storing, count_sender, is_reached}
 use Rattle.sc_node.specs.State.{NodeState}
 use Rattle.sc_node.specs.Nodes.{fresh, founded, entered, store_begun, collect_begun, left, delivered, delivery, node_after, view_after, is_reply, sessions_after, session_moved, ended_session, progress_of, ack_progress, reply_progress, ack_for, reply_for, answers, store_of, store_back, joins, message_from, beta_threshold, hearing, opening, fitting, leaving, stored_view, store_session, collect_session, next_stored}
-use Rattle.sc_node.specs.Lengths.{KindHasValuesWithin, SessionHasValuesWithin, TableHasValuesWithin, NodeHasValuesWithin, BegunHasValuesWithin, AdvanceHasValuesWithin, ProgressHasValuesWithin, EndedHasValuesWithin, DeliveryHasValuesWithin}
+use Rattle.sc_node.specs.Lengths.{SessionHasValuesWithin, TableHasValuesWithin, NodeHasValuesWithin, BegunHasValuesWithin, AdvanceHasValuesWithin, ProgressHasValuesWithin, EndedHasValuesWithin, DeliveryHasValuesWithin}
 
 -- a call that passed its tests does this
 does : {A E : Type 0} (ts : Tests E) (x y : A) → tested ts (Ok x) ≡ Ok y → x ≡ y
@@ -65,14 +63,15 @@ module _ (l : Lengths) where
   table_without : (m : fin.FinMap nat_cmp Session) (tag : ℕ) → TableHasValuesWithin l m → TableHasValuesWithin l (fin.remove m tag)
   table_without m tag table = record { at = λ q p has. removed (eq_by_cmp nat_cmp q tag) m q p table (sym (fin.get-remove nat_cmp_total m tag q) ∙ has) }
 
-  counted_view : (o : Session) (back : Option StoreBack) (from : ℕ) → KindHasValuesWithin l o.kind → IfSome (view_in back) (HasValuesWithin l) → SessionHasValuesWithin l (session_with o back from)
-  counted_view o None from of view = record { kind = of; view = tt }
-  counted_view o (Some b) from of view = record { kind = of; view = view }
+  with_phase_within : (o : Session) (p : Phase) → SessionHasValuesWithin l o → SessionHasValuesWithin l (with_phase o p)
+  with_phase_within (session.Store e b) p h = record { kind = h.kind; view = h.view }
+  with_phase_within (session.Querying q) p h = record { kind = tt; view = tt }
+  with_phase_within (session.StoringBack q b) p h = record { kind = tt; view = h.view }
 
   advanced : (from : ℕ) (a : Advance) (o : Session) → AdvanceHasValuesWithin l a → SessionHasValuesWithin l o → SessionHasValuesWithin l (advanced_by from a o)
-  advanced from (advance.Turned threshold view) o new h = record { kind = h.kind; view = new }
-  advanced from advance.Counted o new h = counted_view o o.back from h.kind h.view
-  advanced from advance.Ended o new h = counted_view o o.back from h.kind h.view
+  advanced from (advance.Turned threshold view) (session.Querying p) new h = record { kind = tt; view = new }
+  advanced from (advance.Turned threshold view) o new h = h
+  advanced from a o new h = with_phase_within o (count_sender (open_phase o) from) h
 
   moved_by : (b : Bool) (m : fin.FinMap nat_cmp Session) (tag : ℕ) (o : Session) → TableHasValuesWithin l m → SessionHasValuesWithin l o → TableHasValuesWithin l (cond b (fin.remove m tag) (fin.insert m tag o))
   moved_by true m tag o table new = table_without m tag table
@@ -86,16 +85,12 @@ module _ (l : Lengths) where
   table_after m None table new = table
   table_after m (Some p) table new = moved_at m p (fin.get m p.tag) table new refl
 
-  completed_view : (tag : ℕ) (o : Session) (back : Option StoreBack) → IfSome (view_in back) (HasValuesWithin l) → IfSome (ended_with tag o.kind back) (EndedHasValuesWithin l)
-  completed_view tag o None view = tt
-  completed_view tag o (Some b) view = by_kind o.kind
-    where
-      by_kind : (k : OperationKind) → IfSome (ended_with tag k (Some b)) (EndedHasValuesWithin l)
-      by_kind (kind.Store e) = tt
-      by_kind kind.Collect = view
+  completed_view : (tag : ℕ) (o : Session) → IfSome (stored o) (HasValuesWithin l) → IfSome (ended_with tag o) (EndedHasValuesWithin l)
+  completed_view tag (session.StoringBack q b) view = view
+  completed_view tag o view = tt
 
   ended_at_end : (tag : ℕ) (a : Advance) (o : Option Session) → IfSome o (SessionHasValuesWithin l) → IfSome (ended_at tag a o) (EndedHasValuesWithin l)
-  ended_at_end tag advance.Ended (Some o) h = completed_view tag o o.back h.view
+  ended_at_end tag advance.Ended (Some o) h = completed_view tag o h.view
   ended_at_end tag advance.Ended None h = tt
   ended_at_end tag advance.Counted o h = tt
   ended_at_end tag (advance.Turned threshold view) o h = tt

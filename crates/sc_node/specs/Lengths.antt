@@ -16,7 +16,7 @@ use Rattle.sc_operations.specs.declared.progress.Completion.TheVariants as compl
 use Rattle.sc_operations.specs.declared.progress.Ended.{Ended}
 use Rattle.sc_node.specs.declared.answer.Begun.{Begun}
 use Rattle.sc_node.specs.declared.answer.Delivered.{Delivered}
-use Rattle.sc_node.specs.Sessions.{stored}
+use Rattle.sc_node.specs.Sessions.{kind_of, stored}
 use Rattle.sc_node.specs.State.{NodeState}
 
 -- the value that an operation is for
@@ -26,7 +26,7 @@ KindHasValuesWithin l kind.Collect = Unit {0}
 
 -- each value of an operation: the one that it is for, and those of the view that it stores, or stores back
 pub record SessionHasValuesWithin (l : Lengths) (o : Session) : Type 0 where
-  pub kind : KindHasValuesWithin l o.kind
+  pub kind : KindHasValuesWithin l (kind_of o)
   pub view : IfSome (stored o) (HasValuesWithin l)
 
 -- each value of the open operations

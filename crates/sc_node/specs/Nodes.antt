@@ -14,9 +14,9 @@ use Rattle.sc_msg.specs.declared.message.Body.{Body}
 use Rattle.sc_msg.specs.declared.message.CollectReply.{CollectReply as ReplyFields}
 use Rattle.sc_msg.specs.declared.message.StoreAck.{StoreAck as AckFields}
 use Rattle.sc_msg.specs.declared.message.Body.TheVariants.{Enter, EnterEcho, Join, JoinEcho, Leave, LeaveEcho, Store, StoreAck, StoreEcho, CollectQuery, CollectReply}
-use Rattle.sc_operations.specs.declared.session.OperationKind.TheVariants as kind
 use Rattle.sc_operations.specs.declared.session.Phase.{Phase}
 use Rattle.sc_operations.specs.declared.session.Session.{Session}
+use Rattle.sc_operations.specs.declared.session.Session.TheVariants as session
 use Rattle.sc_operations.specs.declared.progress.Advance.{Advance}
 use Rattle.sc_operations.specs.declared.progress.Advance.TheVariants as advance
 use Rattle.sc_operations.specs.declared.progress.Progress.{Progress}
@@ -24,7 +24,7 @@ use Rattle.sc_node.specs.declared.answer.Begun.{Begun}
 use Rattle.sc_node.specs.declared.answer.Delivered.{Delivered}
 use Rattle.reasons.specs.declared.Reason.{Reason}
 use Rattle.reasons.specs.declared.Reason.TheVariants as reasons
-use Rattle.sc_operations.specs.Sessions.{new_phase, count_sender, is_reached, querying, storing, ended_by}
+use Rattle.sc_operations.specs.Sessions.{new_phase, back_begun, count_sender, is_reached, querying, storing, ended_by}
 use Rattle.sc_node.specs.State.{NodeState}
 pub use Rattle.sc_operations.specs.Sessions.{ack_progress, session_moved, sessions_after, ended_session}
 
@@ -265,20 +265,18 @@ abbrev pub stored_view : NodeState → List ℕ → ViewMap
 stored_view n value = put n.view n.id (next_stored n value)
 
 abbrev pub store_session : NodeState → List ℕ → Session
-store_session n value =
-    record { kind = kind.Store (next_stored n value); query = None; back = Some (record { view = stored_view n value; phase = new_phase (beta_threshold n) }) }
+store_session n value = session.Store (next_stored n value) (back_begun (stored_view n value) (beta_threshold n))
 
 -- the node's view with a value of its own
 abbrev pub with_value : NodeState → Stored → Result ViewMap Reason
 with_value n e = tested (fitting (put n.view n.id e)) (Ok (put n.view n.id e))
 
 abbrev pub session_of : NodeState → Stored → ViewMap → Session
-session_of n e view = record { kind = kind.Store e; query = None; back = Some (record { view = view; phase = new_phase (beta_threshold n) }) }
+session_of n e view = session.Store e (back_begun view (beta_threshold n))
 
 -- a store that waits for so many acknowledgements
 abbrev pub waiting_store : ℕ → Stored → ViewMap → Session
-waiting_store threshold e view =
-    record { kind = kind.Store e; query = None; back = Some (record { view = view; phase = new_phase threshold }) }
+waiting_store threshold e view = session.Store e (back_begun view threshold)
 
 -- the store of a value is opened, with which the node's view is this
 abbrev pub store_opened : NodeState → Stored → ViewMap → Begun × NodeState
@@ -293,7 +291,7 @@ store_begun n value =
     ))
 
 abbrev pub collect_session : NodeState → Session
-collect_session n = record { kind = kind.Collect; query = Some (new_phase (beta_threshold n)); back = None }
+collect_session n = session.Querying (new_phase (beta_threshold n))
 
 -- the node begins to collect
 abbrev pub collect_begun : NodeState → Result (Begun × NodeState) Reason

@@ -12,10 +12,10 @@ use Rattle.sc_operations.specs.declared.session.OperationKind.TheVariants as kin
 use Rattle.sc_operations.specs.declared.session.Phase.{Phase}
 use Rattle.sc_operations.specs.declared.session.StoreBack.{StoreBack}
 use Rattle.sc_operations.specs.declared.session.Session.{Session}
+use Rattle.sc_operations.specs.declared.session.Session.TheVariants as session
 use Rattle.sc_operations.specs.declared.progress.Advance.{Advance}
 use Rattle.sc_operations.specs.declared.progress.Advance.TheVariants as advance
 use Rattle.sc_operations.specs.declared.progress.Progress.{Progress}
-use Rattle.sc_operations.specs.declared.progress.Completion.{Completion}
 use Rattle.sc_operations.specs.declared.progress.Completion.TheVariants as completion
 use Rattle.sc_operations.specs.declared.progress.Ended.{Ended}
 
@@ -30,13 +30,35 @@ count_sender p from = record { threshold = p.threshold; counted = set.insert p.c
 abbrev pub is_reached : Phase → Bool
 is_reached p = nat_le p.threshold (set.len p.counted)
 
+-- what an operation stores, or stores back, when nobody acknowledged it yet
+abbrev pub back_begun : ViewMap → ℕ → StoreBack
+back_begun view threshold = record { view = view; phase = new_phase threshold }
+
+-- whether an operation stores or collects
+abbrev pub kind_of : Session → OperationKind
+kind_of (session.Store e b) = kind.Store e
+kind_of (session.Querying p) = kind.Collect
+kind_of (session.StoringBack p b) = kind.Collect
+
+-- the query phase of a collect
+abbrev pub query_of : Session → Option Phase
+query_of (session.Store e b) = None
+query_of (session.Querying p) = Some p
+query_of (session.StoringBack p b) = Some p
+
+-- what an operation stores, or stores back, once it does
+abbrev pub back_of : Session → Option StoreBack
+back_of (session.Store e b) = Some b
+back_of (session.Querying p) = None
+back_of (session.StoringBack p b) = Some b
+
 abbrev pub view_in : Option StoreBack → Option ViewMap
 view_in None = None
 view_in (Some b) = Some b.view
 
 -- the view that an operation stores, or stores back, once it does
 abbrev pub stored : Session → Option ViewMap
-stored s = view_in s.back
+stored s = view_in (back_of s)
 
 abbrev pub counted_in : Option Phase → Ids
 counted_in None = set.empty
@@ -48,86 +70,62 @@ phase_in (Some b) = Some b.phase
 
 -- whose replies a collect counted
 abbrev pub repliers : Session → Ids
-repliers s = counted_in s.query
+repliers s = counted_in (query_of s)
 
 -- whose acknowledgements an operation counted
 abbrev pub ackers : Session → Ids
-ackers s = counted_in (phase_in s.back)
-
--- the query phase, while nothing is stored back
-abbrev pub query_before : Option StoreBack → Option Phase → Option Phase
-query_before None query = query
-query_before (Some b) query = None
+ackers s = counted_in (phase_in (back_of s))
 
 -- the query phase of an operation that is in it
 abbrev pub querying : Option Session → Option Phase
-querying None = None
-querying (Some s) = query_before s.back s.query
+querying (Some (session.Querying p)) = Some p
+querying s = None
 
 -- the phase of an operation that is stored, or stored back
 abbrev pub storing : Option Session → Option Phase
 storing None = None
-storing (Some s) = phase_in s.back
+storing (Some s) = phase_in (back_of s)
 
-abbrev pub phase_with : Option Phase → ℕ → Option Phase
-phase_with None from = None
-phase_with (Some p) from = Some (count_sender p from)
+-- the phase in which an operation counts now
+abbrev pub open_phase : Session → Phase
+open_phase (session.Store e b) = b.phase
+open_phase (session.Querying p) = p
+open_phase (session.StoringBack p b) = b.phase
 
-abbrev pub session_with : Session → Option StoreBack → ℕ → Session
-session_with s None from = record { kind = s.kind; query = phase_with s.query from; back = None }
-session_with s (Some b) from = record { kind = s.kind; query = s.query; back = Some (record { view = b.view; phase = count_sender b.phase from }) }
+abbrev pub with_phase : Session → Phase → Session
+with_phase (session.Store e b) p = session.Store e (record { view = b.view; phase = p })
+with_phase (session.Querying q) p = session.Querying p
+with_phase (session.StoringBack q b) p = session.StoringBack q (record { view = b.view; phase = p })
+
+-- an operation that counts these in the phase that is open
+abbrev pub with_counted : Session → Ids → Session
+with_counted s ids = with_phase s (record { threshold = (open_phase s).threshold; counted = ids })
 
 -- the sender is counted in the phase that is open
 abbrev pub counted : Session → ℕ → Session
-counted s from = session_with s s.back from
+counted s from = with_phase s (count_sender (open_phase s) from)
 
 abbrev pub advanced_by : ℕ → Advance → Session → Session
-advanced_by from (advance.Turned threshold view) s =
-    record { kind = s.kind; query = phase_with s.query from; back = Some (record { view = view; phase = new_phase threshold }) }
-advanced_by from advance.Counted s = counted s from
-advanced_by from advance.Ended s = counted s from
+advanced_by from (advance.Turned threshold view) (session.Querying p) = session.StoringBack (count_sender p from) (back_begun view threshold)
+advanced_by from (advance.Turned threshold view) s = s
+advanced_by from a s = counted s from
 
 -- an operation after its progress
 abbrev pub apply : Progress → Session → Session
 apply p s = advanced_by p.sender p.advance s
 
--- the phase in which an operation counts now
-abbrev pub open_phase : Option StoreBack → Option Phase → Option Phase
-open_phase None query = query
-open_phase (Some b) query = Some b.phase
-
--- the phase in which a sender was counted
-abbrev pub counting_phase : Advance → Session → Option Phase
-counting_phase (advance.Turned threshold view) s = s.query
-counting_phase a s = open_phase s.back s.query
-
-abbrev pub phase_counting : Option Phase → Ids → Option Phase
-phase_counting None ids = None
-phase_counting (Some p) ids = Some (record { threshold = p.threshold; counted = ids })
-
--- an operation with another query phase
-abbrev pub replied : Session → Option Phase → Session
-replied s query = record { kind = s.kind; query = query; back = s.back }
-
--- an operation that counts these in the phase that is open
-abbrev pub with_counted : Session → Option StoreBack → Ids → Session
-with_counted s None ids = record { kind = s.kind; query = phase_counting s.query ids; back = None }
-with_counted s (Some b) ids = record { kind = s.kind; query = s.query; back = Some (record { view = b.view; phase = record { threshold = b.phase.threshold; counted = ids } }) }
-
 abbrev pub ends : Advance → Bool
 ends advance.Ended = true
 ends a = false
 
-abbrev pub completed : OperationKind → ViewMap → Completion
-completed (kind.Store e) view = completion.Stored
-completed kind.Collect view = completion.Returned view
-
-abbrev pub ended_with : ℕ → OperationKind → Option StoreBack → Option Ended
-ended_with tag k None = None
-ended_with tag k (Some b) = Some (record { tag = tag; what = completed k b.view })
+-- what an operation ends with, where it is stored or stored back
+abbrev pub ended_with : ℕ → Session → Option Ended
+ended_with tag (session.Store e b) = Some (record { tag = tag; what = completion.Stored })
+ended_with tag (session.Querying p) = None
+ended_with tag (session.StoringBack p b) = Some (record { tag = tag; what = completion.Returned b.view })
 
 abbrev pub ended_at : ℕ → Advance → Option Session → Option Ended
-ended_at tag advance.Ended (Some s) = ended_with tag s.kind s.back
+ended_at tag advance.Ended (Some s) = ended_with tag s
 ended_at tag a s = None
 
 -- the operation that ends, where its state was this

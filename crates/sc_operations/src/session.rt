@@ -1,14 +1,15 @@
 //! An operation, and its phases.
 
-ghost use Rattle.std.specs.Prelude.{◌≡◌, Some, None, OnOk, OnErr};
-ghost use Rattle.sc_operations.specs.declared.session.OperationKind.TheVariants as kind;
+ghost use Rattle.std.specs.Prelude.{◌≡◌, OnOk, OnErr, option_copied};
+ghost use Rattle.sc_operations.specs.declared.session.Session.TheVariants as session;
 ghost use Rattle.std.specs.FinSet as set;
-ghost use Rattle.sc_operations.specs.Sessions.{new_phase, count_sender, is_reached, counted_in, counting_phase, counted, advanced_by, apply, phase_with, phase_counting, replied, with_counted};
+ghost use Rattle.sc_operations.specs.Sessions.{new_phase, back_begun, count_sender, is_reached, kind_of, query_of, back_of, open_phase, counted, with_counted, advanced_by, apply};
 
 use crate::progress::{Advance, Progress};
 use sc_members::IdSet;
 use sc_view::{Stored, View};
 use std::alloc::{AllocError, Global};
+use std::mem;
 
 /// What an operation is for.
 #[derive(Clone, Copy, Debug, PartialEq, Eq)]
@@ -37,16 +38,26 @@ pub struct StoreBack {
     pub phase: Phase,
 }
 
-/// An operation. A store has no query phase, and stores back from its beginning. A collect begins with its query
-/// phase, whose counted senders it keeps, and stores back once that phase has ended.
+/// An operation. A store stores from its beginning. A collect begins with its query phase, whose counted senders it
+/// keeps, and stores back once that phase has ended.
 #[derive(Drop)]
-pub struct Session {
-    /// Whether it stores or collects.
-    pub kind: OperationKind,
-    /// The query phase of a collect.
-    pub query: Option<Phase>,
-    /// What is stored, or stored back, once it is.
-    pub back: Option<StoreBack>,
+pub enum Session {
+    /// A store: the value with its number, and who acknowledged the view that has it.
+    Store {
+        /// The value with its number.
+        stored: Stored,
+        /// The view that has the value, and who acknowledged it.
+        back: StoreBack,
+    },
+    /// A collect whose replies are counted.
+    Querying(Phase),
+    /// A collect that stores back what it learned: its query phase, and who acknowledged what is stored back.
+    StoringBack {
+        /// The query phase, which has ended.
+        query: Phase,
+        /// What is stored back, and who acknowledged it.
+        back: StoreBack,
+    },
 }
 
 impl Phase {
@@ -76,47 +87,93 @@ impl Phase {
     }
 }
 
+impl StoreBack {
+    // The view is stored, or stored back, and nobody acknowledged it yet.
+    pub(crate) fn new(alloc: Global, view: View, threshold: u64) -> StoreBack
+        ensures { result ≡ back_begun view threshold }
+    {
+        StoreBack {
+            view,
+            phase: Phase::new(alloc, threshold),
+        }
+    }
+}
+
 impl Session {
     /// A store that begins.
     pub fn store(alloc: Global, stored: Stored, view: View, threshold: u64) -> Session
-        ensures { result ≡ record { kind = kind.Store stored; query = None; back = Some (record { view = view; phase = new_phase threshold }) } }
+        ensures { result ≡ session.Store stored (back_begun view threshold) }
     {
-        Session {
-            kind: OperationKind::Store(stored),
-            query: None,
-            back: Some(StoreBack {
-                view,
-                phase: Phase::new(alloc, threshold),
-            }),
+        Session::Store {
+            stored,
+            back: StoreBack::new(alloc, view, threshold),
         }
     }
 
     /// A collect that begins.
     pub fn collect(alloc: Global, threshold: u64) -> Session
-        ensures { result ≡ record { kind = kind.Collect; query = Some (new_phase threshold); back = None } }
+        ensures { result ≡ session.Querying (new_phase threshold) }
     {
-        Session {
-            kind: OperationKind::Collect,
-            query: Some(Phase::new(alloc, threshold)),
-            back: None,
+        Session::Querying(Phase::new(alloc, threshold))
+    }
+
+    /// Whether it stores or collects.
+    pub fn kind(&self) -> OperationKind
+        ensures { result ≡ kind_of self.now }
+    {
+        match self {
+            Session::Store { stored, .. } => OperationKind::Store(*stored),
+            _ => OperationKind::Collect,
+        }
+    }
+
+    /// The query phase of a collect.
+    pub fn query(&self) -> Option<&Phase>
+        ensures { option_copied result ≡ query_of self.now }
+    {
+        match self {
+            Session::Store { .. } => None,
+            Session::Querying(query) | Session::StoringBack { query, .. } => Some(query),
+        }
+    }
+
+    /// What is stored, or stored back, once it is.
+    pub fn back(&self) -> Option<&StoreBack>
+        ensures { option_copied result ≡ back_of self.now }
+    {
+        match self {
+            Session::Querying(_) => None,
+            Session::Store { back, .. } | Session::StoringBack { back, .. } => Some(back),
+        }
+    }
+
+    /// The phase in which it counts now.
+    pub fn open_phase(&self) -> &Phase
+        ensures { result.now ≡ open_phase self.now }
+    {
+        match self {
+            Session::Querying(query) => query,
+            Session::Store { back, .. } | Session::StoringBack { back, .. } => &back.phase,
         }
     }
 
     /// Moves the operation by a progress whose sender was counted elsewhere. Takes no memory.
     pub fn advance(&mut self, alloc: Global, progress: Progress, counted: IdSet)
-        requires { counted ≡ set.insert (counted_in (counting_phase progress.advance self.old)) progress.sender }
+        requires { counted ≡ set.insert (open_phase self.old).counted progress.sender }
         ensures { self.new ≡ apply progress self.old }
     {
-        let Progress { advance, .. } = progress;
-        if let Advance::Turned { threshold, view } = advance {
-            self.replace_repliers(counted);
-            self.back = Some(StoreBack {
-                view,
-                phase: Phase::new(alloc, threshold),
-            });
+        let Advance::Turned { threshold, view } = progress.advance else {
+            self.replace_counted(counted);
             return;
+        };
+        if let Session::Querying(query) = self {
+            let query = Phase {
+                threshold: query.threshold,
+                counted,
+            };
+            let back = StoreBack::new(alloc, view, threshold);
+            *self = Session::StoringBack { query, back };
         }
-        self.replace_counted(counted);
     }
 
     // Counts the sender where an answer moves the operation. At Err the operation is as it was.
@@ -129,15 +186,16 @@ impl Session {
         ensures ok { OnOk result (self.new ≡ advanced_by sender advance self.old) }
         ensures err { OnErr result (self.new ≡ self.old) }
     {
-        if let Advance::Turned { threshold, view } = advance {
-            self.count_reply(sender)?;
-            self.back = Some(StoreBack {
-                view,
-                phase: Phase::new(alloc, threshold),
-            });
-            return Ok(());
+        let Advance::Turned { threshold, view } = advance else {
+            return self.count(sender);
+        };
+        if let Session::Querying(query) = self {
+            query.count(sender)?;
+            let back = StoreBack::new(alloc, view, threshold);
+            let query = mem::replace(query, Phase::new(alloc, threshold));
+            *self = Session::StoringBack { query, back };
         }
-        self.count(sender)
+        Ok(())
     }
 
     // Counts the sender in the phase that is open.
@@ -145,39 +203,21 @@ impl Session {
         ensures ok { OnOk result (self.new ≡ counted self.old sender) }
         ensures err { OnErr result (self.new ≡ self.old) }
     {
-        match &mut self.back {
-            Some(back) => back.phase.count(sender),
-            None => self.count_reply(sender),
-        }
-    }
-
-    // Counts the sender in the query phase.
-    fn count_reply(&mut self, sender: u64) -> Result<(), AllocError>
-        ensures ok { OnOk result (self.new ≡ replied self.old (phase_with self.old.query sender)) }
-        ensures err { OnErr result (self.new ≡ self.old) }
-    {
-        match &mut self.query {
-            Some(phase) => phase.count(sender),
-            None => Ok(()),
+        match self {
+            Session::Querying(query) => query.count(sender),
+            Session::Store { back, .. } => back.phase.count(sender),
+            Session::StoringBack { back, .. } => back.phase.count(sender),
         }
     }
 
     // These are counted in the phase that is open.
     fn replace_counted(&mut self, counted: IdSet)
-        ensures { self.new ≡ with_counted self.old self.old.back counted }
+        ensures { self.new ≡ with_counted self.old counted }
     {
-        match &mut self.back {
-            Some(back) => back.phase.counted = counted,
-            None => self.replace_repliers(counted),
-        }
-    }
-
-    // These are counted in the query phase.
-    fn replace_repliers(&mut self, counted: IdSet)
-        ensures { self.new ≡ replied self.old (phase_counting self.old.query counted) }
-    {
-        if let Some(phase) = &mut self.query {
-            phase.counted = counted;
+        match self {
+            Session::Querying(query) => query.counted = counted,
+            Session::Store { back, .. } => back.phase.counted = counted,
+            Session::StoringBack { back, .. } => back.phase.counted = counted,
         }
     }
 }

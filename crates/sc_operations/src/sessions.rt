@@ -6,7 +6,7 @@ ghost use Rattle.sc_operations.specs.Sessions.{querying, storing, ends, ended_wi
 ghost use Rattle.sc_operations.specs.declared.progress.Advance.TheVariants as Advance;
 
 use crate::progress::{Advance, Completion, Ended};
-use crate::session::{OperationKind, Phase, Session, StoreBack};
+use crate::session::{Phase, Session};
 use std::alloc::{AllocError, Global};
 use std::collections::BTreeMap;
 use std::marker::Model;
@@ -59,21 +59,18 @@ impl Sessions {
     pub fn querying(&self, tag: u64) -> Option<&Phase>
         ensures { option_copied result ≡ querying (fin.get self.now tag) }
     {
-        let session = self.get(tag)?;
-        if session.back.is_some() {
-            return None;
+        match self.get(tag)? {
+            Session::Querying(query) => Some(query),
+            _ => None,
         }
-        session.query.as_ref()
     }
 
     /// The phase of an operation that is stored, or stored back.
     pub(crate) fn storing(&self, tag: u64) -> Option<&Phase>
         ensures { option_copied result ≡ storing (fin.get self.now tag) }
     {
-        match &self.get(tag)?.back {
-            Some(back) => Some(&back.phase),
-            None => None,
-        }
+        let back = self.get(tag)?.back()?;
+        Some(&back.phase)
     }
 
     /// Opens an operation. At Err the operations are as they were.
@@ -116,12 +113,12 @@ impl Sessions {
 
 // What an operation ends with, where it is stored or stored back.
 fn ended_with(tag: u64, session: Session) -> Option<Ended>
-    ensures { result ≡ ended_with tag session.kind session.back }
+    ensures { result ≡ ended_with tag session }
 {
-    let StoreBack { view, .. } = session.back?;
-    let what = match session.kind {
-        OperationKind::Store(_) => Completion::Stored,
-        OperationKind::Collect => Completion::Returned(view),
+    let what = match session {
+        Session::Store { .. } => Completion::Stored,
+        Session::Querying(_) => return None,
+        Session::StoringBack { back, .. } => Completion::Returned(back.view),
     };
     Some(Ended { tag, what })
 }
