@@ -11,7 +11,7 @@ use Rattle.sc_msg.specs.declared.message.Body.TheVariants.{Store, StoreAck, Coll
 use Rattle.sc_msg.specs.declared.message.CollectReply.{CollectReply as ReplyFields}
 use Rattle.sc_msg.specs.declared.message.StoreAck.{StoreAck as AckFields}
 use Rattle.sc_operations.specs.declared.session.OperationKind.TheVariants as kind
-use Rattle.sc_node.specs.Sessions.{stored, repliers, ackers}
+use Rattle.sc_node.specs.Sessions.{kind_of, stored, repliers, ackers}
 use Rattle.sc_node.specs.State.{NodeState}
 use Rattle.sc_node.specs.Nodes.{message_from}
 use Rattle.sc_world.specs.declared.op.Op.{Op}
@@ -47,7 +47,7 @@ pub record Continues (o o' : Op) : Type 0 where
   pub node : o'.node ≡ o.node
   pub tag : o'.tag ≡ o.tag
   pub begin : o'.begin ≡ o.begin
-  pub kind : o'.session.kind ≡ o.session.kind
+  pub kind : kind_of o'.session ≡ kind_of o.session
   pub running : o.end ≡ None
 
 -- an acknowledgement is counted
@@ -70,7 +70,7 @@ pub record IsReplied (o o' : Op) (learned after : ViewMap) (from : ℕ) : Type 0
 
 -- the view of a store has its number, or a larger one
 abbrev pub HasNumber : Op → Type 0
-HasNumber o = (e : Stored) → o.session.kind ≡ kind.Store e → (v : ViewMap) × (stored o.session ≡ Some v) × (e.number ≤ number_at v o.node)
+HasNumber o = (e : Stored) → kind_of o.session ≡ kind.Store e → (v : ViewMap) × (stored o.session ≡ Some v) × (e.number ≤ number_at v o.node)
 
 pub record IsBegun (w : WorldState) (o : Op) : Type 0 where
   pub fresh : (m : Message) → Among m w.sent → IsAbout m o.node o.tag → ⊥
@@ -105,7 +105,7 @@ pub record IsChange (w w' : WorldState) : Type 0 where
 
 pub record MeetsEarlier (w : WorldState) : Type 0 where
   -- a collect that began after a store had ended, and that meets it, holds it
-  pub stores : (s c : Op) (e : Stored) (v : ViewMap) (q : ℕ) → Among s w.ops → Among c w.ops → s.session.kind ≡ kind.Store e → EndedBefore s c
+  pub stores : (s c : Op) (e : Stored) (v : ViewMap) (q : ℕ) → Among s w.ops → Among c w.ops → kind_of s.session ≡ kind.Store e → EndedBefore s c
       → stored c.session ≡ Some v → Has (ackers s.session) q → Has (repliers c.session) q → e.number ≤ number_at v s.node
   -- it lies above what an earlier collect stored back, where it meets it
   pub collects : (b c : Op) (u v : ViewMap) (q : ℕ) → Among b w.ops → Among c w.ops → EndedBefore b c → stored b.session ≡ Some u

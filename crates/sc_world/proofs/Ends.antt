@@ -7,16 +7,16 @@ use Rattle.sc_view.specs.declared.view.Stored.{Stored}
 use Rattle.sc_view.specs.Views.{ViewMap}
 use Rattle.sc_msg.specs.declared.message.Message.{Message}
 use Rattle.sc_msg.specs.declared.message.Body.{Body}
-use Rattle.sc_operations.specs.declared.session.OperationKind.{OperationKind}
 use Rattle.sc_operations.specs.declared.session.OperationKind.TheVariants as kind
-use Rattle.sc_operations.specs.declared.session.StoreBack.{StoreBack}
+use Rattle.sc_operations.specs.declared.session.Phase.{Phase}
 use Rattle.sc_operations.specs.declared.session.Session.{Session}
+use Rattle.sc_operations.specs.declared.session.Session.TheVariants as session
 use Rattle.sc_operations.specs.declared.progress.Advance.{Advance}
 use Rattle.sc_operations.specs.declared.progress.Advance.TheVariants as advance
 use Rattle.sc_operations.specs.declared.progress.Progress.{Progress}
 use Rattle.sc_operations.specs.declared.progress.Completion.TheVariants as completion
 use Rattle.sc_operations.specs.declared.progress.Ended.{Ended}
-use Rattle.sc_node.specs.Sessions.{stored, view_in, session_with, advanced_by, completed, ended_with, ended_at, ended_by}
+use Rattle.sc_node.specs.Sessions.{kind_of, stored, open_phase, with_phase, count_sender, advanced_by, ended_with, ended_at, ended_by}
 use Rattle.sc_node.specs.State.{NodeState}
 use Rattle.sc_node.specs.Nodes.{progress_of, ended_session}
 use Rattle.sc_world.specs.declared.event.WorldEvent.{WorldEvent}
@@ -40,107 +40,94 @@ use Rattle.sc_world.proofs.Inverts.{same_answer, no_refusal, IsTaken, live_is, a
 record IsEnding (sessions : fin.FinMap nat_cmp Session) (p : Option Progress) (x : Ended) : Type 0 where
   progress : Progress
   is : p ≡ Some progress
-  tagged : progress.tag ≡ x.tag
   ends : progress.advance ≡ advance.Ended
   session : Session
   was : fin.get sessions progress.tag ≡ Some session
-  back : StoreBack
-  held : session.back ≡ Some back
-  what : completed session.kind back.view ≡ x.what
+  says : ended_with progress.tag session ≡ Some x
 
-module _ (sessions : fin.FinMap nat_cmp Session) (p : Progress) (x : Ended) where
-  ends-with : (s : Session) (b : Option StoreBack) → fin.get sessions p.tag ≡ Some s → p.advance ≡ advance.Ended → s.back ≡ b → ended_with p.tag s.kind b ≡ Some x → IsEnding sessions (Some p) x
-  ends-with s None was ends held h = absurd (cc)
-  ends-with s (Some b) was ends held h =
-      let same : (let y : Ended = record { tag = p.tag; what = completed s.kind b.view } in y) ≡ x = cc in
-      record {
-        progress = p;
-        is = refl;
-        tagged = ap (λ (y : Ended). y.tag) same;
-        ends = ends;
-        session = s;
-        was = was;
-        back = b;
-        held = held;
-        what = ap (λ (y : Ended). y.what) same;
-      }
-
-  ends-at : (a : Advance) (o : Option Session) → p.advance ≡ a → fin.get sessions p.tag ≡ o → ended_at p.tag a o ≡ Some x → IsEnding sessions (Some p) x
-  ends-at advance.Ended (Some s) ends was h = ends-with s s.back was ends refl h
-  ends-at advance.Ended None ends was h = absurd (cc)
-  ends-at advance.Counted o ends was h = absurd (cc)
-  ends-at (advance.Turned t v) o ends was h = absurd (cc)
+ends-at : (sessions : fin.FinMap nat_cmp Session) (p : Progress) (x : Ended) (a : Advance) (o : Option Session) → p.advance ≡ a → fin.get sessions p.tag ≡ o → ended_at p.tag a o ≡ Some x → IsEnding sessions (Some p) x
+ends-at sessions p x advance.Ended (Some s) ends was h = record { progress = p; is = refl; ends = ends; session = s; was = was; says = h }
+ends-at sessions p x a o ends was h = absurd (cc)
 
 ends-by : (sessions : fin.FinMap nat_cmp Session) (p : Option Progress) (x : Ended) → ended_by p (ended_session sessions p) ≡ Some x → IsEnding sessions p x
 ends-by sessions None x h = absurd (cc)
 ends-by sessions (Some p) x h = ends-at sessions p x p.advance (fin.get sessions p.tag) refl refl h
 
-stored_with : (s : Session) (b : Option StoreBack) (from : ℕ) → s.back ≡ b → stored (session_with s b from) ≡ stored s
-stored_with s None from is = sym (ap view_in is)
-stored_with s (Some b) from is = sym (ap view_in is)
+stored_with : (s : Session) (p : Phase) → stored (with_phase s p) ≡ stored s
+stored_with (session.Store e b) p = refl
+stored_with (session.Querying q) p = refl
+stored_with (session.StoringBack q b) p = refl
+
+some_is : {X : Type 0} {x y : X} → Some x ≡ Some y → x ≡ y
+some_is h = cc
+
+-- what is told of an operation that ends: its tag, and what it gives
+record IsEnd (tag : ℕ) (s : Session) (x : Ended) : Type 0 where
+  tagged : x.tag ≡ tag
+  returned : (view : ViewMap) → x.what ≡ completion.Returned view → (kind_of s ≡ kind.Collect) × (stored s ≡ Some view)
+  stored : x.what ≡ completion.Stored → (e : Stored) × (kind_of s ≡ kind.Store e)
+
+is_end : (tag : ℕ) (s : Session) (x : Ended) → ended_with tag s ≡ Some x → IsEnd tag s x
+is_end tag (session.Store e b) x h = subst (IsEnd tag (session.Store e b)) (some_is h) (record { tagged = refl; returned = λ view is. absurd (cc); stored = λ is. (e, refl) })
+is_end tag (session.Querying p) x h = absurd (cc)
+is_end tag (session.StoringBack p b) x h =
+    subst (IsEnd tag (session.StoringBack p b)) (some_is h)
+    (record { tagged = refl; returned = λ view is. let same : b.view ≡ view = cc in (refl, ap (λ (y : ViewMap). let o : Option ViewMap = Some y in o) same); stored = λ is. absurd (cc) })
 
 -- the record of an operation that ended, as what it was and with what it held
-record HasEnded (w : WorldState) (place q tag : ℕ) (k : OperationKind) (view : ViewMap) : Type 0 where
+record HasEnded (w : WorldState) (place q tag : ℕ) (s : Session) : Type 0 where
   op : Op
   among : Among op w.ops
   by : op.node ≡ q
   tagged : op.tag ≡ tag
   ended : op.end ≡ Some place
-  kind : op.session.kind ≡ k
-  held : stored op.session ≡ Some view
+  kind : kind_of op.session ≡ kind_of s
+  held : stored op.session ≡ stored s
 
-completes-collect : (k : OperationKind) (v view : ViewMap) → completed k v ≡ completion.Returned view → (k ≡ kind.Collect) × (v ≡ view)
-completes-collect (kind.Store e) v view h = absurd (cc)
-completes-collect kind.Collect v view h = (refl, (let e : v ≡ view = cc in e))
-
-completes-store : (k : OperationKind) (v : ViewMap) → completed k v ≡ completion.Stored → (e : Stored) × (k ≡ kind.Store e)
-completes-store (kind.Store e) v h = (e, refl)
-completes-store kind.Collect v h = absurd (cc)
-
-module _ (w : WorldState) (place q tag : ℕ) (k : OperationKind) (v : ViewMap) (h : HasEnded w place q tag k v) where
-  has_returned : (view : ViewMap) → completed k v ≡ completion.Returned view → HasReturned w place q tag view
+module _ (w : WorldState) (place q tag : ℕ) (s : Session) (x : Ended) (h : HasEnded w place q tag s) (says : ended_with tag s ≡ Some x) where
+  has_returned : (view : ViewMap) → x.what ≡ completion.Returned view → HasReturned w place q x.tag view
   has_returned view what =
-      let c = completes-collect k v view what in
+      let end = is_end tag s x says in
+      let c = end.returned view what in
       record {
         op = h.op;
         among = h.among;
         by = h.by;
-        tagged = h.tagged;
+        tagged = h.tagged ∙ sym end.tagged;
         ended = h.ended;
-        returned =
-            ap (λ (x : OperationKind). returned_by x h.op.end (stored h.op.session)) (h.kind ∙ c.0)
-            ∙ ap (λ (x : Option ℕ). returned_by kind.Collect x (stored h.op.session)) h.ended
-            ∙ h.held ∙ ap (λ (x : ViewMap). let o : Option ViewMap = Some x in o) c.1;
+        returned = (λ i. returned_by ((h.kind ∙ c.0) i) (h.ended i) (stored h.op.session)) ∙ h.held ∙ c.1;
       }
 
-  has_stored : completed k v ≡ completion.Stored → HasStored w place q tag
+  has_stored : x.what ≡ completion.Stored → HasStored w place q x.tag
   has_stored what =
-      let c = completes-store k v what in
-      record { op = h.op; among = h.among; by = h.by; tagged = h.tagged; ended = h.ended; entry = c.0; kind = h.kind ∙ c.1 }
+      let end = is_end tag s x says in
+      let c = end.stored what in
+      record { op = h.op; among = h.among; by = h.by; tagged = h.tagged ∙ sym end.tagged; ended = h.ended; entry = c.0; kind = h.kind ∙ c.1 }
 
 module _ (w : WorldState) (e : WorldEvent) (q : ℕ) (n : NodeState) (at : fin.get w.nodes q ≡ Some n) (linked : IsLinked w) (from : ℕ) (b : Body) where
   open_by : (p : Option Progress) → IsMove n from b p → (o : Op) → Among o w.ops → (k : Progress) → p ≡ Some k → o.node ≡ q → o.tag ≡ k.tag → o.end ≡ None
   open_by None m o in' k is by tagged = absurd (cc)
-  open_by (Some p) (inl m) o in' k is by tagged =
+  open_by (Some p) m o in' k is by tagged =
       let same : k ≡ p = cc in
-      (is_open w e q n (heard n from b) at linked (heard_moves n from b) o m.session p.tag in' by (tagged ∙ ap (λ (x : Progress). x.tag) same) m.was).0
-  open_by (Some p) (inr m) o in' k is by tagged =
-      let same : k ≡ p = cc in
-      (is_open w e q n (heard n from b) at linked (heard_moves n from b) o m.session p.tag in' by (tagged ∙ ap (λ (x : Progress). x.tag) same) m.was).0
+      let at_tag : o.tag ≡ p.tag = tagged ∙ ap (λ (x : Progress). x.tag) same in
+      elim m [
+        | inl a ↦ (is_open w e q n (heard n from b) at linked (heard_moves n from b) o a.session p.tag in' by at_tag a.was).0
+        | inr a ↦ (is_open w e q n (heard n from b) at linked (heard_moves n from b) o (session.Querying a.phase) p.tag in' by at_tag a.was).0
+      ]
 
   -- a message moves only operations that have not ended
   pub moved_open : (o : Op) → Among o w.ops → (k : Progress) → progress_of n from b ≡ Some k → o.node ≡ q → o.tag ≡ k.tag → o.end ≡ None
   moved_open o in' k is by tagged = open_by (progress_of n from b) (moves n from b) o in' k is by tagged
 
   -- the record of the operation that a message ends
-  heard_ended : (x : Ended) (k : IsEnding n.sessions (progress_of n from b) x) (o : Op) → Among o w.ops → o.node ≡ q → o.tag ≡ x.tag → HasEnded (after w e q (heard n from b)) (clock w) q x.tag k.session.kind k.back.view
+  heard_ended : (x : Ended) (k : IsEnding n.sessions (progress_of n from b) x) (o : Op) → Among o w.ops → o.node ≡ q → o.tag ≡ k.progress.tag
+      → HasEnded (after w e q (heard n from b)) (clock w) q k.progress.tag k.session
   heard_ended x k o in' by tagged =
       let p = k.progress in
       let o' : Op = advanced q (clock w) (progress_of n from b) o in
-      let mine : o.tag ≡ p.tag = tagged ∙ sym k.tagged in
-      let f = is_open w e q n (heard n from b) at linked (heard_moves n from b) o k.session p.tag in' by mine k.was in
+      let f = is_open w e q n (heard n from b) at linked (heard_moves n from b) o k.session p.tag in' by tagged k.was in
       let turns : moved (clock w) p o ≡ o' =
-      advance_op q (clock w) p o (λ (y : Op). moved (clock w) p o ≡ y) (λ _ _. refl) (λ other. absurd (other by mine))
+      advance_op q (clock w) p o (λ (y : Op). moved (clock w) p o ≡ y) (λ _ _. refl) (λ other. absurd (other by tagged))
       ∙ ap (λ (y : Option Progress). advanced q (clock w) y o) (sym k.is) in
       record {
         op = o';
@@ -148,12 +135,12 @@ module _ (w : WorldState) (e : WorldEvent) (q : ℕ) (n : NodeState) (at : fin.g
         by = ap (λ (y : Op). y.node) (sym turns) ∙ by;
         tagged = ap (λ (y : Op). y.tag) (sym turns) ∙ tagged;
         ended = ap (λ (y : Op). y.end) (sym turns) ∙ ap (end_at (clock w)) k.ends;
-        kind = ap (λ (y : Op). y.session.kind) (sym turns) ∙ kind_kept o.session p.sender p.advance ∙ ap (λ (s : Session). s.kind) f.1;
+        kind = ap (λ (y : Op). kind_of y.session) (sym turns) ∙ kind_kept o.session p.sender p.advance ∙ ap kind_of f.1;
         held =
             ap (λ (y : Op). stored y.session) (sym turns)
             ∙ ap (λ (a : Advance). stored (advanced_by p.sender a o.session)) k.ends
-            ∙ stored_with o.session o.session.back p.sender refl
-            ∙ ap (λ (s : Session). stored s) f.1 ∙ ap view_in k.held;
+            ∙ stored_with o.session (count_sender (open_phase o.session) p.sender)
+            ∙ ap (λ (s : Session). stored s) f.1;
       }
 
 -- where an event tells of no end
@@ -171,19 +158,19 @@ module _ (w : WorldState) (linked : IsLinked w) (t : IsTallied w) where
     abbrev r : Outcome
     r = heard n m.from m.body
 
-    ended_of : (x : Ended) (k : IsEnding n.sessions (progress_of n m.from m.body) x) → HasEnded (after w e q r) (clock w) q x.tag k.session.kind k.back.view
+    ended_of : (x : Ended) (k : IsEnding n.sessions (progress_of n m.from m.body) x) → HasEnded (after w e q r) (clock w) q k.progress.tag k.session
     ended_of x k =
         let o = t.kept q n at k.progress.tag k.session k.was in
-        heard_ended w e q n at linked m.from m.body x k o.op o.among o.by (o.tagged ∙ k.tagged)
+        heard_ended w e q n at linked m.from m.body x k o.op o.among o.by o.tagged
 
     heard_recorded : EndIsRecorded w e (told w r) (after w e q r)
     heard_recorded = record {
       returned = λ x view is what.
           let k = ends-by n.sessions (progress_of n m.from m.body) x is in
-          has_returned (after w e q r) (clock w) q x.tag k.session.kind k.back.view (ended_of x k) view (k.what ∙ what);
+          has_returned (after w e q r) (clock w) q k.progress.tag k.session x (ended_of x k) k.says view what;
       stored = λ x is what.
           let k = ends-by n.sessions (progress_of n m.from m.body) x is in
-          has_stored (after w e q r) (clock w) q x.tag k.session.kind k.back.view (ended_of x k) (k.what ∙ what);
+          has_stored (after w e q r) (clock w) q k.progress.tag k.session x (ended_of x k) k.says what;
     }
 
   -- after an outcome that is known

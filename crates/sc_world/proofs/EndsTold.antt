@@ -5,15 +5,16 @@ use Rattle.std.specs.FinMap as fin
 use Rattle.sc_view.specs.Views.{ViewMap, merge}
 use Rattle.sc_msg.specs.declared.message.Message.{Message}
 use Rattle.sc_msg.specs.declared.message.Body.{Body}
-use Rattle.sc_operations.specs.declared.session.OperationKind.{OperationKind}
 use Rattle.sc_operations.specs.declared.session.Phase.{Phase}
 use Rattle.sc_operations.specs.declared.session.StoreBack.{StoreBack}
 use Rattle.sc_operations.specs.declared.session.Session.{Session}
+use Rattle.sc_operations.specs.declared.session.Session.TheVariants as session
 use Rattle.sc_operations.specs.declared.progress.Advance.{Advance}
 use Rattle.sc_operations.specs.declared.progress.Advance.TheVariants as advance
 use Rattle.sc_operations.specs.declared.progress.Progress.{Progress}
+use Rattle.sc_operations.specs.declared.progress.Completion.TheVariants as completion
 use Rattle.sc_operations.specs.declared.progress.Ended.{Ended}
-use Rattle.sc_node.specs.Sessions.{is_reached, count_sender, completed, ended_with, ended_at, ended_by}
+use Rattle.sc_node.specs.Sessions.{back_of, is_reached, count_sender, ended_with, ended_at, ended_by}
 use Rattle.sc_node.specs.State.{NodeState}
 use Rattle.sc_node.specs.Nodes.{beta_threshold, progress_of, ended_session}
 use Rattle.sc_world.specs.declared.act.Opened.{Opened}
@@ -24,7 +25,7 @@ use Rattle.reasons.specs.declared.Reason.{Reason}
 use Rattle.sc_world.specs.declared.op.Op.{Op}
 use Rattle.sc_world.specs.State.{WorldState}
 use Rattle.sc_world.specs.Worlds.{clock, node_of, Outcome, told, after, end_at, advanced, op_begun, live_at, crashes, enters, stores, collects, leaves, delivers, stepped}
-use Rattle.sc_world.specs.Records.{Among, Answers, IsAck, IsUntil, IsPhase, IsRunning, Stores, Queries, StoresBack, AreRecords}
+use Rattle.sc_world.specs.Records.{Among, Answers, IsAck, IsUntil, IsPhase, HasCome, AreRecords}
 use Rattle.sc_world.specs.Regular.{EndIsTold}
 use Rattle.sc_world.proofs.Links.{IsMove}
 use Rattle.sc_world.proofs.Steps.{among-append, among-map, advance_op}
@@ -39,13 +40,13 @@ over_before w P node since end p u = slice_get_within w.events end _ u.finish.ev
 until_before : (w : WorldState) (P : Answers) (node since : ℕ) (p : Phase) (x : Option ℕ) (end : ℕ) → x ≡ Some end → IsPhase w P node since p x → end < clock w
 until_before w P node since p x end is h = over_before w P node since end p (subst (IsUntil w P node since p) is h.until)
 
-ended_before : (w : WorldState) (o : Op) (end : ℕ) → IsRunning w o → o.end ≡ Some end → end < clock w
-ended_before w o end (Stores e b is query back phase) ended = until_before w (IsAck o) o.node o.begin b.phase o.end end ended phase
-ended_before w o end (Queries p is query back running phase) ended = let k : None ≡ Some end = sym running ∙ ended in absurd (cc)
-ended_before w o end (StoresBack p b turn is query back first second) ended = until_before w (IsAck o) o.node turn b.phase o.end end ended second
+ended_before : (w : WorldState) (o : Op) (end : ℕ) (s : Session) → HasCome w o s → o.end ≡ Some end → end < clock w
+ended_before w o end (session.Store e b) phase ended = until_before w (IsAck o) o.node o.begin b.phase o.end end ended phase
+ended_before w o end (session.Querying p) h ended = let k : None ≡ Some end = sym h.0 ∙ ended in absurd (cc)
+ended_before w o end (session.StoringBack p b) h ended = until_before w (IsAck o) o.node h.0 b.phase o.end end ended h.2
 
 not_now : (w : WorldState) → AreRecords w → (o : Op) → Among o w.ops → o.end ≡ Some (clock w) → ⊥
-not_now w records o in' ended = let lt : clock w < clock w = ended_before w o (clock w) (records.each o in').runs ended in absurd (omega (arith, lt))
+not_now w records o in' ended = let lt : clock w < clock w = ended_before w o (clock w) o.session (records.each o in').runs ended in absurd (omega (arith, lt))
 
 -- ---- what a message tells of the operation that it ends
 
@@ -62,18 +63,15 @@ reply_goes_on : (b : Bool) (threshold : ℕ) (view : ViewMap) → (let a : Advan
 reply_goes_on true threshold view h = absurd (cc)
 reply_goes_on false threshold view h = absurd (cc)
 
-tells_with : (tag : ℕ) (k : OperationKind) (x : Option StoreBack) (back : StoreBack) → x ≡ Some back → Tells (ended_with tag k x) tag
-tells_with tag k None back held = absurd (cc)
-tells_with tag k (Some b) back held = let x : Ended = record { tag = tag; what = completed k b.view } in (x, refl, refl)
-
-tells_at : (tag : ℕ) (a : Advance) (x : Option Session) (s : Session) (back : StoreBack) → a ≡ advance.Ended → x ≡ Some s → s.back ≡ Some back → Tells (ended_at tag a x) tag
-tells_at tag advance.Ended (Some y) s back ends was held = let same : y ≡ s = cc in tells_with tag y.kind y.back back (ap (λ (z : Session). z.back) same ∙ held)
-tells_at tag advance.Ended None s back ends was held = absurd (cc)
-tells_at tag advance.Counted x s back ends was held = absurd (cc)
-tells_at tag (advance.Turned t v) x s back ends was held = absurd (cc)
+tells_with : (tag : ℕ) (s : Session) (back : StoreBack) → back_of s ≡ Some back → Tells (ended_with tag s) tag
+tells_with tag (session.Store e b) back held = (record { tag = tag; what = completion.Stored }, refl, refl)
+tells_with tag (session.Querying p) back held = absurd (cc)
+tells_with tag (session.StoringBack p b) back held = (record { tag = tag; what = completion.Returned b.view }, refl, refl)
 
 tells_by : (n : NodeState) (from : ℕ) (b : Body) (p : Progress) → IsMove n from b (Some p) → p.advance ≡ advance.Ended → Tells (ended_by (Some p) (ended_session n.sessions (Some p))) p.tag
-tells_by n from b p (inl m) ends = tells_at p.tag p.advance (fin.get n.sessions p.tag) m.session m.back ends m.was m.stores
+tells_by n from b p (inl m) ends =
+    subst (λ (a : Advance). Tells (ended_at p.tag a (fin.get n.sessions p.tag)) p.tag) (sym ends)
+    (subst (λ (x : Option Session). Tells (ended_at p.tag advance.Ended x) p.tag) (sym m.was) (tells_with p.tag m.session m.back m.stores))
 tells_by n from b p (inr m) ends = absurd (reply_goes_on (is_reached (count_sender m.phase from)) (beta_threshold n) (merge n.view m.reply.view) (sym m.advance ∙ ends))
 
 -- ---- each event

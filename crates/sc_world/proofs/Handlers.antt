@@ -3,7 +3,6 @@ use Rattle.std.proofs.Common.{◌≡◌, ℕ, ◌+◌, ◌≤◌, ◌<◌, Bool,
 use Rattle.std.proofs.lemmas.Bool.{eqb-true, eq-eqb}
 use Rattle.std.specs.Ordering.{nat_cmp}
 use Rattle.std.specs.FinMap as fin
-use Rattle.std.specs.FinSet as set
 use Rattle.sc_view.specs.declared.view.Stored.{Stored}
 use Rattle.sc_view.specs.Views.{ViewMap, number_at, IsBelow, merge}
 use Rattle.sc_members.specs.Members.{Config, with_left}
@@ -16,11 +15,12 @@ use Rattle.sc_operations.specs.declared.session.OperationKind.TheVariants as kin
 use Rattle.sc_operations.specs.declared.session.Phase.{Phase}
 use Rattle.sc_operations.specs.declared.session.StoreBack.{StoreBack}
 use Rattle.sc_operations.specs.declared.session.Session.{Session}
+use Rattle.sc_operations.specs.declared.session.Session.TheVariants as session
 use Rattle.sc_operations.specs.declared.progress.Advance.{Advance}
 use Rattle.sc_operations.specs.declared.progress.Advance.TheVariants as advance
 use Rattle.sc_operations.specs.declared.progress.Progress.{Progress}
 use Rattle.sc_world.specs.declared.act.Opened.{Opened}
-use Rattle.sc_node.specs.Sessions.{stored, view_in, phase_in, counted_in, phase_with, session_with, advanced_by, apply, ends, is_reached, count_sender, querying, query_before, storing}
+use Rattle.sc_node.specs.Sessions.{back_of, stored, view_in, open_phase, counted, advanced_by, apply, ends, is_reached, count_sender, querying, storing}
 use Rattle.sc_node.specs.State.{NodeState}
 use Rattle.sc_node.specs.Nodes as node
 use Rattle.sc_node.specs.Nodes.{message_from, is_reply, view_after, progress_of, sessions_after, ack_progress, reply_progress, beta_threshold, joins, ack_for, reply_for, answers, store_back, store_of, delivery, node_after, begun, opened, store_session, collect_session, stored_view, next_stored, entered, entering}
@@ -33,7 +33,7 @@ use Rattle.sc_world.proofs.Changes.{view_of, view_at, Kept, IsAbout, IsSent, IsB
 use Rattle.sc_world.proofs.Links.{IsLinked, session_moved, session_after, IsTransition, AckMakes, ReplyMakes, IsMove, IsProgress, Each, IsBodyKnown}
 use Rattle.sc_world.proofs.Finite.{get-insert, get-insert_same, get-remove}
 use Rattle.sc_view.proofs.ViewLemmas.{below_refl, below_merge, merge_above, below_put, put_has}
-use Rattle.sc_world.proofs.Steps.{among-append, among-map, length-more, advance_op, known_next, view_next, is_change, is_linked}
+use Rattle.sc_world.proofs.Steps.{among-append, among-map, length-more, advance_op, is_open, known_next, view_next, is_change, is_linked}
 
 -- what each event makes of a node, where it is accepted
 abbrev pub heard : NodeState → ℕ → Body → Outcome
@@ -103,30 +103,19 @@ each_if P true xs h = h
 each_if P false xs h = tt
 
 -- what counting makes of a session
-acked_with : (s : Session) (x : Option StoreBack) (b : StoreBack) (from : ℕ) → s.back ≡ x → x ≡ Some b → AckMakes s (session_with s x from) from
-acked_with s None b from is at = absurd (cc)
-acked_with s (Some c) b from is at = record {
-  kind = refl;
-  view = sym (ap view_in is);
-  replied = refl;
-  acked = ap (λ (x : Option StoreBack). set.insert (counted_in (phase_in x)) from) (sym is);
-}
+ack_counted : (s : Session) (b : StoreBack) (from : ℕ) → back_of s ≡ Some b → AckMakes s (counted s from) from
+ack_counted (session.Store e c) b from is = record { kind = refl; view = refl; replied = refl; acked = refl }
+ack_counted (session.Querying p) b from is = absurd (cc)
+ack_counted (session.StoringBack p c) b from is = record { kind = refl; view = refl; replied = refl; acked = refl }
 
-ack_makes : (c : Bool) (s : Session) (b : StoreBack) (from : ℕ) → s.back ≡ Some b → AckMakes s (advanced_by from (cond c advance.Ended advance.Counted) s) from
-ack_makes true s b from is = acked_with s s.back b from refl is
-ack_makes false s b from is = acked_with s s.back b from refl is
+ack_makes : (c : Bool) (s : Session) (b : StoreBack) (from : ℕ) → back_of s ≡ Some b → AckMakes s (advanced_by from (cond c advance.Ended advance.Counted) s) from
+ack_makes true s b from is = ack_counted s b from is
+ack_makes false s b from is = ack_counted s b from is
 
-phase_counts : (x : Option Phase) (p : Phase) (from : ℕ) → x ≡ Some p → counted_in (phase_with x from) ≡ set.insert (counted_in x) from
-phase_counts None p from is = absurd (cc)
-phase_counts (Some y) p from is = refl
-
-replied_with : (s : Session) (x : Option StoreBack) (p : Phase) (from : ℕ) (v : ViewMap) → x ≡ None → s.query ≡ Some p → ReplyMakes s (session_with s x from) from v
-replied_with s (Some c) p from v at is = absurd (cc)
-replied_with s None p from v at is = record { kind = refl; replied = phase_counts s.query p from is; view = inl refl }
-
-reply_makes : (c : Bool) (s : Session) (p : Phase) (from next : ℕ) (v v' : ViewMap) → s.back ≡ None → s.query ≡ Some p → v ≡ v' → ReplyMakes s (advanced_by from (cond c (advance.Turned next v) advance.Counted) s) from v'
-reply_makes true s p from next v v' none is same = record { kind = refl; replied = phase_counts s.query p from is; view = inr (ap (λ (y : ViewMap). let o : Option ViewMap = Some y in o) same, refl) }
-reply_makes false s p from next v v' none is same = replied_with s s.back p from v' none is
+reply_makes : (c : Bool) (p : Phase) (from next : ℕ) (v v' : ViewMap) → v ≡ v'
+    → ReplyMakes (session.Querying p) (advanced_by from (cond c (advance.Turned next v) advance.Counted) (session.Querying p)) from v'
+reply_makes true p from next v v' same = record { kind = refl; replied = refl; view = inr (ap (λ (y : ViewMap). let o : Option ViewMap = Some y in o) same, refl) }
+reply_makes false p from next v v' same = record { kind = refl; replied = refl; view = inl refl }
 
 reply_stays : (c : Bool) (next : ℕ) (v : ViewMap) (place : ℕ) → end_at place (cond c (advance.Turned next v) advance.Counted) ≡ None
 reply_stays true next v place = refl
@@ -134,29 +123,22 @@ reply_stays false next v place = refl
 
 -- which messages move an operation, and how
 module _ (n : NodeState) (from : ℕ) where
-  ack_back : (a : AckFields) (s : Session) (b : Option StoreBack) → (a.to == n.id) ≡ true → fin.get n.sessions a.tag ≡ Some s → s.back ≡ b → IsMove n from (StoreAck a) (ack_progress from a.tag (phase_in b))
-  ack_back a s None is at back = tt
-  ack_back a s (Some b) is at back = inl (record { session = s; back = b; was = at; stores = back; ack = a; body = refl; to = eqb-true a.to n.id is; tag = refl; sender = refl; advance = refl })
+  ack_at : (a : AckFields) (s : Session) (b : StoreBack) → (a.to == n.id) ≡ true → fin.get n.sessions a.tag ≡ Some s → back_of s ≡ Some b
+      → IsMove n from (StoreAck a) (ack_progress from a.tag (Some (open_phase s)))
+  ack_at a s b is at back = inl (record { session = s; back = b; was = at; stores = back; ack = a; body = refl; to = eqb-true a.to n.id is; tag = refl; sender = refl; advance = refl })
 
   ack_move : (a : AckFields) (c : Bool) (s : Option Session) → (a.to == n.id) ≡ c → fin.get n.sessions a.tag ≡ s → IsMove n from (StoreAck a) (cond c (ack_progress from a.tag (storing s)) None)
-  ack_move a false s is at = tt
-  ack_move a true None is at = tt
-  ack_move a true (Some s) is at = ack_back a s s.back is at refl
+  ack_move a true (Some (session.Store e b)) is at = ack_at a (session.Store e b) b is at refl
+  ack_move a true (Some (session.StoringBack p b)) is at = ack_at a (session.StoringBack p b) b is at refl
+  ack_move a c s is at = tt
 
-  reply_back : (r : ReplyFields) (s : Session) (b : Option StoreBack) (p : Option Phase) → (r.to == n.id) ≡ true → fin.get n.sessions r.tag ≡ Some s → s.back ≡ b → s.query ≡ p
-      → IsMove n from (CollectReply r) (reply_progress from r.tag (merge n.view r.view) (beta_threshold n) (query_before b p))
-  reply_back r s (Some b) p is at back query = tt
-  reply_back r s None None is at back query = tt
-  reply_back r s None (Some p) is at back query =
-      let test : is_reply n r ≡ true =
-      ap (λ b. b && is_some (querying (fin.get n.sessions r.tag))) is
-      ∙ ap (λ (o : Option Session). is_some (querying o)) at ∙ ap (λ (b : Option StoreBack). is_some (query_before b s.query)) back ∙ ap (λ (x : Option Phase). is_some x) query in
+  reply_move : (r : ReplyFields) (c : Bool) (s : Option Session) → (r.to == n.id) ≡ c → fin.get n.sessions r.tag ≡ s
+      → IsMove n from (CollectReply r) (cond c (reply_progress from r.tag (merge n.view r.view) (beta_threshold n) (querying s)) None)
+  reply_move r true (Some (session.Querying p)) is at =
+      let test : is_reply n r ≡ true = ap (λ b. b && is_some (querying (fin.get n.sessions r.tag))) is ∙ ap (λ (o : Option Session). is_some (querying o)) at in
       inr (record {
-        session = s;
         phase = p;
         was = at;
-        none = back;
-        query = query;
         reply = r;
         body = refl;
         to = eqb-true r.to n.id is;
@@ -165,12 +147,7 @@ module _ (n : NodeState) (from : ℕ) where
         learned = sym (ap (λ b. cond b (merge n.view r.view) n.view) test);
         advance = refl;
       })
-
-  reply_move : (r : ReplyFields) (c : Bool) (s : Option Session) → (r.to == n.id) ≡ c → fin.get n.sessions r.tag ≡ s
-      → IsMove n from (CollectReply r) (cond c (reply_progress from r.tag (merge n.view r.view) (beta_threshold n) (querying s)) None)
-  reply_move r false s is at = tt
-  reply_move r true None is at = tt
-  reply_move r true (Some s) is at = reply_back r s s.back s.query is at refl refl
+  reply_move r c s is at = tt
 
   pub moves : (b : Body) → IsMove n from b (progress_of n from b)
   moves (StoreAck a) = ack_move a (a.to == n.id) (fin.get n.sessions a.tag) refl refl
@@ -197,20 +174,20 @@ module _ (w : WorldState) (e : WorldEvent) (q : ℕ) (n : NodeState) (at : fin.g
         tag = k.tag;
         makes =
             subst (λ (a : Advance). AckMakes k.session (advanced_by p.sender a k.session) p.sender) (sym k.advance)
-            (ack_makes (is_reached (count_sender k.back.phase from)) k.session k.back p.sender k.stores);
+            (ack_makes (is_reached (count_sender (open_phase k.session) from)) k.session k.back p.sender k.stores);
       })
   progress_by b (Some p) (inr k) sent =
       inr (record {
-        session = k.session;
+        session = session.Querying k.phase;
         was = k.was;
-        held = ap view_in k.none;
+        held = refl;
         reply = k.reply;
         sent = said b (CollectReply k.reply) p.sender k.body k.sender sent;
         to = k.to ∙ linked.named q n at;
         tag = k.tag;
         makes =
-            subst (λ (a : Advance). ReplyMakes k.session (advanced_by p.sender a k.session) p.sender (view_after n b)) (sym k.advance)
-            (reply_makes (is_reached (count_sender k.phase from)) k.session k.phase p.sender (beta_threshold n) (merge n.view k.reply.view) (view_after n b) k.none k.query k.learned);
+            subst (λ (a : Advance). ReplyMakes (session.Querying k.phase) (advanced_by p.sender a (session.Querying k.phase)) p.sender (view_after n b)) (sym k.advance)
+            (reply_makes (is_reached (count_sender k.phase from)) k.phase p.sender (beta_threshold n) (merge n.view k.reply.view) (view_after n b) k.learned);
         stays = λ place. ap (end_at place) k.advance ∙ reply_stays (is_reached (count_sender k.phase from)) (beta_threshold n) (merge n.view k.reply.view) place;
         learns = subst (λ (v : ViewMap). IsBelow k.reply.view v) k.learned (merge_above n.view k.reply.view);
       })
@@ -219,10 +196,11 @@ module _ (w : WorldState) (e : WorldEvent) (q : ℕ) (n : NodeState) (at : fin.g
   progress_is b sent = progress_by b (progress_of n from b) (moves n from b) sent
 
   -- what a collect stores back is sent, and is what its record has
-  turned_sent : (p : Progress) (a : Advance) (r : Outcome) → r.progress ≡ Some p → r.begun ≡ None → p.advance ≡ a → Each (IsBodySent w (after w e q r) q) (store_of p.tag a)
-  turned_sent p advance.Counted r moves begins is = tt
-  turned_sent p advance.Ended r moves begins is = tt
-  turned_sent p (advance.Turned next v) r moves begins is = (
+  turned_sent : (p : Progress) (a : Advance) (f : ReplyFields) (r : Outcome) → r.progress ≡ Some p → r.begun ≡ None → IsTransition n r → IsMove n from (CollectReply f) (Some p) → p.advance ≡ a
+      → Each (IsBodySent w (after w e q r) q) (store_of p.tag a)
+  turned_sent p advance.Counted f r moves begins x m is = tt
+  turned_sent p advance.Ended f r moves begins x m is = tt
+  turned_sent p (advance.Turned next v) f r moves begins x m is = (
     (λ o in' nq tt'.
         let all : Among o (map (advanced q (clock w) (Some p)) w.ops) =
         elim (among-append o (map (advanced q (clock w) r.progress) w.ops) (op_begun q (clock w) r.begun) in') [
@@ -231,15 +209,20 @@ module _ (w : WorldState) (e : WorldEvent) (q : ℕ) (n : NodeState) (at : fin.g
         ]
         in let k = among-map (advanced q (clock w) (Some p)) o w.ops all in
         advance_op q (clock w) p k.0 (λ (y : Op). o ≡ y → stored o.session ≡ Some v)
-        (λ a b e. ap (λ (y : Op). stored y.session) e ∙ ap (λ (x : Advance). stored (advanced_by p.sender x k.0.session)) is)
+        (λ a b e'. elim m [
+          | inl ack ↦ let h : CollectReply f ≡ StoreAck ack.ack = ack.body in absurd (cc)
+          | inr reply ↦
+              let turns = (is_open w e q n r at linked x k.0 (session.Querying reply.phase) p.tag k.1 a b reply.was).1 in
+              ap (λ (y : Op). stored y.session) e' ∙ (λ i. stored (advanced_by p.sender (is i) (turns i)))
+        ])
         (λ other e. absurd (other (sym (ap (λ (y : Op). y.node) e) ∙ nq) (sym (ap (λ (y : Op). y.tag) e) ∙ tt')))
         k.2),
     tt,
   )
 
-  back_sent : (p : Option Progress) (r : Outcome) → r.progress ≡ p → r.begun ≡ None → Each (IsBodySent w (after w e q r) q) (store_back p)
-  back_sent None r moves begins = tt
-  back_sent (Some p) r moves begins = turned_sent p p.advance r moves begins refl
+  back_sent : (p : Option Progress) (f : ReplyFields) (r : Outcome) → r.progress ≡ p → r.begun ≡ None → IsTransition n r → IsMove n from (CollectReply f) p → Each (IsBodySent w (after w e q r) q) (store_back p)
+  back_sent None f r moves begins x m = tt
+  back_sent (Some p) f r moves begins x m = turned_sent p p.advance f r moves begins x m refl
 
   answers_sent : (b : Body) → Among (message_from from b) w.sent → Each (IsBodySent w (after w e q (heard n from b)) q) (answers n from b)
   answers_sent Enter sent = (tt, tt)
@@ -253,7 +236,8 @@ module _ (w : WorldState) (e : WorldEvent) (q : ℕ) (n : NodeState) (at : fin.g
   answers_sent (CollectQuery t) sent =
       each_if (IsBodySent w (after w e q (heard n from (CollectQuery t))) q) n.joined (CollectReply (reply_for n from t) ∷ [])
       ((sent, subst (λ (y : ViewMap). IsBelow y n.view) (sym (ap view_of at)) (below_refl n.view)), tt)
-  answers_sent (CollectReply r) sent = back_sent (progress_of n from (CollectReply r)) (heard n from (CollectReply r)) refl refl
+  answers_sent (CollectReply r) sent =
+      back_sent (progress_of n from (CollectReply r)) r (heard n from (CollectReply r)) refl refl (heard_moves n from (CollectReply r)) (moves n from (CollectReply r))
   answers_sent b sent = tt
 
   back_known : (p : Option Progress) (r r' : Outcome) → IsTransition n r → IsProgress w q n r' p → Each (IsBodyKnown (after w e q r) q) (store_back p)

@@ -10,16 +10,15 @@ use Rattle.sc_operations.specs.declared.progress.Progress.{Progress}
 use Rattle.sc_operations.specs.declared.session.OperationKind.{OperationKind}
 use Rattle.sc_operations.specs.declared.session.OperationKind.TheVariants as kind
 use Rattle.sc_world.specs.declared.act.Opened.{Opened}
-use Rattle.sc_node.specs.Sessions.{new_phase}
 use Rattle.sc_node.specs.State.{NodeState}
-use Rattle.sc_node.specs.Nodes.{progress_of, beta_threshold, next_stored, stored_view, store_session, collect_session}
+use Rattle.sc_node.specs.Nodes.{progress_of, next_stored, store_session, collect_session}
 use Rattle.sc_world.specs.declared.event.WorldEvent.{WorldEvent}
 use Rattle.sc_world.specs.declared.event.WorldEvent.TheVariants as event
 use Rattle.sc_world.specs.declared.event.WorldStep.{WorldStep}
 use Rattle.sc_world.specs.declared.op.Op.{Op}
 use Rattle.sc_world.specs.State.{WorldState}
 use Rattle.sc_world.specs.Worlds.{clock, Outcome, advanced, op_begun, after, live_at, crashes, enters, leaves, stores, collects, delivers, stepped, IsHistory}
-use Rattle.sc_world.specs.Records.{Among, beginning_of, begins, operations_of, stores_of, IsAck, IsReply, Stores, Queries, IsRecord, AreDistinct, HasBegun, AreRecords}
+use Rattle.sc_world.specs.Records.{Among, beginning_of, begins, operations_of, stores_of, IsAck, IsReply, IsRecord, AreDistinct, HasBegun, AreRecords}
 use Rattle.sc_world.proofs.Changes.{IsSound}
 use Rattle.sc_world.proofs.Links.{IsLinked, IsMove}
 use Rattle.sc_world.proofs.Steps.{among-append, among-map, begun_among, advance_op}
@@ -179,9 +178,7 @@ module _ (w : WorldState) (history : IsHistory w) (linked : IsLinked w) (sound :
                 let stores_it : kind.Store (next_stored n value) ≡ kind.Store x = is in
                 let same : next_stored n value ≡ x = cc in
                 ap (λ (y : Stored). y.number) (sym same) ∙ ap (λ (count : ℕ). count + 1) (stores_now q n at (event.Store q value));
-            runs =
-                Stores (next_stored n value) (record { view = stored_view n value; phase = new_phase (beta_threshold n) }) refl refl refl
-                (record { measured = new_measured w (event.Store q value) w' k q n (was_now w history) at; until = new_open w' (IsAck made) q (clock w) n });
+            runs = record { measured = new_measured w (event.Store q value) w' k q n (was_now w history) at; until = new_open w' (IsAck made) q (clock w) n };
           })
 
   pub collect_records : (q : ℕ) (n : NodeState) → fin.get w.nodes q ≡ Some n → IsNext w (event.Collect q) (after w (event.Collect q) q (collect_outcome n)) → AreRecords (after w (event.Collect q) q (collect_outcome n))
@@ -199,9 +196,7 @@ module _ (w : WorldState) (history : IsHistory w) (linked : IsLinked w) (sound :
             began = event_new w (event.Collect q) w' k;
             tagged = operations_now q n at (event.Collect q);
             numbered = λ x is. let collects_it : kind.Collect ≡ kind.Store x = is in absurd (cc);
-            runs =
-                Queries (new_phase (beta_threshold n)) refl refl refl refl
-                (record { measured = new_measured w (event.Collect q) w' k q n (was_now w history) at; until = new_open w' (IsReply made) q (clock w) n });
+            runs = (refl, record { measured = new_measured w (event.Collect q) w' k q n (was_now w history) at; until = new_open w' (IsReply made) q (clock w) n });
           })
 
   module _ (number q : ℕ) (n : NodeState) (m : Message) (at : fin.get w.nodes q ≡ Some n) (sent : slice_get w.sent number ≡ Some m)

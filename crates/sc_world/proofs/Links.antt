@@ -13,10 +13,11 @@ use Rattle.sc_operations.specs.declared.session.OperationKind.TheVariants as kin
 use Rattle.sc_operations.specs.declared.session.Phase.{Phase}
 use Rattle.sc_operations.specs.declared.session.StoreBack.{StoreBack}
 use Rattle.sc_operations.specs.declared.session.Session.{Session}
+use Rattle.sc_operations.specs.declared.session.Session.TheVariants as session
 use Rattle.sc_operations.specs.declared.progress.Advance.TheVariants as advance
 use Rattle.sc_operations.specs.declared.progress.Progress.{Progress}
 use Rattle.sc_world.specs.declared.act.Opened.{Opened}
-use Rattle.sc_node.specs.Sessions.{stored, repliers, ackers, apply, ends, is_reached, count_sender}
+use Rattle.sc_node.specs.Sessions.{kind_of, back_of, open_phase, stored, repliers, ackers, apply, ends, is_reached, count_sender}
 use Rattle.sc_node.specs.State.{NodeState}
 use Rattle.sc_node.specs.Nodes.{message_from, view_after, beta_threshold}
 use Rattle.sc_world.specs.declared.op.Op.{Op}
@@ -63,14 +64,14 @@ pub record IsTransition (n : NodeState) (r : Outcome) : Type 0 where
 
 -- an acknowledgement is counted
 pub record AckMakes (s s' : Session) (from : ℕ) : Type 0 where
-  pub kind : s'.kind ≡ s.kind
+  pub kind : kind_of s' ≡ kind_of s
   pub view : stored s' ≡ stored s
   pub replied : repliers s' ≡ repliers s
   pub acked : ackers s' ≡ set.insert (ackers s) from
 
 -- a reply is counted, and may begin the store-back
 pub record ReplyMakes (s s' : Session) (from : ℕ) (v : ViewMap) : Type 0 where
-  pub kind : s'.kind ≡ s.kind
+  pub kind : kind_of s' ≡ kind_of s
   pub replied : repliers s' ≡ set.insert (repliers s) from
   pub view : (stored s' ≡ None) ⊎ ((stored s' ≡ Some v) × (ackers s' ≡ set.empty))
 
@@ -87,21 +88,18 @@ pub record IsAckMove (n : NodeState) (from : ℕ) (b : Body) (p : Progress) : Ty
   pub session : Session
   pub back : StoreBack
   pub was : fin.get n.sessions p.tag ≡ Some session
-  pub stores : session.back ≡ Some back
+  pub stores : back_of session ≡ Some back
   pub ack : AckFields
   pub body : b ≡ StoreAck ack
   pub to : ack.to ≡ n.id
   pub tag : ack.tag ≡ p.tag
   pub sender : p.sender ≡ from
-  pub advance : p.advance ≡ cond (is_reached (count_sender back.phase from)) advance.Ended advance.Counted
+  pub advance : p.advance ≡ cond (is_reached (count_sender (open_phase session) from)) advance.Ended advance.Counted
 
 -- a reply that moves one
 pub record IsReplyMove (n : NodeState) (from : ℕ) (b : Body) (p : Progress) : Type 0 where
-  pub session : Session
   pub phase : Phase
-  pub was : fin.get n.sessions p.tag ≡ Some session
-  pub none : session.back ≡ None
-  pub query : session.query ≡ Some phase
+  pub was : fin.get n.sessions p.tag ≡ Some (session.Querying phase)
   pub reply : ReplyFields
   pub body : b ≡ CollectReply reply
   pub to : reply.to ≡ n.id
@@ -144,7 +142,7 @@ IsProgress w q n r (Some p) = IsAckProgress w q n p ⊎ IsReplyProgress w q n r 
 pub record IsFreshSession (q : ℕ) (s : Session) : Type 0 where
   pub replied : repliers s ≡ set.empty
   pub acked : ackers s ≡ set.empty
-  pub number : (e : Stored) → s.kind ≡ kind.Store e → (v : ViewMap) × (stored s ≡ Some v) × (e.number ≤ number_at v q)
+  pub number : (e : Stored) → kind_of s ≡ kind.Store e → (v : ViewMap) × (stored s ≡ Some v) × (e.number ≤ number_at v q)
 
 abbrev pub IsFresh : ℕ → Option Opened → Type 0
 IsFresh q None = Unit {0}

@@ -1,29 +1,24 @@
 -- The record that was made ready is the one that moves.
-use Rattle.std.proofs.Common.{◌≡◌, ℕ, zero, suc, ◌≤◌, Bool, true, false, cond, ◌==◌, nat_lt, List, [], ◌∷◌, map, length, Option, Some, None, refl, sym, ap, ◌∙◌, subst, arith, inl, inr, slice_get, slice_set, position, Ok}
+use Rattle.std.proofs.Common.{◌≡◌, ℕ, zero, suc, ◌≤◌, Bool, true, false, cond, ◌==◌, nat_lt, List, [], ◌∷◌, map, length, get_or, Option, Some, None, refl, sym, ap, ◌∙◌, subst, arith, inl, inr, slice_get, slice_set, position, Ok}
 use Rattle.std.proofs.lemmas.Bool.{eq-eqb, eqb-true}
 use Rattle.std.proofs.lemmas.Bool.Decides.{nat_tests}
 use Rattle.std.proofs.lemmas.List.Sums.{fails_before_first}
-use Rattle.std.proofs.lemmas.Option.{get_or_from_slice_get, slice_get_within}
+use Rattle.std.proofs.lemmas.List.Quantifiers.{position-Some}
+use Rattle.std.proofs.lemmas.Option.{get_or_from_slice_get, slice_get-get_or, slice_get_within}
+use Rattle.std.specs.Option.{IfSome}
 use Rattle.std.specs.List.{position_or_len}
 use Rattle.std.specs.FinMap as fin
 use Rattle.std.specs.FinSet as set
 use Rattle.sc_msg.specs.declared.message.Message.{Message}
 use Rattle.sc_msg.specs.declared.message.Body.{Body}
-use Rattle.sc_operations.specs.declared.session.Phase.{Phase}
-use Rattle.sc_operations.specs.declared.session.StoreBack.{StoreBack}
-use Rattle.sc_operations.specs.declared.session.Session.{Session}
-use Rattle.sc_operations.specs.declared.progress.Advance.{Advance}
-use Rattle.sc_operations.specs.declared.progress.Advance.TheVariants as advance
 use Rattle.sc_node.specs.declared.answer.Delivered.{Delivered}
 use Rattle.sc_operations.specs.declared.progress.Progress.{Progress}
-use Rattle.sc_node.specs.Sessions.{open_phase, counting_phase, counted_in, is_reached, count_sender}
 use Rattle.sc_node.specs.State.{NodeState}
 use Rattle.sc_node.specs.Nodes.{progress_of, delivered}
 use Rattle.sc_world.specs.declared.act.Act.{Act}
 use Rattle.sc_world.specs.declared.act.Act.TheVariants as act
 use Rattle.sc_world.specs.declared.act.Report.{Report}
 use Rattle.sc_world.specs.declared.counting.Counting.{Counting}
-use Rattle.sc_world.specs.declared.event.WorldEvent.TheVariants as event
 use Rattle.sc_world.specs.declared.op.Op.{Op}
 use Rattle.sc_world.specs.State.{WorldState}
 use Rattle.sc_world.specs.Worlds.{clock, Outcome, of_delivered, by_node, moved, live, by_live, live_at, acted, delivers, IsHistory}
@@ -31,10 +26,9 @@ use Rattle.sc_world.specs.Records.{Among, AreDistinct}
 use Rattle.sc_world.specs.Acts.{outcome, answered, answered_at, answered_by, is_op, IsReady, put_moved}
 use Rattle.sc_world.specs.Ledgers.{IsRight}
 use Rattle.sc_world.proofs.Links.{IsLinked, IsAckMove, IsReplyMove, IsMove}
-use Rattle.sc_world.proofs.Steps.{and_left, and_right, is_open}
-use Rattle.sc_world.proofs.Handlers.{heard, heard_moves, moves}
+use Rattle.sc_world.proofs.Steps.{and_left, and_right}
+use Rattle.sc_world.proofs.Handlers.{moves}
 use Rattle.sc_world.proofs.Inverts.{no_refusal, live_is, by_live-ok, stores-ok, collects-ok, leaves-ok, delivers-ok}
-use Rattle.sc_world.proofs.Runs.{among_get}
 use Rattle.sc_world.proofs.EveryHistory.{IsLawful, every_lawful}
 
 -- a record that no other matches
@@ -85,6 +79,14 @@ module _ (test : Op → Bool) (f : Op → Op) where
       ap test (sym (get_or_from_slice_get ops k.0 o o k.1))
       ∙ fails_before_first test ops k.0 o (omega (arith, past ops none, slice_get_within ops k.0 o k.1))
 
+-- what is found is there
+pub found_at : (test : Op → Bool) (ops : List Op) (place : Option ℕ) → place ≡ position test ops → IfSome place (λ at. (o : Op) × (test o ≡ true) × (slice_get ops at ≡ Some o))
+found_at test ops None is = tt
+found_at test [] (Some at) is = absurd (cc)
+found_at test (d ∷ ops) (Some at) is =
+    let h = position-Some test (d ∷ ops) at d (sym is) in
+    (get_or (d ∷ ops) at d, h.1, slice_get-get_or (d ∷ ops) at d h.0)
+
 same_map : (ops : List Op) → ops ≡ map (λ o. o) ops
 same_map [] = refl
 same_map (o ∷ ops) = ap (λ xs. o ∷ xs) (same_map ops)
@@ -117,24 +119,6 @@ module _ (w : WorldState) (linked : IsLinked w) (distinct : AreDistinct w.ops) (
   reply_for : (p : Progress) → IsReplyMove n from b p → answered id from b ≡ Some (p.tag, p.sender)
   reply_for p k = ap (answered id from) k.body ∙ for_tag k.reply.to k.reply.tag p k.to k.tag k.sender
 
-  ack_phase : (a : Advance) (c : Bool) (s : Session) → a ≡ cond c advance.Ended advance.Counted → counting_phase a s ≡ open_phase s.back s.query
-  ack_phase (advance.Turned t v) true s is = absurd (cc)
-  ack_phase (advance.Turned t v) false s is = absurd (cc)
-  ack_phase advance.Counted c s is = refl
-  ack_phase advance.Ended c s is = refl
-
-  reply_phase : (a : Advance) (s : Session) → s.back ≡ None → counting_phase a s ≡ open_phase s.back s.query
-  reply_phase (advance.Turned t v) s none = sym (ap (λ (x : Option StoreBack). open_phase x s.query) none)
-  reply_phase advance.Counted s none = refl
-  reply_phase advance.Ended s none = refl
-
-  -- the set that is counted is the one of the phase that is open
-  phase_of : (p : Progress) → IsMove n from b (Some p) → (o : Op) → Among o w.ops → o.node ≡ id → o.tag ≡ p.tag → counting_phase p.advance o.session ≡ open_phase o.session.back o.session.query
-  phase_of p (inl k) o in' nq tq = ack_phase p.advance (is_reached (count_sender k.back.phase from)) o.session k.advance
-  phase_of p (inr k) o in' nq tq =
-      let h = is_open w (event.Leave id) id n (heard n from b) at linked (heard_moves n from b) o k.session p.tag in' nq tq k.was in
-      reply_phase p.advance o.session (ap (λ (s : Session). s.back) h.1 ∙ k.none)
-
   for_it : (p : Progress) → IsMove n from b (Some p) → answered id from b ≡ Some (p.tag, p.sender)
   for_it p (inl k) = ack_for p k
   for_it p (inr k) = reply_for p k
@@ -147,7 +131,7 @@ module _ (w : WorldState) (linked : IsLinked w) (distinct : AreDistinct w.ops) (
       let nq : o.node ≡ id = eqb-true o.node id (and_left (o.node == id) (o.tag == p.tag) hit) in
       let tq : o.tag ≡ p.tag = eqb-true o.tag p.tag (and_right (o.node == id) (o.tag == p.tag) hit) in
       record {
-        fits = (o, h.2, h.3 ∙ ap (λ (x : Option Phase). set.insert (counted_in x) p.sender) (sym (phase_of p k o (among_get w.ops c.at o h.2) nq tq)));
+        fits = (o, h.2, h.3);
         moves =
             ap (put_moved w.ops c.at place p) h.2
             ∙ one_changes (is_op id p.tag) (moved place p) w.ops c.at o h.2 hit

@@ -4,6 +4,7 @@ use Rattle.std.specs.FinMap as fin
 use Rattle.sc_view.specs.declared.view.Stored.{Stored}
 use Rattle.sc_view.specs.Views.{ViewMap, number_of, number_at, IsBelow, IsCoveredBy}
 use Rattle.sc_operations.specs.declared.session.OperationKind.TheVariants as kind
+use Rattle.sc_node.specs.Sessions.{kind_of}
 use Rattle.sc_world.specs.declared.act.Opened.{Opened}
 use Rattle.sc_node.specs.State.{NodeState}
 use Rattle.sc_world.specs.declared.event.WorldEvent.{WorldEvent}
@@ -41,19 +42,19 @@ covered w k s t u v gu gv le id e is = go (fin.get v id) refl
 
 -- where the number of an operation comes from
 data Start (w : WorldState) (q : ℕ) (r : Outcome) (o : Op) : Type 0 where
-  Old : (p : Op) → Among p w.ops → o.node ≡ p.node → o.session.kind ≡ p.session.kind → Start w q r o
-  New : (y : Opened) → r.begun ≡ Some y → o.node ≡ q → o.session.kind ≡ y.session.kind → Start w q r o
+  Old : (p : Op) → Among p w.ops → o.node ≡ p.node → kind_of o.session ≡ kind_of p.session → Start w q r o
+  New : (y : Opened) → r.begun ≡ Some y → o.node ≡ q → kind_of o.session ≡ kind_of y.session → Start w q r o
 
 module _ (w : WorldState) (e : WorldEvent) (q : ℕ) (n : NodeState) (r : Outcome) (at : fin.get w.nodes q ≡ Some n) (linked : IsLinked w) (x : IsTransition n r)
     (k : IsNumbered w) (more : n.stores ≤ r.node.stores)
-    (next_number : (y : Opened) (s : Stored) → r.begun ≡ Some y → y.session.kind ≡ kind.Store s → (s.number ≡ n.stores + 1) × (s.number ≤ r.node.stores)) where
+    (next_number : (y : Opened) (s : Stored) → r.begun ≡ Some y → kind_of y.session ≡ kind.Store s → (s.number ≡ n.stores + 1) × (s.number ≤ r.node.stores)) where
   abbrev next : WorldState
   next = after w e q r
 
   begun_start : (y : Option Opened) → r.begun ≡ y → (o : Op) → Among o (op_begun q (clock w) y) → Start w q r o
   begun_start None is o in' = absurd in'
   begun_start (Some y) is o (inr none) = absurd none
-  begun_start (Some y) is o (inl e) = New y is (ap (λ (z : Op). z.node) e) (ap (λ (z : Op). z.session.kind) e)
+  begun_start (Some y) is o (inl e) = New y is (ap (λ (z : Op). z.node) e) (ap (λ (z : Op). kind_of z.session) e)
 
   start_of : (o : Op) → Among o next.ops → Start w q r o
   start_of o in' =
@@ -61,11 +62,11 @@ module _ (w : WorldState) (e : WorldEvent) (q : ℕ) (n : NodeState) (r : Outcom
         | inl h ↦
             let m = among-map (advanced q (clock w) r.progress) o w.ops h in
             let f = same_start q (clock w) r.progress m.0 in
-            Old m.0 m.1 (ap (λ (z : Op). z.node) m.2 ∙ f.node) (ap (λ (z : Op). z.session.kind) m.2 ∙ f.kind)
+            Old m.0 m.1 (ap (λ (z : Op). z.node) m.2 ∙ f.node) (ap (λ (z : Op). kind_of z.session) m.2 ∙ f.kind)
         | inr h ↦ begun_start r.begun refl o h
       ]
 
-  counted' : (o : Op) → Start w q r o → (e : Stored) → o.session.kind ≡ kind.Store e → (m : NodeState) → fin.get next.nodes o.node ≡ Some m → e.number ≤ m.stores
+  counted' : (o : Op) → Start w q r o → (e : Stored) → kind_of o.session ≡ kind.Store e → (m : NodeState) → fin.get next.nodes o.node ≡ Some m → e.number ≤ m.stores
   counted' o (Old p in' nq kq) f is m has =
       node_next w e q n r at linked x (λ (z : Option NodeState). z ≡ Some m → f.number ≤ m.stores) o.node
       (λ here h. let same : r.node ≡ m = cc in omega (arith, k.counted p in' f (sym kq ∙ is) n (ap (fin.get w.nodes) (sym nq ∙ here) ∙ at), more, ap (λ (z : NodeState). z.stores) same))
@@ -77,11 +78,11 @@ module _ (w : WorldState) (e : WorldEvent) (q : ℕ) (n : NodeState) (r : Outcom
       (λ there h. absurd (there nq))
       has
 
-  positive' : (o : Op) → Start w q r o → (e : Stored) → o.session.kind ≡ kind.Store e → 1 ≤ e.number
+  positive' : (o : Op) → Start w q r o → (e : Stored) → kind_of o.session ≡ kind.Store e → 1 ≤ e.number
   positive' o (Old p in' nq kq) e is = k.positive p in' e (sym kq ∙ is)
   positive' o (New y b nq kq) e is = let c = next_number y e b (sym kq ∙ is) in omega (arith, c.0)
 
-  one' : (o o' : Op) → Start w q r o → Start w q r o' → (e e' : Stored) → o.session.kind ≡ kind.Store e → o'.session.kind ≡ kind.Store e' → o.node ≡ o'.node → e.number ≡ e'.number → e ≡ e'
+  one' : (o o' : Op) → Start w q r o → Start w q r o' → (e e' : Stored) → kind_of o.session ≡ kind.Store e → kind_of o'.session ≡ kind.Store e' → o.node ≡ o'.node → e.number ≡ e'.number → e ≡ e'
   one' o o' (Old p in' nq kq) (Old p' in2 nq' kq') e e' is is' same number = k.one p p' in' in2 e e' (sym kq ∙ is) (sym kq' ∙ is') (sym nq ∙ same ∙ nq') number
   one' o o' (Old p in' nq kq) (New y b nq' kq') e e' is is' same number =
       let c = next_number y e' b (sym kq' ∙ is') in absurd (omega (arith, c.0, number, k.counted p in' e (sym kq ∙ is) n (ap (fin.get w.nodes) (sym nq ∙ same ∙ nq') ∙ at)))
@@ -89,7 +90,7 @@ module _ (w : WorldState) (e : WorldEvent) (q : ℕ) (n : NodeState) (r : Outcom
       let c = next_number y e b (sym kq ∙ is) in absurd (omega (arith, c.0, number, k.counted p in' e' (sym kq' ∙ is') n (ap (fin.get w.nodes) (sym nq' ∙ sym same ∙ nq) ∙ at)))
   one' o o' (New y b nq kq) (New y' b' nq' kq') e e' is is' same number =
       let one : y ≡ y' = (let h : Some y ≡ Some y' = sym b ∙ b' in cc) in
-      let h : kind.Store e ≡ kind.Store e' = sym (sym kq ∙ is) ∙ ap (λ (z : Opened). z.session.kind) one ∙ sym kq' ∙ is' in cc
+      let h : kind.Store e ≡ kind.Store e' = sym (sym kq ∙ is) ∙ ap (λ (z : Opened). kind_of z.session) one ∙ sym kq' ∙ is' in cc
 
   pub numbered_next : IsNumbered next
   numbered_next = record {

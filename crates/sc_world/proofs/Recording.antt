@@ -7,22 +7,21 @@ use Rattle.std.specs.Ordering.{nat_cmp}
 use Rattle.std.specs.Cmp.{nat_cmp_total}
 use Rattle.std.specs.FinMap as fin
 use Rattle.std.specs.FinSet as set
-use Rattle.sc_view.specs.Views.{ViewMap}
 use Rattle.sc_members.specs.Ids.{Ids, Has}
 use Rattle.sc_msg.specs.declared.message.Message.{Message}
 use Rattle.sc_operations.specs.declared.session.Phase.{Phase}
-use Rattle.sc_operations.specs.declared.session.StoreBack.{StoreBack}
+use Rattle.sc_operations.specs.declared.session.Session.{Session}
+use Rattle.sc_operations.specs.declared.session.Session.TheVariants as session
 use Rattle.sc_operations.specs.declared.progress.Advance.{Advance}
-use Rattle.sc_operations.specs.declared.progress.Advance.TheVariants as advance
 use Rattle.sc_operations.specs.declared.progress.Progress.{Progress}
-use Rattle.sc_node.specs.Sessions.{new_phase, count_sender, is_reached, phase_with, session_with, advanced_by}
+use Rattle.sc_node.specs.Sessions.{new_phase, count_sender, is_reached, advanced_by}
 use Rattle.sc_node.specs.State.{NodeState}
 use Rattle.sc_node.specs.Nodes.{beta_threshold}
 use Rattle.sc_world.specs.declared.event.WorldEvent.{WorldEvent}
 use Rattle.sc_world.specs.declared.op.Op.{Op}
 use Rattle.sc_world.specs.State.{WorldState}
 use Rattle.sc_world.specs.Worlds.{moved, clock, end_at, WasBefore}
-use Rattle.sc_world.specs.Records.{Answers, IsAck, IsReply, IsDelivered, IsAnswered, IsOpen, IsMeasured, IsUntil, IsPhase, operations_of, stores_of, IsRunning, Stores, Queries, StoresBack, IsRecord}
+use Rattle.sc_world.specs.Records.{Answers, IsAck, IsReply, IsDelivered, IsAnswered, IsOpen, IsMeasured, IsUntil, IsPhase, operations_of, stores_of, HasCome, IsRecord}
 use Rattle.sc_world.proofs.Soundness.{counted}
 use Rattle.sc_world.proofs.Steps.{length-more}
 use Rattle.sc_world.proofs.Histories.{IsNext, slice_get_front, slice_get_last, before_next}
@@ -84,12 +83,14 @@ module _ (w : WorldState) (e : WorldEvent) (w' : WorldState) (k : IsNext w e w')
   pub turn_before : (P : Answers) (node since turn : ℕ) (p : Phase) → IsPhase w P node since p (Some turn) → turn < clock w
   turn_before P node since turn p h = slice_get_within w.events turn _ h.until.finish.event
 
-  running_kept : (o : Op) → o.begin < clock w → IsRunning w o → IsRunning w' o
-  running_kept o lt (Stores s b is query back phase) = Stores s b is query back (phase_kept (IsAck o) o.node o.begin b.phase o.end (omega (arith, lt)) phase)
-  running_kept o lt (Queries p is query back end phase) = Queries p is query back end (phase_kept (IsReply o) o.node o.begin p None (omega (arith, lt)) phase)
-  running_kept o lt (StoresBack p b turn is query back first second) =
-      StoresBack p b turn is query back (phase_kept (IsReply o) o.node o.begin p (Some turn) (omega (arith, lt)) first)
-      (phase_kept (IsAck o) o.node turn b.phase o.end (omega (arith, turn_before (IsReply o) o.node o.begin turn p first)) second)
+  come_kept : (o : Op) (s : Session) → o.begin < clock w → HasCome w o s → HasCome w' o s
+  come_kept o (session.Store e b) lt phase = phase_kept (IsAck o) o.node o.begin b.phase o.end (omega (arith, lt)) phase
+  come_kept o (session.Querying p) lt h = (h.0, phase_kept (IsReply o) o.node o.begin p None (omega (arith, lt)) h.1)
+  come_kept o (session.StoringBack p b) lt h = (
+    h.0,
+    phase_kept (IsReply o) o.node o.begin p (Some h.0) (omega (arith, lt)) h.1,
+    phase_kept (IsAck o) o.node h.0 b.phase o.end (omega (arith, turn_before (IsReply o) o.node o.begin h.0 p h.1)) h.2,
+  )
 
   pub record_kept : (o : Op) → o.begin < clock w → IsRecord w o → IsRecord w' o
   record_kept o lt r =
@@ -98,7 +99,7 @@ module _ (w : WorldState) (e : WorldEvent) (w' : WorldState) (k : IsNext w e w')
         began = event_kept o.begin _ r.began;
         tagged = r.tagged ∙ ap (operations_of o.node) same;
         numbered = λ x is. r.numbered x is ∙ ap (λ (es : List WorldEvent). stores_of o.node es + 1) same;
-        runs = running_kept o lt r.runs;
+        runs = come_kept o o.session lt r.runs;
       }
 
   -- a phase in which one more answer is counted
@@ -142,46 +143,9 @@ new_open w' P node since n = record {
   answered = λ from is. let no : set.contains set.empty from ≡ false = set.contains-empty nat_cmp from in absurd (cc);
 }
 
--- the record after an acknowledgement
-abbrev pub acked_op : Bool → ℕ → Op → StoreBack → ℕ → Op
-acked_op c place o b from = record {
-  node = o.node;
-  tag = o.tag;
-  begin = o.begin;
-  end = cond c (Some place) None;
-  session = record { kind = o.session.kind; query = o.session.query; back = Some (record { view = b.view; phase = count_sender b.phase from }) };
-}
+-- the record of an operation that was this, after an answer
+abbrev pub moves_to : ℕ → Op → Advance → ℕ → Session → Op
+moves_to place o a from s = record { node = o.node; tag = o.tag; begin = o.begin; end = end_at place a; session = advanced_by from a s }
 
--- the record after a reply
-abbrev pub replied_op : Bool → Op → Phase → ℕ → ℕ → ViewMap → Op
-replied_op c o p from next v = record {
-  node = o.node;
-  tag = o.tag;
-  begin = o.begin;
-  end = None;
-  session = record { kind = o.session.kind; query = Some (count_sender p from); back = cond c (Some (record { view = v; phase = new_phase next })) None };
-}
-
-abbrev moves_to : ℕ → Op → Advance → ℕ → Op
-moves_to place o a from = record { node = o.node; tag = o.tag; begin = o.begin; end = end_at place a; session = advanced_by from a o.session }
-
-by_ack : (c : Bool) (place : ℕ) (o : Op) (b : StoreBack) (from : ℕ) → o.session.back ≡ Some b → moves_to place o (cond c advance.Ended advance.Counted) from ≡ acked_op c place o b from
-by_ack true place o b from is = ap (λ (x : Option StoreBack). let y : Op = record { node = o.node; tag = o.tag; begin = o.begin; end = Some place; session = session_with o.session x from } in y) is
-by_ack false place o b from is = ap (λ (x : Option StoreBack). let y : Op = record { node = o.node; tag = o.tag; begin = o.begin; end = None; session = session_with o.session x from } in y) is
-
-pub moved_ack : (c : Bool) (place : ℕ) (p : Progress) (o : Op) (b : StoreBack) (from : ℕ) → p.advance ≡ cond c advance.Ended advance.Counted → p.sender ≡ from → o.session.back ≡ Some b → moved place p o ≡ acked_op c place o b from
-moved_ack c place p o b from adv sender is =
-    ap (λ (a : Advance). moves_to place o a p.sender) adv ∙ ap (moves_to place o (cond c advance.Ended advance.Counted)) sender ∙ by_ack c place o b from is
-
-by_reply : (c : Bool) (place : ℕ) (o : Op) (p : Phase) (from next : ℕ) (v : ViewMap) → o.session.back ≡ None → o.session.query ≡ Some p
-    → moves_to place o (cond c (advance.Turned next v) advance.Counted) from ≡ replied_op c o p from next v
-by_reply true place o p from next v none is =
-    ap (λ (x : Option Phase). let y : Op = record { node = o.node; tag = o.tag; begin = o.begin; end = None; session = record { kind = o.session.kind; query = phase_with x from; back = Some (record { view = v; phase = new_phase next }) } } in y) is
-by_reply false place o p from next v none is =
-    ap (λ (x : Option StoreBack). let y : Op = record { node = o.node; tag = o.tag; begin = o.begin; end = None; session = session_with o.session x from } in y) none
-    ∙ ap (λ (x : Option Phase). let y : Op = record { node = o.node; tag = o.tag; begin = o.begin; end = None; session = record { kind = o.session.kind; query = phase_with x from; back = None } } in y) is
-
-pub moved_reply : (c : Bool) (place : ℕ) (p : Progress) (o : Op) (f : Phase) (from next : ℕ) (v : ViewMap) → p.advance ≡ cond c (advance.Turned next v) advance.Counted → p.sender ≡ from
-    → o.session.back ≡ None → o.session.query ≡ Some f → moved place p o ≡ replied_op c o f from next v
-moved_reply c place p o f from next v adv sender none is =
-    ap (λ (a : Advance). moves_to place o a p.sender) adv ∙ ap (moves_to place o (cond c (advance.Turned next v) advance.Counted)) sender ∙ by_reply c place o f from next v none is
+pub moves_as : (place : ℕ) (p : Progress) (o : Op) (a : Advance) (from : ℕ) (s : Session) → p.advance ≡ a → p.sender ≡ from → o.session ≡ s → moved place p o ≡ moves_to place o a from s
+moves_as place p o a from s adv sender same = λ i. moves_to place o (adv i) (sender i) (same i)

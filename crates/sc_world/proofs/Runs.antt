@@ -11,6 +11,7 @@ use Rattle.sc_members.specs.Members.{Config}
 use Rattle.sc_msg.specs.declared.message.Message.{Message}
 use Rattle.sc_msg.specs.declared.message.Body.TheVariants.{Enter}
 use Rattle.sc_operations.specs.declared.session.OperationKind.TheVariants as kind
+use Rattle.sc_node.specs.Sessions.{kind_of}
 use Rattle.sc_node.specs.State.{NodeState}
 use Rattle.sc_node.specs.Nodes.{message_from, founder, next_stored, store_session, collect_session}
 use Rattle.sc_world.specs.declared.event.WorldEvent.{WorldEvent}
@@ -71,7 +72,7 @@ module _ (w : WorldState) (e : WorldEvent) (linked : IsLinked w) where
     numbered = λ k.
         numbered_next w e q n (store_outcome n value) at linked (store_moves n value) k (omega arith)
         (λ y f b h.
-        let same : kind.Store (next_stored n value) ≡ kind.Store f = ap (λ z. z.kind) (begun_session (record { tag = n.operations; session = store_session n value }) y b) ∙ h in
+        let same : kind.Store (next_stored n value) ≡ kind.Store f = ap kind_of (begun_session (record { tag = n.operations; session = store_session n value }) y b) ∙ h in
         let entry : next_stored n value ≡ f = cc in
         (omega (arith, ap (λ (z : Stored). z.number) entry), omega (arith, ap (λ (z : Stored). z.number) entry)));
   }
@@ -84,7 +85,7 @@ module _ (w : WorldState) (e : WorldEvent) (linked : IsLinked w) where
     numbered = λ k.
         numbered_next w e q n (collect_outcome n) at linked (collect_moves n) k (omega arith)
         (λ y f b h.
-        let same : kind.Collect ≡ kind.Store f = ap (λ z. z.kind) (begun_session (record { tag = n.operations; session = collect_session n }) y b) ∙ h in
+        let same : kind.Collect ≡ kind.Store f = ap kind_of (begun_session (record { tag = n.operations; session = collect_session n }) y b) ∙ h in
         absurd (cc));
   }
 

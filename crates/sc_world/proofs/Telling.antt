@@ -7,13 +7,13 @@ use Rattle.sc_msg.specs.declared.message.Body.{Body}
 use Rattle.sc_msg.specs.declared.message.CollectReply.{CollectReply as ReplyFields}
 use Rattle.sc_msg.specs.declared.message.Body.TheVariants.{Enter, EnterEcho, Join, Leave, Store, StoreAck, StoreEcho, CollectQuery, CollectReply}
 use Rattle.sc_operations.specs.declared.session.Phase.{Phase}
-use Rattle.sc_operations.specs.declared.session.StoreBack.{StoreBack}
 use Rattle.sc_operations.specs.declared.session.Session.{Session}
+use Rattle.sc_operations.specs.declared.session.Session.TheVariants as session
 use Rattle.sc_operations.specs.declared.progress.Advance.{Advance}
 use Rattle.sc_operations.specs.declared.progress.Advance.TheVariants as advance
 use Rattle.sc_operations.specs.declared.progress.Progress.{Progress}
 use Rattle.sc_world.specs.declared.act.Opened.{Opened}
-use Rattle.sc_node.specs.Sessions.{stored, session_with, advanced_by, is_reached, count_sender, querying}
+use Rattle.sc_node.specs.Sessions.{kind_of, stored, open_phase, with_phase, advanced_by, is_reached, count_sender, querying}
 use Rattle.sc_node.specs.State.{NodeState}
 use Rattle.sc_node.specs.Nodes.{message_from, is_reply, view_after, progress_of, reply_progress, beta_threshold, joins, ack_for, reply_for, answers, store_back, store_of, store_session, collect_session, stored_view, next_stored}
 use Rattle.sc_world.specs.declared.event.WorldEvent.{WorldEvent}
@@ -28,15 +28,16 @@ use Rattle.sc_world.proofs.Steps.{among-append, among-right, among-map, kept_amo
 use Rattle.sc_world.proofs.Handlers.{heard, store_outcome, collect_outcome, left_outcome, each_if, progress_is, sends, own_name, heard_moves, store_moves, collect_moves, left_moves, store_number}
 use Rattle.sc_world.proofs.Truth.{true_merge, true_put, true_if, lift}
 
-kind_with : (s : Session) (b : Option StoreBack) (from : ℕ) → (session_with s b from).kind ≡ s.kind
-kind_with s None from = refl
-kind_with s (Some b) from = refl
+kind_with : (s : Session) (p : Phase) → kind_of (with_phase s p) ≡ kind_of s
+kind_with (session.Store e b) p = refl
+kind_with (session.Querying q) p = refl
+kind_with (session.StoringBack q b) p = refl
 
 -- an operation stays what it was begun for
-pub kind_kept : (s : Session) (from : ℕ) (a : Advance) → (advanced_by from a s).kind ≡ s.kind
+pub kind_kept : (s : Session) (from : ℕ) (a : Advance) → kind_of (advanced_by from a s) ≡ kind_of s
+kind_kept (session.Querying p) from (advance.Turned t v) = refl
 kind_kept s from (advance.Turned t v) = refl
-kind_kept s from advance.Counted = kind_with s s.back from
-kind_kept s from advance.Ended = kind_with s s.back from
+kind_kept s from a = kind_with s (count_sender (open_phase s) from)
 
 pub begun_session : (b y : Opened) → Some b ≡ Some y → b.session ≡ y.session
 begun_session b y is = let same : b ≡ y = cc in ap (λ (z : Opened). z.session) same
@@ -45,7 +46,7 @@ begun_session b y is = let same : b ≡ y = cc in ap (λ (z : Opened). z.session
 pub record SameStart (o y : Op) : Type 0 where
   pub node : y.node ≡ o.node
   pub tag : y.tag ≡ o.tag
-  pub kind : y.session.kind ≡ o.session.kind
+  pub kind : kind_of y.session ≡ kind_of o.session
   pub begin : y.begin ≡ o.begin
 
 pub same_start : (q place : ℕ) (p : Option Progress) (o : Op) → SameStart o (advanced q place p o)

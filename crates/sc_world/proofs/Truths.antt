@@ -7,7 +7,7 @@ use Rattle.sc_msg.specs.declared.message.Message.{Message}
 use Rattle.sc_msg.specs.declared.message.Body.{Body}
 use Rattle.sc_msg.specs.declared.message.Body.TheVariants.{EnterEcho, Store, StoreEcho, CollectReply}
 use Rattle.sc_operations.specs.declared.session.OperationKind.TheVariants as kind
-use Rattle.sc_node.specs.Sessions.{stored}
+use Rattle.sc_node.specs.Sessions.{kind_of, stored}
 use Rattle.sc_world.specs.declared.op.Op.{Op}
 use Rattle.sc_world.specs.State.{WorldState}
 use Rattle.sc_world.specs.Worlds.{clock}
@@ -19,7 +19,7 @@ pub record WasBegun (w : WorldState) (place id : ℕ) (e : Stored) : Type 0 wher
   pub op : Op
   pub among : Among op w.ops
   pub node : op.node ≡ id
-  pub kind : op.session.kind ≡ kind.Store e
+  pub kind : kind_of op.session ≡ kind.Store e
   pub begin : op.begin < place
 
 pub record IsTrue (w : WorldState) (place : ℕ) (v : ViewMap) : Type 0 where
@@ -51,7 +51,7 @@ pub record IsThere (w' : WorldState) (o : Op) : Type 0 where
   pub op : Op
   pub among : Among op w'.ops
   pub node : op.node ≡ o.node
-  pub kind : op.session.kind ≡ o.session.kind
+  pub kind : kind_of op.session ≡ kind_of o.session
   pub begin : op.begin ≡ o.begin
 
 pub record IsTold (w w' : WorldState) : Type 0 where

@@ -10,7 +10,7 @@ use Rattle.sc_msg.specs.declared.message.Body.TheVariants.{StoreAck, CollectRepl
 use Rattle.sc_operations.specs.declared.session.Session.{Session}
 use Rattle.sc_operations.specs.declared.progress.Progress.{Progress}
 use Rattle.reasons.specs.declared.Reason.TheVariants.{OutOfMemory as memory}
-use Rattle.sc_node.specs.Sessions.{counted_in, open_phase, counting_phase}
+use Rattle.sc_node.specs.Sessions.{open_phase}
 use Rattle.sc_node.specs.State.{NodeState}
 use Rattle.sc_world.specs.declared.act.Act.{Act}
 use Rattle.sc_world.specs.declared.act.Act.TheVariants as act
@@ -54,7 +54,7 @@ is_op node tag o = o.node == node && o.tag == tag
 
 -- the senders that an operation counts in the phase that is open, and one more
 abbrev pub counted_with : Session → ℕ → Ids
-counted_with s from = set.insert (counted_in (open_phase s.back s.query)) from
+counted_with s from = set.insert (open_phase s).counted from
 
 -- the place of the record that an answer may move is found, and the set of its senders is ready
 abbrev pub IsReady : List Op → ℕ → Option (ℕ × ℕ) → Option Counting → Type 0
@@ -64,7 +64,7 @@ IsReady ops node (Some a) (Some c) = (o : Op) × IsTrue (is_op node a.0 o) × (s
 
 -- the set is that of the record, with the sender
 abbrev pub Fits : List Op → Option Progress → Option Counting → Type 0
-Fits ops (Some p) (Some c) = (o : Op) × (slice_get ops c.at ≡ Some o) × (c.counted ≡ set.insert (counted_in (counting_phase p.advance o.session)) p.sender)
+Fits ops (Some p) (Some c) = (o : Op) × (slice_get ops c.at ≡ Some o) × (c.counted ≡ counted_with o.session p.sender)
 Fits ops (Some p) None = Unit {0}
 Fits ops None c = Unit {0}
 

@@ -5,7 +5,7 @@ use Rattle.sc_view.specs.Views.{ViewMap, number_at}
 use Rattle.sc_members.specs.Ids.{Has, IsLeastCommon}
 use Rattle.sc_operations.specs.declared.session.OperationKind.{OperationKind}
 use Rattle.sc_operations.specs.declared.session.OperationKind.TheVariants as kind
-use Rattle.sc_operations.specs.Sessions.{stored, repliers, ackers}
+use Rattle.sc_operations.specs.Sessions.{kind_of, stored, repliers, ackers}
 use Rattle.sc_world.specs.declared.op.Op.{Op}
 
 -- the first operation ended before the second began
@@ -34,7 +34,7 @@ returned_by k end view = None
 
 -- the view that an ended collect returned
 abbrev pub returned : Op → Option ViewMap
-returned o = returned_by o.session.kind o.end (stored o.session)
+returned o = returned_by (kind_of o.session) o.end (stored o.session)
 
 -- the view has at least this number of the node
 abbrev pub Holds : ViewMap → ℕ → ℕ → Type 0

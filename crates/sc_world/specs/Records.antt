@@ -14,7 +14,9 @@ use Rattle.sc_msg.specs.declared.message.StoreAck.{StoreAck as AckFields}
 use Rattle.sc_operations.specs.declared.session.OperationKind.{OperationKind}
 use Rattle.sc_operations.specs.declared.session.OperationKind.TheVariants as kind
 use Rattle.sc_operations.specs.declared.session.Phase.{Phase}
-use Rattle.sc_operations.specs.declared.session.StoreBack.{StoreBack}
+use Rattle.sc_operations.specs.declared.session.Session.{Session}
+use Rattle.sc_operations.specs.declared.session.Session.TheVariants as session
+use Rattle.sc_node.specs.Sessions.{kind_of}
 use Rattle.sc_node.specs.State.{NodeState}
 use Rattle.sc_node.specs.Nodes.{beta_threshold, message_from}
 use Rattle.sc_world.specs.declared.event.WorldEvent.{WorldEvent}
@@ -122,25 +124,26 @@ pub record IsPhase (w : WorldState) (P : Answers) (node since : ℕ) (p : Phase)
   pub measured : IsMeasured w node since p
   pub until : IsUntil w P node since p end
 
--- how far an operation has come
-pub data IsRunning (w : WorldState) (o : Op) : Type 0 where
-  -- a store has one phase, from its beginning to its end
-  Stores : (e : Stored) (b : StoreBack) → o.session.kind ≡ kind.Store e → o.session.query ≡ None → o.session.back ≡ Some b
-      → IsPhase w (IsAck o) o.node o.begin b.phase o.end → IsRunning w o
-  -- a collect has first its query phase
-  Queries : (p : Phase) → o.session.kind ≡ kind.Collect → o.session.query ≡ Some p → o.session.back ≡ None
-      → o.end ≡ None → IsPhase w (IsReply o) o.node o.begin p None → IsRunning w o
-  -- and then stores back, from the place where the query phase ended
-  StoresBack : (p : Phase) (b : StoreBack) (turn : ℕ) → o.session.kind ≡ kind.Collect → o.session.query ≡ Some p → o.session.back ≡ Some b
-      → IsPhase w (IsReply o) o.node o.begin p (Some turn) → IsPhase w (IsAck o) o.node turn b.phase o.end → IsRunning w o
+-- how far an operation has come that is this now
+abbrev pub HasCome : WorldState → Op → Session → Type 0
+-- a store has one phase, from its beginning to its end
+HasCome w o (session.Store e b) = IsPhase w (IsAck o) o.node o.begin b.phase o.end
+-- a collect has first its query phase
+HasCome w o (session.Querying p) = (o.end ≡ None) × IsPhase w (IsReply o) o.node o.begin p None
+-- and then stores back, from the place where the query phase ended
+HasCome w o (session.StoringBack p b) =
+    (turn : ℕ) × IsPhase w (IsReply o) o.node o.begin p (Some turn) × IsPhase w (IsAck o) o.node turn b.phase o.end
+
+abbrev pub IsRunning : WorldState → Op → Type 0
+IsRunning w o = HasCome w o o.session
 
 -- the record of an operation is true of its world
 pub record IsRecord (w : WorldState) (o : Op) : Type 0 where
-  pub began : slice_get w.events o.begin ≡ Some (beginning_of o.node o.session.kind)
+  pub began : slice_get w.events o.begin ≡ Some (beginning_of o.node (kind_of o.session))
   -- its tag is how many operations its node began before it
   pub tagged : o.tag ≡ operations_of o.node (take o.begin w.events)
   -- the number of what it stores is one more than how many stores its node began before it
-  pub numbered : (e : Stored) → o.session.kind ≡ kind.Store e → e.number ≡ stores_of o.node (take o.begin w.events) + 1
+  pub numbered : (e : Stored) → kind_of o.session ≡ kind.Store e → e.number ≡ stores_of o.node (take o.begin w.events) + 1
   pub runs : IsRunning w o
 
 -- each operation has one record

@@ -6,7 +6,7 @@ use Rattle.sc_view.specs.Views.{ViewMap, IsCoveredBy}
 use Rattle.sc_operations.specs.declared.progress.Completion.TheVariants as completion
 use Rattle.sc_operations.specs.declared.progress.Ended.{Ended}
 use Rattle.sc_operations.specs.declared.session.OperationKind.TheVariants as kind
-use Rattle.sc_operations.specs.Sessions.{stored}
+use Rattle.sc_operations.specs.Sessions.{kind_of, stored}
 use Rattle.sc_world.specs.declared.event.WorldEvent.{WorldEvent}
 use Rattle.sc_world.specs.declared.event.WorldEvent.TheVariants as event
 use Rattle.sc_world.specs.declared.event.WorldStep.{WorldStep}
@@ -32,7 +32,7 @@ pub record HasStored (w : WorldState) (place node tag : ℕ) : Type 0 where
   pub tagged : op.tag ≡ tag
   pub ended : op.end ≡ Some place
   pub entry : Stored
-  pub kind : op.session.kind ≡ kind.Store entry
+  pub kind : kind_of op.session ≡ kind.Store entry
 
 -- what an event tells of an operation that ended is what the operation's record says in the next world
 pub record EndIsRecorded (w : WorldState) (e : WorldEvent) (told : WorldStep) (next : WorldState) : Type 0 where
@@ -61,7 +61,7 @@ pub record WasStored (w : WorldState) (place node : ℕ) (e : Stored) : Type 0 w
   pub among : Among op w.ops
   pub began : op.begin ≡ begin
   pub by : op.node ≡ node
-  pub kind : op.session.kind ≡ kind.Store e
+  pub kind : kind_of op.session ≡ kind.Store e
 
 -- each entry is the number and the value of a store that began at an earlier place
 pub record IsGenuine (w : WorldState) (place : ℕ) (v : ViewMap) : Type 0 where
@@ -73,7 +73,7 @@ pub record IsRegular (w : WorldState) : Type 0 where
   -- it holds only what nodes began to store before the operation ended
   pub genuine : (c : Op) (v : ViewMap) (place : ℕ) → Among c w.ops → stored c.session ≡ Some v → c.end ≡ Some place → IsGenuine w place v
   -- it holds each store that ended before the collect began, and that meets it
-  pub holds : (s c : Op) (e : Stored) (v : ViewMap) → Among s w.ops → Among c w.ops → s.session.kind ≡ kind.Store e → stored c.session ≡ Some v
+  pub holds : (s c : Op) (e : Stored) (v : ViewMap) → Among s w.ops → Among c w.ops → kind_of s.session ≡ kind.Store e → stored c.session ≡ Some v
       → IsBefore s c → Meets s c → Holds v s.node e.number
   -- it lies above what an operation stored, or stored back, that ended before the collect began, and that meets it
   pub above : (b c : Op) (u v : ViewMap) → Among b w.ops → Among c w.ops → stored b.session ≡ Some u → stored c.session ≡ Some v

@@ -2,13 +2,13 @@
 
 ghost use Rattle.std.specs.Prelude.{◌≡◌, IsTrue, IfOk, IfSome, IfNone, Some, None, position, slice_get, vec_capacity};
 ghost use Rattle.sc_world.specs.declared.op.Op.{Op as OpValue};
-ghost use Rattle.sc_world.specs.Acts.{answered, is_op, counted_with, IsReady, Fits, moved_at};
+ghost use Rattle.sc_world.specs.Acts.{answered, is_op, IsReady, Fits, moved_at};
 
 use crate::op::Op;
 use crate::places::Places;
 use sc_members::IdSet;
 use sc_msg::{Body, Message};
-use sc_node::{Progress, Session};
+use sc_node::Progress;
 use std::alloc::{AllocError, Global};
 
 /// The place of the record that an answer may move, and all senders of its open phase with this one.
@@ -20,7 +20,6 @@ pub struct Counting {
 
 /// Makes ready what the record of an operation needs, should this message move it as it reaches the node.
 pub(crate) fn make_ready(
-    alloc: Global,
     ops: &[Op],
     places: &Places,
     node: u64,
@@ -29,14 +28,13 @@ pub(crate) fn make_ready(
     ensures { IfOk result (IsReady ops.now node (answered node message.now.from message.now.body)) }
 {
     match answered(node, message) {
-        Some((tag, sender)) => ready_for(alloc, ops, places, node, tag, sender),
+        Some((tag, sender)) => ready_for(ops, places, node, tag, sender),
         None => Ok(None),
     }
 }
 
 /// The same for an answer of this sender to the operation of that tag.
 fn ready_for(
-    alloc: Global,
     ops: &[Op],
     places: &Places,
     node: u64,
@@ -48,7 +46,7 @@ fn ready_for(
     let Some(at) = place_of(ops, places, node, tag) else {
         return Ok(None);
     };
-    let counted = counted_with(alloc, &ops[at].session, sender)?;
+    let counted = ops[at].session.open_phase().counted.with(sender)?;
     Ok(Some(Counting { at, counted }))
 }
 
@@ -78,8 +76,7 @@ fn place_of(ops: &[Op], places: &Places, node: u64, tag: u64) -> Option<usize>
 }
 
 fn look_through(ops: &[Op], node: u64, tag: u64) -> Option<usize>
-    ensures found { IfSome result (λ at. (o : OpValue) × IsTrue (is_op node tag o) × (slice_get ops.now at ≡ Some o)) }
-    ensures value { result ≡ position (is_op node tag) ops.now }
+    ensures { result ≡ position (is_op node tag) ops.now }
 {
     ops.iter().position(|op| is_op(op, node, tag))
 }
@@ -88,19 +85,6 @@ fn is_op(op: &Op, node: u64, tag: u64) -> bool
     ensures { result ≡ is_op node tag op.now }
 {
     op.node == node && op.tag == tag
-}
-
-/// The senders that the operation counts in its open phase, and this one.
-fn counted_with(alloc: Global, session: &Session, sender: u64) -> Result<IdSet, AllocError>
-    ensures { IfOk result (λ more. more ≡ counted_with session.now sender) }
-{
-    if let Some(back) = &session.back {
-        return back.phase.counted.with(sender);
-    }
-    match &session.query {
-        Some(query) => query.counted.with(sender),
-        None => IdSet::new(alloc).with(sender),
-    }
 }
 
 /// Moves the record that was found, if the operation moved.

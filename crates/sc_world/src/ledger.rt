@@ -97,7 +97,7 @@ impl Ledger {
     pub fn find(&self, node: u64, message: &Message) -> Result<Option<Counting>, AllocError>
         ensures { IfOk result (IsReady self.now.past.ops node (answered node message.now.from message.now.body)) }
     {
-        make_ready(self.alloc, &self.ops, &self.places, node, message)
+        make_ready(&self.ops, &self.places, node, message)
     }
 
     /// Records an event at which this node sends, and may move or begin an operation, for which there is room. Takes no

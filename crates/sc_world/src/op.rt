@@ -2,7 +2,7 @@
 
 ghost use Rattle.std.specs.Prelude.{◌≡◌};
 ghost use Rattle.std.specs.FinSet as set;
-ghost use Rattle.sc_node.specs.Sessions.{counted_in, counting_phase};
+ghost use Rattle.sc_node.specs.Sessions.{open_phase};
 ghost use Rattle.sc_world.specs.Operations.{IsMeeting};
 ghost use Rattle.sc_world.specs.Worlds.{end_at, moved};
 
@@ -35,7 +35,7 @@ impl Op {
         progress: Progress,
         counted: IdSet,
     )
-        requires { counted ≡ set.insert (counted_in (counting_phase progress.advance self.old.session)) progress.sender }
+        requires { counted ≡ set.insert (open_phase self.old.session).counted progress.sender }
         ensures { self.new ≡ moved place progress self.old }
     {
         self.end = end_at(place, &progress.advance);
@@ -58,7 +58,7 @@ fn end_at(place: usize, advance: &Advance) -> Option<usize>
 pub fn meets(first: &Op, second: &Op) -> Option<u64>
     ensures { IsMeeting first.now second.now result }
 {
-    let back = first.session.back.as_ref()?;
-    let query = second.session.query.as_ref()?;
+    let back = first.session.back()?;
+    let query = second.session.query()?;
     back.phase.counted.least_common(&query.counted)
 }
