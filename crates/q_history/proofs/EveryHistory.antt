@@ -7,7 +7,7 @@ use Rattle.sc_members.specs.Members.{Config}
 use Rattle.sc_msg.specs.declared.version.Version.{Version}
 use Rattle.sc_operations.specs.declared.session.OperationKind.{OperationKind}
 use Rattle.sc_operations.specs.declared.session.OperationKind.TheVariants as kind
-use Rattle.sc_node.specs.Sessions.{stored}
+use Rattle.sc_node.specs.Sessions.{kind_of, stored}
 use Rattle.sc_node.specs.State.{NodeState}
 use Rattle.sc_world.specs.State.{world_of}
 use Rattle.sc_world.specs.Ledgers.{first}
@@ -119,7 +119,7 @@ kept_returned c kept node k b q view at here is =
       returned = returns;
       holds = λ s e among stores before meets.
           (lawful_regular (world_in c) kept.world).holds s t.op e view among t.among stores
-          (returned_held t.op.session.kind t.op.end (stored t.op.session) view returns) before meets;
+          (returned_held (kind_of t.op.session) t.op.end (stored t.op.session) view returns) before meets;
     }
 
 pub kept_true : (c : ClusterState) → IsKept c → AnswersAreTrue c

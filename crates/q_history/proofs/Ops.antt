@@ -8,7 +8,7 @@ use Rattle.sc_view.specs.Views.{ViewMap}
 use Rattle.sc_operations.specs.declared.session.OperationKind.{OperationKind}
 use Rattle.sc_operations.specs.declared.session.OperationKind.TheVariants as kind
 use Rattle.sc_operations.specs.declared.progress.Progress.{Progress}
-use Rattle.sc_node.specs.Sessions.{stored}
+use Rattle.sc_node.specs.Sessions.{kind_of, stored}
 use Rattle.sc_node.specs.State.{NodeState}
 use Rattle.sc_node.specs.Nodes.{collect_session}
 use Rattle.sc_world.specs.declared.event.WorldEvent.{WorldEvent}
@@ -45,7 +45,7 @@ none_returned kind.Collect view = refl
 -- an operation that has not ended has returned nothing
 open_returns : (o : Op) (v : ViewMap) → o.end ≡ None → returned o ≡ Some v → ⊥
 open_returns o v running h =
-    let k : None ≡ Some v = sym (ap (λ (x : Option ℕ). returned_by o.session.kind x (stored o.session)) running ∙ none_returned o.session.kind (stored o.session)) ∙ h in
+    let k : None ≡ Some v = sym (ap (λ (x : Option ℕ). returned_by (kind_of o.session) x (stored o.session)) running ∙ none_returned (kind_of o.session) (stored o.session)) ∙ h in
     absurd (cc)
 
 pub insert_has : {X : Type 0} (m : fin.FinMap nat_cmp X) (k : ℕ) (v : X) (q : ℕ) (x : X) (b : Bool) → (q == k) ≡ b → fin.get m q ≡ Some x → (y : X) × (fin.get (fin.insert m k v) q ≡ Some y)

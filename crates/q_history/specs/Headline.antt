@@ -4,6 +4,7 @@ use Rattle.std.specs.FinMap as fin
 use Rattle.sc_view.specs.declared.view.Stored.{Stored}
 use Rattle.sc_view.specs.Views.{ViewMap}
 use Rattle.sc_operations.specs.declared.session.OperationKind.TheVariants as kind
+use Rattle.sc_node.specs.Sessions.{kind_of}
 use Rattle.sc_world.specs.declared.op.Op.{Op}
 use Rattle.sc_world.specs.Operations.{Among, IsBefore, Meets, Holds, returned}
 use Rattle.q_book.specs.State.{BookState}
@@ -22,7 +23,7 @@ pub record IsReturned (ops : List Op) (node tag : ℕ) (view : ViewMap) : Type 0
   pub by : collect.node ≡ node
   pub tagged : collect.tag ≡ tag
   pub returned : returned collect ≡ Some view
-  pub holds : (s : Op) (e : Stored) → Among s ops → s.session.kind ≡ kind.Store e → IsBefore s collect → Meets s collect → Holds view s.node e.number
+  pub holds : (s : Op) (e : Stored) → Among s ops → kind_of s.session ≡ kind.Store e → IsBefore s collect → Meets s collect → Holds view s.node e.number
 
 -- The answer of a query of this node is right: the query names a program that the checker accepts; the answer is the
 -- meaning of its text, from the query's start, over the view that the query's collect returned; and the steps are at

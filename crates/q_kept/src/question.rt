@@ -6,7 +6,7 @@ ghost use Rattle.q_kept.specs.Questions.{asking_phase, goes_again, is_due, is_ke
 
 use sc_msg::{Body, Message, Version};
 use sc_node::Node;
-use sc_operations::Phase;
+use sc_operations::{Phase, Session};
 
 /// A join and a leave go again three times: at looks 1, 2 and 4.
 const LAST_LOOK: u32 = 4;
@@ -44,17 +44,14 @@ pub(crate) fn asking_phase<'n>(node: &'n Node, body: &Body) -> Option<&'n Phase>
     ensures { option_copied result ≡ asking_phase node.now body.now }
 {
     match body {
-        Body::Store { tag, .. } => match &node.session(*tag)?.back {
-            Some(back) => Some(&back.phase),
-            None => None,
-        },
-        Body::CollectQuery { tag } => {
-            let session = node.session(*tag)?;
-            if session.back.is_some() {
-                return None;
-            }
-            session.query.as_ref()
+        Body::Store { tag, .. } => {
+            let back = node.session(*tag)?.back()?;
+            Some(&back.phase)
         }
+        Body::CollectQuery { tag } => match node.session(*tag)? {
+            Session::Querying(query) => Some(query),
+            _ => None,
+        },
         _ => None,
     }
 }

@@ -3,6 +3,7 @@
 ghost use Rattle.std.specs.Prelude.{◌≡◌, ◌++◌, ℕ, List, [], ◌∷◌, Option, Some, None, Ok, Err, true, false, length};
 ghost use Rattle.std.specs.FinMap as fin;
 ghost use Rattle.std.specs.FinSet as set;
+ghost use Rattle.sc_view.specs.declared.view.Stored.{Stored as Value};
 ghost use Rattle.sc_view.specs.Views.{ViewMap};
 ghost use Rattle.sc_msg.specs.Lengths.{fits};
 ghost use Rattle.sc_msg.specs.declared.message.Body.TheVariants as body;
@@ -11,7 +12,7 @@ ghost use Rattle.sc_msg.specs.declared.message.StoreAck.{StoreAck as AckFields};
 ghost use Rattle.sc_msg.specs.declared.message.Message.{Message as Said};
 ghost use Rattle.sc_msg.specs.declared.version.Version.{Version as Wire};
 ghost use Rattle.sc_operations.specs.declared.session.Phase.{Phase as Waiting};
-ghost use Rattle.sc_operations.specs.declared.session.Session.{Session as Operation};
+ghost use Rattle.sc_operations.specs.declared.session.Session.TheVariants as operation;
 ghost use Rattle.sc_operations.specs.declared.session.StoreBack.{StoreBack as Back};
 ghost use Rattle.sc_node.specs.State.{NodeState};
 ghost use Rattle.q_desk.specs.declared.journal.Entry.TheVariants as entry;
@@ -56,8 +57,9 @@ pub fn worked_keeping()
 
     // What an operation asks while its phase is open.
     ensures ended { (n : NodeState) (v : ViewMap) → fin.get n.sessions 7 ≡ None → (is_kept n 0 (body.Store 7 v) ≡ false) × (is_kept n 0 (body.CollectQuery 7) ≡ false) }
-    ensures queries { (n : NodeState) (s : Operation) (p : Waiting) → n.gone ≡ false → fin.get n.sessions 7 ≡ Some s → s.back ≡ None → s.query ≡ Some p → is_kept n 1000 (body.CollectQuery 7) ≡ true }
-    ensures stores_back { (n : NodeState) (s : Operation) (b : Back) (v : ViewMap) → n.gone ≡ false → fin.get n.sessions 7 ≡ Some s → s.back ≡ Some b → (is_kept n 1000 (body.Store 7 v) ≡ true) × (is_kept n 0 (body.CollectQuery 7) ≡ false) }
+    ensures queries { (n : NodeState) (p : Waiting) → n.gone ≡ false → fin.get n.sessions 7 ≡ Some (operation.Querying p) → is_kept n 1000 (body.CollectQuery 7) ≡ true }
+    ensures stores { (n : NodeState) (e : Value) (b : Back) (v : ViewMap) → n.gone ≡ false → fin.get n.sessions 7 ≡ Some (operation.Store e b) → (is_kept n 1000 (body.Store 7 v) ≡ true) × (is_kept n 0 (body.CollectQuery 7) ≡ false) }
+    ensures stores_back { (n : NodeState) (p : Waiting) (b : Back) (v : ViewMap) → n.gone ≡ false → fin.get n.sessions 7 ≡ Some (operation.StoringBack p b) → (is_kept n 1000 (body.Store 7 v) ≡ true) × (is_kept n 0 (body.CollectQuery 7) ≡ false) }
 {}
 
 /// To whom a question goes, and at which looks.

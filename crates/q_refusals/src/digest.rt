@@ -5,7 +5,7 @@ use q_cluster::Cluster;
 use q_replay::journal_bytes;
 use q_session::Job;
 use sc_msg::encode_fitting;
-use sc_node::{OperationKind, Phase, Session};
+use sc_node::{Phase, Session, StoreBack};
 use sc_view::{Stored, View};
 use sc_world::Op;
 use std::alloc::{AllocError, Global};
@@ -94,16 +94,22 @@ fn put_phase(hasher: &mut DefaultHasher, phase: &Phase) {
 }
 
 fn put_session(hasher: &mut DefaultHasher, session: &Session) {
-    if let OperationKind::Store(stored) = &session.kind {
-        put_stored(hasher, stored);
+    match session {
+        Session::Store { stored, back } => {
+            put_stored(hasher, stored);
+            put_back(hasher, back);
+        }
+        Session::Querying(query) => put_phase(hasher, query),
+        Session::StoringBack { query, back } => {
+            put_phase(hasher, query);
+            put_back(hasher, back);
+        }
     }
-    if let Some(query) = &session.query {
-        put_phase(hasher, query);
-    }
-    if let Some(back) = &session.back {
-        put_view(hasher, &back.view);
-        put_phase(hasher, &back.phase);
-    }
+}
+
+fn put_back(hasher: &mut DefaultHasher, back: &StoreBack) {
+    put_view(hasher, &back.view);
+    put_phase(hasher, &back.phase);
 }
 
 /// A digest of the records of all operations.

@@ -57,7 +57,7 @@ fn turning_over() -> [WorldEvent; 6] {
 
 /// The threshold of the phase in which an operation was stored or stored back, and how many senders it counted.
 fn stored(op: &Op) -> Option<(u64, usize)> {
-    let back = op.session.back.as_ref()?;
+    let back = op.session.back()?;
     Some((back.phase.threshold, back.phase.counted.len()))
 }
 

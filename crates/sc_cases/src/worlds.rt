@@ -76,8 +76,8 @@ fn tell_phase(rt: &impl Print, phase: Option<&Phase>) -> io::Result<()> {
 
 fn tell_op(rt: &impl Print, world: &World, place: usize) -> io::Result<()> {
     if let Some(op) = world.ops().get(place) {
-        tell_phase(rt, op.session.query.as_ref())?;
-        tell_phase(rt, op.session.back.as_ref().map(|back| &back.phase))?;
+        tell_phase(rt, op.session.query())?;
+        tell_phase(rt, op.session.back().map(|back| &back.phase))?;
     }
     println!(rt; "")
 }

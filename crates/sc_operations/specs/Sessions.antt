@@ -92,10 +92,11 @@ open_phase (session.Store e b) = b.phase
 open_phase (session.Querying p) = p
 open_phase (session.StoringBack p b) = b.phase
 
+-- an operation with this for the phase in which it counts now
 abbrev pub with_phase : Session → Phase → Session
-with_phase (session.Store e b) p = session.Store e (record { view = b.view; phase = p })
+with_phase (session.Store e b) p = session.Store e (record b { phase = p })
 with_phase (session.Querying q) p = session.Querying p
-with_phase (session.StoringBack q b) p = session.StoringBack q (record { view = b.view; phase = p })
+with_phase (session.StoringBack q b) p = session.StoringBack q (record b { phase = p })
 
 -- an operation that counts these in the phase that is open
 abbrev pub with_counted : Session → Ids → Session
@@ -105,8 +106,10 @@ with_counted s ids = with_phase s (record { threshold = (open_phase s).threshold
 abbrev pub counted : Session → ℕ → Session
 counted s from = with_phase s (count_sender (open_phase s) from)
 
+-- an operation after an answer of this sender, which ended the query phase where it says so
 abbrev pub advanced_by : ℕ → Advance → Session → Session
-advanced_by from (advance.Turned threshold view) (session.Querying p) = session.StoringBack (count_sender p from) (back_begun view threshold)
+advanced_by from (advance.Turned threshold view) (session.Querying p) =
+    session.StoringBack (count_sender p from) (back_begun view threshold)
 advanced_by from (advance.Turned threshold view) s = s
 advanced_by from a s = counted s from
 

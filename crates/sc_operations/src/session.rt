@@ -123,7 +123,7 @@ impl Session {
     {
         match self {
             Session::Store { stored, .. } => OperationKind::Store(*stored),
-            _ => OperationKind::Collect,
+            Session::Querying(_) | Session::StoringBack { .. } => OperationKind::Collect,
         }
     }
 
