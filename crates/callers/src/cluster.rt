@@ -2,10 +2,9 @@
 
 ghost use Rattle.std.specs.Prelude.{◌≡◌, Ok, IfOk};
 ghost use Rattle.sc_msg.specs.declared.version.Version.TheVariants as version;
-ghost use Rattle.q_history.specs.State.{ClusterState};
+ghost use Rattle.q_history.specs.Headline.{ClusterState, AnswersAreTrue};
 ghost use Rattle.q_history.specs.Clusters.{started};
 ghost use Rattle.q_history.specs.Calls.{Follows};
-ghost use Rattle.q_history.specs.Headline.{AnswersAreTrue};
 
 use q_cluster::Cluster;
 use q_history::{ClusterEvent, ClusterFault, ClusterStep};

@@ -19,7 +19,7 @@ use Rattle.q_history.specs.declared.event.ClusterEvent.TheVariants as event
 use Rattle.q_history.specs.declared.event.ClusterStep.{ClusterStep}
 use Rattle.q_history.specs.declared.event.EventAnswer.{EventAnswer}
 use Rattle.q_history.specs.declared.event.EventAnswer.TheVariants as told
-use Rattle.q_history.specs.State.{ClusterState}
+use Rattle.q_history.specs.Headline.{ClusterState}
 use Rattle.q_history.specs.Clusters.{lift, at, stepped, opened, registers, asks, stores, delivers, hands, posts, leaves}
 use Rattle.q_history.specs.Calls.{AnswersTo}
 use Rattle.q_cluster.specs.Acts.{Doing}

@@ -14,7 +14,7 @@ use Rattle.q_book.specs.Books as book
 use Rattle.q_history.specs.declared.event.ClusterEvent.TheVariants as event
 use Rattle.q_history.specs.declared.event.ClusterStep.{ClusterStep}
 use Rattle.q_history.specs.declared.event.EventAnswer.TheVariants as told
-use Rattle.q_history.specs.State.{BookMap, ClusterState}
+use Rattle.q_history.specs.Headline.{BookMap, ClusterState}
 use Rattle.q_history.specs.Clusters.{Said, live, live_at, enters, entered, crashed}
 use Rattle.q_history.proofs.Histories.{history_next}
 use Rattle.q_cluster.specs.Acts.{cluster_of, IsCluster, IsThere}

@@ -16,7 +16,7 @@ use Rattle.q_history.specs.declared.event.ClusterEvent.TheVariants as event
 use Rattle.q_history.specs.declared.event.ClusterStep.{ClusterStep}
 use Rattle.q_history.specs.declared.event.EventAnswer.{EventAnswer}
 use Rattle.q_history.specs.declared.event.EventAnswer.TheVariants as told
-use Rattle.q_history.specs.State.{BookMap, ClusterState}
+use Rattle.q_history.specs.Headline.{BookMap, ClusterState}
 use Rattle.q_history.specs.Clusters.{Said, lift, posts, posted, finished}
 use Rattle.q_history.specs.Calls.{Answers, Follows, Takes}
 use Rattle.q_cluster.specs.Acts.{cluster_of, IsCluster, IsThere, MayRun}

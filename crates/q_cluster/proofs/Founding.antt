@@ -9,7 +9,7 @@ use Rattle.sc_world.specs.Ledgers.{first}
 use Rattle.q_session.specs.declared.job.Job.{Job}
 use Rattle.reasons.specs.declared.Reason.{Reason}
 use Rattle.reasons.specs.declared.Reason.TheVariants as reasons
-use Rattle.q_history.specs.State.{BookMap, ClusterState}
+use Rattle.q_history.specs.Headline.{BookMap, ClusterState}
 use Rattle.q_history.specs.Clusters.{books_with, start, started}
 use Rattle.q_history.specs.Calls.{IsHistory}
 use Rattle.q_cluster.specs.Acts.{cluster_of, IsCluster}

@@ -2,7 +2,7 @@
 use Rattle.std.proofs.Common.{◌≡◌, Option, Some, None, IsSome, MutBor, inl, inr, refl, ap}
 use Rattle.std.specs.Option.{option_copied_mut, ghost_name_of}
 use Rattle.q_book.specs.State.{BookState}
-use Rattle.q_history.specs.State.{BookMap}
+use Rattle.q_history.specs.Headline.{BookMap}
 use borrow.Follows.Closed.{read_of}
 
 -- a table is what its lender says of it

@@ -5,7 +5,7 @@ use Rattle.sc_msg.specs.declared.version.Version.{Version}
 use Rattle.sc_world.specs.State.{Past}
 use Rattle.q_book.specs.State.{BookState}
 use Rattle.q_session.specs.declared.job.Job.{Job}
-use Rattle.q_history.specs.State.{BookMap, ClusterState}
+use Rattle.q_history.specs.Headline.{BookMap, ClusterState}
 use Rattle.q_history.specs.Clusters.{Said, live_at}
 use Rattle.q_history.specs.Calls.{IsHistory}
 

@@ -9,7 +9,7 @@ use Rattle.sc_world.specs.contracts.ledger.Ledger as ledger
 use Rattle.q_book.specs.contracts.book.Book as book
 use Rattle.q_session.specs.declared.job.Job.{Job}
 use Rattle.q_session.specs.contracts.job.Job as job
-use Rattle.q_history.specs.State.{BookMap, ClusterState}
+use Rattle.q_history.specs.Headline.{BookMap, ClusterState}
 
 -- as its fields, and its past as that of a ledger without room
 abbrev pub cluster_code : Coded ClusterState

@@ -6,7 +6,7 @@ use Rattle.sc_msg.specs.declared.version.Version.{Version}
 use Rattle.sc_node.specs.Nodes.{are_founders}
 use Rattle.reasons.specs.declared.Reason.TheVariants as reasons
 use Rattle.reasons.specs.declared.Reason.{Reason}
-use Rattle.q_history.specs.State.{BookMap}
+use Rattle.q_history.specs.Headline.{BookMap}
 use Rattle.q_history.specs.Clusters.{books_with}
 
 -- the books of the founders are given, or they are refused

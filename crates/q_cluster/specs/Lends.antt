@@ -4,7 +4,7 @@ use Rattle.std.specs.Borrow.{LendsIf, MutBor, Fml}
 use Rattle.std.specs.FinMap as fin
 use Rattle.q_book.specs.State.{BookState}
 use Rattle.q_book.specs.contracts.book.Book.{the_row as book_row}
-use Rattle.q_history.specs.State.{BookMap}
+use Rattle.q_history.specs.Headline.{BookMap}
 use Rattle.q_cluster.specs.contracts.books.Books.{the_row}
 
 -- the book of that id is what r was left as, and the others are as they were; at None all are

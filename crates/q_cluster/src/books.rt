@@ -25,7 +25,7 @@ impl Model for Books {
     ghost use Rattle.std.specs.FinMap as fin;
     ghost use Rattle.std.specs.Coded.{coded_ℕ};
     ghost use Rattle.q_book.specs.contracts.book.Book as book;
-    ghost use Rattle.q_history.specs.State.{BookMap};
+    ghost use Rattle.q_history.specs.Headline.{BookMap};
 
     ghost Value = { BookMap };
 

@@ -60,7 +60,7 @@ impl Drop for Cluster {
 }
 
 impl Model for Cluster {
-    ghost use Rattle.q_history.specs.State.{ClusterState};
+    ghost use Rattle.q_history.specs.Headline.{ClusterState};
     ghost use Rattle.q_cluster.specs.Acts.{cluster_of, IsCluster};
     ghost use Rattle.q_cluster.specs.Codes.{cluster_code};
 

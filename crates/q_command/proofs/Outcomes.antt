@@ -12,7 +12,7 @@ use Rattle.q_session.specs.declared.ran.Ran.{Ran}
 use Rattle.q_book.specs.State.{BookState}
 use Rattle.q_outside.specs.Memory.{Reads}
 use Rattle.q_outside.specs.declared.memory_files.MemoryFiles.{MemoryFiles}
-use Rattle.q_history.specs.State.{ClusterState}
+use Rattle.q_history.specs.Headline.{ClusterState}
 use Rattle.q_replay.specs.Journal.{journal_of}
 use Rattle.q_command.specs.Beginning.{IsBeginning, IsCut}
 use Rattle.q_command.specs.JournalFiles.{IsWritten, books_of, longest_journal, source_line}

@@ -2,7 +2,7 @@
 use Rattle.std.proofs.Common.{◌≡◌, ℕ, Bool, cond, List, [], ◌++◌, codes, Option, Some, None, ap, ◌∙◌, subst, append_assoc}
 use Rattle.sc_members.specs.Members.{Config}
 use Rattle.sc_msg.specs.declared.version.Version.{Version}
-use Rattle.sc_node.specs.Sessions.{stored}
+use Rattle.sc_operations.specs.Sessions.{kind_of, stored}
 use Rattle.sc_operations.specs.declared.session.OperationKind.{OperationKind}
 use Rattle.sc_operations.specs.declared.session.OperationKind.TheVariants as kind
 use Rattle.sc_view.specs.Views.{ViewMap}
@@ -17,7 +17,7 @@ use Rattle.q_history.specs.declared.event.ClusterEvent.{ClusterEvent}
 use Rattle.q_history.specs.Calls.{Reaches}
 use Rattle.q_history.specs.Clusters.{start}
 use Rattle.q_history.specs.Headline as headline
-use Rattle.q_history.specs.State.{ClusterState}
+use Rattle.q_history.specs.Headline.{ClusterState}
 use Rattle.q_history.specs.World.{world}
 use Rattle.q_history.proofs.Lists.{no_some}
 use Rattle.q_gather.specs.Gather.{GathersBooks}
@@ -55,7 +55,7 @@ all_true answers histories regular books c gathers place query b q view ran at n
       numbered = numbered;
       recorded = recorded;
       is_true = true_one;
-      genuine = λ end ended. lawful.genuine collect view end true_one.returned.among (view_stored collect.session.kind collect.end (stored collect.session) view true_one.returned.returned) ended;
+      genuine = λ end ended. lawful.genuine collect view end true_one.returned.among (view_stored (kind_of collect.session) collect.end (stored collect.session) view true_one.returned.returned) ended;
     }
 
 -- what is printed of books that gather

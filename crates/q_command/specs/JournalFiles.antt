@@ -6,7 +6,7 @@ use Rattle.q_book.specs.State.{BookState}
 use Rattle.q_outside.specs.declared.files.FileFault.{FileFault}
 use Rattle.q_gather.specs.Gather.{AreRefused}
 use Rattle.q_gather.specs.declared.fault.GatherFault.{GatherFault}
-use Rattle.q_history.specs.State.{ClusterState}
+use Rattle.q_history.specs.Headline.{ClusterState}
 use Rattle.q_replay.specs.declared.fault.ReplayFault.{ReplayFault}
 use Rattle.q_sim.specs.Refusal.{refusal_line, refusal_of}
 use Rattle.q_sim.specs.declared.refusal.Refusal.{Refusal}

@@ -4,7 +4,7 @@ use Rattle.q_book.specs.State.{BookState}
 use Rattle.q_gather.specs.Gather.{GathersBooks}
 use Rattle.q_gather.specs.declared.fault.GatherFault.{GatherFault}
 use Rattle.q_gather.specs.declared.fault.GatherFault.TheVariants as gather
-use Rattle.q_history.specs.State.{ClusterState}
+use Rattle.q_history.specs.Headline.{ClusterState}
 use Rattle.reasons.specs.declared.Reason.TheVariants as reasons
 use Rattle.q_sim.specs.Printing.{TellsPairs, ended_pairs_of}
 use Rattle.q_sim.specs.declared.refusal.Refusal.{Refusal}

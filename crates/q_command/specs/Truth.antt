@@ -7,8 +7,7 @@ use Rattle.q_session.specs.declared.query.Phase.TheVariants.{Answered}
 use Rattle.q_session.specs.declared.query.Query.{Query}
 use Rattle.q_session.specs.declared.ran.Ran.{Ran}
 use Rattle.q_book.specs.State.{BookState}
-use Rattle.q_history.specs.Headline.{IsTrue}
-use Rattle.q_history.specs.State.{ClusterState}
+use Rattle.q_history.specs.Headline.{IsTrue, ClusterState}
 use Rattle.q_history.specs.World.{world}
 
 -- The cluster recorded this answer of the node's query of this number, over this view; and it is true: it is the

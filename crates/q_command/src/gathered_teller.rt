@@ -2,7 +2,7 @@
 
 ghost use Rattle.std.specs.Prelude.{◌≡◌, ◌++◌, ℕ, List, [], IfOk, IfErr, OnOk, codes, string_bytes, if◌then◌else◌};
 ghost use Rattle.q_gather.specs.Gather.{AreRefused, GathersBooks};
-ghost use Rattle.q_history.specs.State.{ClusterState};
+ghost use Rattle.q_history.specs.Headline.{ClusterState};
 ghost use Rattle.q_sim.specs.Printing.{AddsPairs, ended_pairs_of};
 ghost use Rattle.q_command.specs.Tells.{Tells};
 

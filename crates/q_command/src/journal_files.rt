@@ -3,7 +3,7 @@
 ghost use Rattle.std.specs.Prelude.{◌≡◌, ◌⊎◌, ◌++◌, ℕ, List, map, IfOk, IfErr, string_bytes};
 ghost use Rattle.q_gather.specs.Gather.{AreRefused};
 ghost use Rattle.q_gather.specs.declared.fault.GatherFault.{GatherFault};
-ghost use Rattle.q_history.specs.State.{ClusterState};
+ghost use Rattle.q_history.specs.Headline.{ClusterState};
 ghost use Rattle.q_command.specs.Tells.{Tells, of_gather};
 ghost use Rattle.q_command.specs.JournalFiles.{IsWritten, Refuses, TellsFiles, failures_after, longest_journal};
 

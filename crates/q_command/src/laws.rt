@@ -3,7 +3,7 @@
 ghost use Rattle.std.specs.Prelude.{◌≡◌, ℕ, List};
 ghost use Rattle.q_book.specs.State.{BookState};
 ghost use Rattle.q_gather.specs.Gather.{GathersBooks};
-ghost use Rattle.q_history.specs.State.{ClusterState};
+ghost use Rattle.q_history.specs.Headline.{ClusterState};
 ghost use Rattle.q_command.specs.Listing.{listing_of};
 ghost use Rattle.q_command.specs.Perform.{Disassembles, Lists};
 ghost use Rattle.q_command.specs.Truth.{AnswersAreTrue};

@@ -13,7 +13,7 @@ ghost use Rattle.q_outside.specs.declared.memory_files.MemoryFiles.{MemoryFiles 
 ghost use Rattle.q_gather.specs.Gather.{AreRefused};
 ghost use Rattle.q_gather.specs.declared.fault.GatherFault.{GatherFault};
 ghost use Rattle.q_gather.specs.declared.fault.GatherFault.TheVariants as gather_fault;
-ghost use Rattle.q_history.specs.State.{ClusterState};
+ghost use Rattle.q_history.specs.Headline.{ClusterState};
 ghost use Rattle.q_replay.specs.Journal.{journal_of};
 ghost use Rattle.q_command.specs.Beginning.{IsBeginning, IsCut};
 ghost use Rattle.q_command.specs.JournalFiles.{IsWritten, longest_journal, status_of};

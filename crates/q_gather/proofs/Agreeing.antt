@@ -19,7 +19,7 @@ use Rattle.sc_world.proofs.Acting.{has_at}
 use Rattle.sc_world.proofs.Inverts.{same_answer, no_refusal}
 use Rattle.sc_world.proofs.Steps.{and_left, and_right}
 use Rattle.q_book.specs.State.{BookState}
-use Rattle.q_history.specs.State.{ClusterState}
+use Rattle.q_history.specs.Headline.{ClusterState}
 use Rattle.q_history.specs.Heads.{founders_for}
 use Rattle.q_history.specs.Clusters.{start, started}
 use Rattle.q_history.proofs.Lists.{same_some, no_some}

@@ -11,7 +11,7 @@ use Rattle.q_book.specs.Books as book
 use Rattle.q_book.specs.Replays.{IsFirst}
 use Rattle.q_history.specs.declared.event.ClusterEvent.{ClusterEvent}
 use Rattle.q_history.specs.declared.event.ClusterEvent.TheVariants as event
-use Rattle.q_history.specs.State.{ClusterState}
+use Rattle.q_history.specs.Headline.{ClusterState}
 use Rattle.q_history.specs.Calls.{IsHistory}
 use Rattle.q_history.proofs.Lists.{same_some, get_elsewhere}
 use Rattle.q_history.proofs.Histories.{history_next}

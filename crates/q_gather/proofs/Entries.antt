@@ -34,7 +34,7 @@ use Rattle.q_book.specs.declared.answer.Asked.{Asked}
 use Rattle.q_book.specs.declared.answer.Taken.{Taken}
 use Rattle.q_history.specs.declared.event.ClusterEvent.{ClusterEvent}
 use Rattle.q_history.specs.declared.event.ClusterEvent.TheVariants as event
-use Rattle.q_history.specs.State.{ClusterState}
+use Rattle.q_history.specs.Headline.{ClusterState}
 use Rattle.q_history.specs.Clusters.{live_at, at as at_node, enters, entered, registers, opened, asks, stores, delivers, delivered_as, hands, posts, posted, finished, leaves}
 use Rattle.q_history.specs.Calls.{Answers, IsHistory}
 use Rattle.q_history.proofs.Lists.{same_some}

@@ -13,7 +13,7 @@ use Rattle.q_book.specs.Books as book
 use Rattle.q_book.specs.Sends.{handed}
 use Rattle.q_book.proofs.Followed.{follows-accepted}
 use Rattle.q_history.specs.declared.event.ClusterEvent.{ClusterEvent}
-use Rattle.q_history.specs.State.{BookMap, ClusterState}
+use Rattle.q_history.specs.Headline.{BookMap, ClusterState}
 use Rattle.q_history.specs.Clusters.{with_job, start}
 use Rattle.q_history.specs.Calls.{Reaches, IsHistory}
 use Rattle.q_history.proofs.Lists.{same_some, no_some}

@@ -8,7 +8,7 @@ use Rattle.q_desk.specs.declared.journal.Entry.{Entry}
 use Rattle.q_book.specs.State.{BookState}
 use Rattle.q_history.specs.declared.event.ClusterEvent.{ClusterEvent}
 use Rattle.q_history.specs.declared.event.ClusterStep.{ClusterStep}
-use Rattle.q_history.specs.State.{ClusterState}
+use Rattle.q_history.specs.Headline.{ClusterState}
 use Rattle.q_history.specs.Calls.{Follows}
 use Rattle.q_history.proofs.Lists.{same_some, no_some}
 use Rattle.q_gather.specs.Merging.{Step, CanGo, AreOver, Merges}

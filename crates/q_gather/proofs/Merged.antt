@@ -8,7 +8,7 @@ use Rattle.q_book.specs.State.{BookState}
 use Rattle.q_book.specs.Books as book
 use Rattle.q_book.specs.Replays as replays
 use Rattle.q_history.specs.declared.event.ClusterEvent.{ClusterEvent}
-use Rattle.q_history.specs.State.{ClusterState}
+use Rattle.q_history.specs.Headline.{ClusterState}
 use Rattle.q_history.specs.Clusters.{start}
 use Rattle.q_history.specs.Calls.{Reaches}
 use Rattle.q_history.proofs.Lists.{same_some, no_some}

@@ -10,7 +10,7 @@ use Rattle.q_book.specs.Replays as replays
 use Rattle.q_book.specs.Sends.{sends, handed}
 use Rattle.q_history.specs.declared.event.ClusterEvent.{ClusterEvent}
 use Rattle.q_history.specs.declared.event.ClusterStep.{ClusterStep}
-use Rattle.q_history.specs.State.{BookMap, ClusterState}
+use Rattle.q_history.specs.Headline.{BookMap, ClusterState}
 use Rattle.q_history.specs.Clusters.{with_job}
 use Rattle.q_history.specs.Calls.{Follows}
 use Rattle.q_history.proofs.Ops.{insert_same}

@@ -14,7 +14,7 @@ use Rattle.q_book.proofs.Followed.{follows-accepted}
 use Rattle.reasons.specs.declared.Reason.{Reason}
 use Rattle.q_history.specs.declared.event.ClusterEvent.{ClusterEvent}
 use Rattle.q_history.specs.declared.event.ClusterStep.{ClusterStep}
-use Rattle.q_history.specs.State.{ClusterState}
+use Rattle.q_history.specs.Headline.{ClusterState}
 use Rattle.q_history.specs.Clusters.{lift, live, live_at, by_book, at as at_node, stepped}
 use Rattle.q_history.specs.Calls.{AnswersTo}
 use Rattle.q_history.proofs.Called.{With}

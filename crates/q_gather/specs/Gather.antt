@@ -5,7 +5,7 @@ use Rattle.sc_members.specs.Members.{Config}
 use Rattle.sc_msg.specs.declared.message.Message.{Message}
 use Rattle.sc_msg.specs.declared.version.Version.{Version}
 use Rattle.q_book.specs.State.{BookState}
-use Rattle.q_history.specs.State.{ClusterState}
+use Rattle.q_history.specs.Headline.{ClusterState}
 use Rattle.q_replay.specs.Journal.{journal_of, IsJournalled}
 use Rattle.q_replay.specs.Replayed.{IsFault}
 use Rattle.q_replay.specs.declared.fault.ReplayFault.{ReplayFault}

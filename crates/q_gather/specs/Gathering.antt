@@ -6,7 +6,7 @@ use Rattle.q_desk.specs.declared.journal.Entry.{Entry}
 use Rattle.q_book.specs.State.{BookState}
 use Rattle.q_history.specs.declared.event.ClusterEvent.{ClusterEvent}
 use Rattle.q_history.specs.declared.event.ClusterEvent.TheVariants as event
-use Rattle.q_history.specs.State.{ClusterState}
+use Rattle.q_history.specs.Headline.{ClusterState}
 use Rattle.q_cluster.specs.Acts.{book_at}
 use Rattle.q_gather.specs.Merging.{Step, Merges}
 use Rattle.q_gather.specs.Turns.{IsEventOf}

@@ -11,7 +11,7 @@ ghost use Rattle.q_book.specs.State.{BookState};
 ghost use Rattle.q_book.specs.Books.{entered};
 ghost use Rattle.q_book.specs.Replays.{IsReplay};
 ghost use Rattle.q_history.specs.declared.event.ClusterEvent.{ClusterEvent};
-ghost use Rattle.q_history.specs.State.{ClusterState};
+ghost use Rattle.q_history.specs.Headline.{ClusterState};
 ghost use Rattle.q_history.specs.Clusters.{start};
 ghost use Rattle.q_history.specs.Calls.{IsHistory};
 ghost use Rattle.q_cluster.specs.Acts.{book_at};

@@ -19,7 +19,7 @@ use Rattle.q_book.specs.Sends.{sends, handed}
 use Rattle.q_book.proofs.Followed.{follows-accepted}
 use Rattle.q_book.proofs.Replays.{replay_next}
 use Rattle.q_book.proofs.Values.{accepted_fit, replay_values}
-use Rattle.q_history.specs.State.{ClusterState}
+use Rattle.q_history.specs.Headline.{ClusterState}
 use Rattle.q_history.specs.Clusters.{with_job}
 use Rattle.q_history.proofs.Ops.{each_put}
 use Rattle.q_history.proofs.World.{at_live}

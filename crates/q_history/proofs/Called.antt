@@ -24,7 +24,7 @@ use Rattle.reasons.specs.declared.Reason.{Reason}
 use Rattle.q_history.specs.declared.event.ClusterEvent.{ClusterEvent}
 use Rattle.q_history.specs.declared.event.ClusterEvent.TheVariants as event
 use Rattle.q_history.specs.declared.event.ClusterStep.{ClusterStep}
-use Rattle.q_history.specs.State.{ClusterState}
+use Rattle.q_history.specs.Headline.{ClusterState}
 use Rattle.q_history.specs.Calls.{Answers, Follows}
 use Rattle.q_history.specs.Clusters.{Said, put, lift, live_at, by_book, at as at_node, with_job, entered, leaves, left, crashed, registers, registered, opened, asks, asked, stores, stored, delivers, delivered_as, hands, handed_out, posts, finished}
 

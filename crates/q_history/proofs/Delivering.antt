@@ -26,7 +26,7 @@ use Rattle.q_desk.specs.declared.journal.Entry.{Entry}
 use Rattle.q_desk.specs.declared.journal.Entry.TheVariants as entry
 use Rattle.q_book.specs.Books as book
 use Rattle.q_history.specs.declared.event.ClusterStep.{ClusterStep}
-use Rattle.q_history.specs.State.{ClusterState}
+use Rattle.q_history.specs.Headline.{ClusterState}
 use Rattle.q_history.specs.World.{world as world_in}
 use Rattle.q_history.specs.Clusters.{at as at_node, delivers, delivered_as, delivered}
 use Rattle.q_desk.proofs.Accepted.{Keeps}

@@ -30,7 +30,7 @@ use Rattle.q_book.specs.State.{BookState}
 use Rattle.q_book.specs.Books as book
 use Rattle.q_book.proofs.Parts.{left-parts, stored-parts, desk-parts, asked-parts}
 use Rattle.q_history.specs.declared.event.ClusterStep.{ClusterStep}
-use Rattle.q_history.specs.State.{ClusterState}
+use Rattle.q_history.specs.Headline.{ClusterState}
 use Rattle.q_history.specs.World.{nodes_of, world as world_in}
 use Rattle.q_history.specs.Heads.{IsHeaded}
 use Rattle.q_history.specs.Clusters.{live_at, at as at_node, registers, registered, asks, asked, stores, stored, entered, leaves, left, crashed}

@@ -15,7 +15,7 @@ use Rattle.sc_world.proofs.Inverts.{no_refusal}
 use Rattle.q_book.specs.State.{BookState}
 use Rattle.q_book.specs.Replays.{IsFirst, IsReplay}
 use Rattle.q_history.specs.declared.event.ClusterEvent.{ClusterEvent}
-use Rattle.q_history.specs.State.{ClusterState}
+use Rattle.q_history.specs.Headline.{ClusterState}
 use Rattle.q_history.specs.Clusters.{start, started}
 use Rattle.q_history.specs.Calls.{Reaches, IsHistory}
 use Rattle.q_history.specs.Books.{BooksAreReplays}

@@ -21,12 +21,11 @@ use Rattle.q_book.specs.State.{BookState}
 use Rattle.q_history.specs.declared.event.ClusterEvent.{ClusterEvent}
 use Rattle.q_history.specs.declared.event.ClusterEvent.TheVariants as event
 use Rattle.q_history.specs.declared.event.ClusterStep.{ClusterStep}
-use Rattle.q_history.specs.State.{ClusterState}
+use Rattle.q_history.specs.Headline.{ClusterState, AnswersAreTrue, AnswersStay, ViewsAreReturned, view_of}
 use Rattle.q_history.specs.World.{world as world_in}
 use Rattle.q_history.specs.Heads.{IsHeaded}
 use Rattle.q_history.specs.Clusters.{live_at, start}
 use Rattle.q_history.specs.Calls.{Follows, Reaches}
-use Rattle.q_history.specs.Headline.{AnswersAreTrue, AnswersStay, ViewsAreReturned, view_of}
 use Rattle.q_history.proofs.Lists.{no_some}
 use Rattle.q_history.proofs.World.{nodes-empty}
 use Rattle.q_history.proofs.Founders.{IsFounder, founder_nodes, every_founder, founder_there}

@@ -20,7 +20,7 @@ use Rattle.q_desk.specs.Desks as desk
 use Rattle.q_book.specs.State.{BookState}
 use Rattle.q_book.specs.Books as book
 use Rattle.q_history.specs.declared.event.ClusterStep.{ClusterStep}
-use Rattle.q_history.specs.State.{ClusterState}
+use Rattle.q_history.specs.Headline.{ClusterState}
 use Rattle.q_history.specs.Heads.{IsHeaded}
 use Rattle.q_history.specs.Clusters.{at as at_node, with_job, hands, handed_out, posts, finished}
 use Rattle.q_history.specs.Calls.{Answers}

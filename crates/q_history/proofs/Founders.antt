@@ -12,7 +12,7 @@ use Rattle.sc_world.specs.Worlds.{nodes_with}
 use Rattle.sc_world.proofs.Finite.{get-insert, contains-insert}
 use Rattle.q_book.specs.State.{BookState}
 use Rattle.q_book.specs.Books.{new_book}
-use Rattle.q_history.specs.State.{BookMap}
+use Rattle.q_history.specs.Headline.{BookMap}
 use Rattle.q_history.specs.World.{nodes_of}
 use Rattle.q_history.specs.Clusters.{books_with}
 use Rattle.q_history.proofs.Lists.{no_some}

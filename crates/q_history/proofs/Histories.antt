@@ -4,7 +4,7 @@ use Rattle.sc_members.specs.Members.{Config}
 use Rattle.sc_msg.specs.declared.version.Version.{Version}
 use Rattle.q_history.specs.declared.event.ClusterEvent.{ClusterEvent}
 use Rattle.q_history.specs.declared.event.ClusterStep.{ClusterStep}
-use Rattle.q_history.specs.State.{ClusterState}
+use Rattle.q_history.specs.Headline.{ClusterState}
 use Rattle.q_history.specs.Clusters.{start, started}
 use Rattle.q_history.specs.Calls.{Follows, Reaches, IsHistory}
 use Rattle.q_history.proofs.Kept.{IsKept}

@@ -22,7 +22,7 @@ use Rattle.q_desk.specs.Answers.{IsAnswered, AnswersAreRight}
 use Rattle.q_desk.proofs.Accepted.{Keeps, keeps_itself, keeps_on}
 use Rattle.q_desk.proofs.Moves.{Moves}
 use Rattle.q_book.specs.State.{BookState}
-use Rattle.q_history.specs.State.{BookMap, ClusterState}
+use Rattle.q_history.specs.Headline.{BookMap, ClusterState}
 use Rattle.q_history.specs.World.{nodes_of, world}
 use Rattle.q_history.specs.Heads.{founders_for, IsHeaded}
 use Rattle.q_history.proofs.Ops.{IsOnward, insert_has, each_put}

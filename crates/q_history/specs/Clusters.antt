@@ -29,7 +29,7 @@ use Rattle.q_history.specs.declared.event.Handed.{Handed}
 use Rattle.q_history.specs.declared.event.EventAnswer.{EventAnswer}
 use Rattle.q_history.specs.declared.event.EventAnswer.TheVariants as told
 use Rattle.q_history.specs.declared.event.ClusterStep.{ClusterStep}
-use Rattle.q_history.specs.State.{BookMap, ClusterState}
+use Rattle.q_history.specs.Headline.{BookMap, ClusterState}
 
 -- what an event answers and makes of a cluster, or why it is refused
 abbrev pub Said : Type 0

@@ -1,19 +1,31 @@
--- What is true of every answer that a cluster records.
+-- A cluster as data, and what is true of every answer that it records.
 use Rattle.std.specs.Prelude.{◌≡◌, ℕ, List, Option, Some, None, slice_get}
+use Rattle.std.specs.Ordering.{nat_cmp}
 use Rattle.std.specs.FinMap as fin
+use Rattle.sc_msg.specs.declared.version.Version.{Version}
 use Rattle.sc_view.specs.declared.view.Stored.{Stored}
 use Rattle.sc_view.specs.Views.{ViewMap}
 use Rattle.sc_operations.specs.declared.session.OperationKind.TheVariants as kind
-use Rattle.sc_node.specs.Sessions.{kind_of}
+use Rattle.sc_operations.specs.Sessions.{kind_of}
 use Rattle.sc_world.specs.declared.op.Op.{Op}
+use Rattle.sc_world.specs.State.{Past}
 use Rattle.sc_world.specs.Operations.{Among, IsBefore, Meets, Holds, returned}
 use Rattle.q_book.specs.State.{BookState}
 use Rattle.q_desk.specs.Answers.{IsAnswered}
+use Rattle.q_session.specs.declared.job.Job.{Job}
 use Rattle.q_session.specs.declared.ran.Ran.{Ran}
 use Rattle.q_session.specs.declared.query.Phase.{Phase}
 use Rattle.q_session.specs.declared.query.Phase.TheVariants.{Collecting, Ready, Running, Answered}
 use Rattle.q_session.specs.declared.query.Query.{Query}
-use Rattle.q_history.specs.State.{ClusterState}
+
+abbrev pub BookMap : Type 0
+BookMap = fin.FinMap nat_cmp BookState
+
+pub record ClusterState : Type 0 where
+  pub version : Version  -- of each book
+  pub books : BookMap  -- of each node that was ever there, by its id
+  pub past : Past  -- what was recorded of their events
+  pub jobs : List Job  -- all that were handed out, by their numbers
 
 -- The node's collect with this tag ended and returned the view, and the view holds each store that ended before the
 -- collect began and that meets it.

@@ -3,7 +3,7 @@ use Rattle.std.specs.Prelude.{◌≡◌, ℕ, List, Option, Some, None, if◌the
 use Rattle.std.specs.Ordering.{nat_cmp}
 use Rattle.std.specs.FinSet as set
 use Rattle.q_book.specs.State.{BookState}
-use Rattle.q_history.specs.State.{ClusterState}
+use Rattle.q_history.specs.Headline.{ClusterState}
 
 -- all founders, where the node is one; none where it entered
 abbrev pub founders_for : ℕ → List ℕ → Option (List ℕ)

@@ -1,8 +1,7 @@
 -- Clusters: what each event does, and what is true of every answer and every book.
-pub mod State
+pub mod Headline
 pub mod World
 pub mod Heads
 pub mod Clusters
 pub mod Calls
-pub mod Headline
 pub mod Books

@@ -6,11 +6,10 @@ ghost use Rattle.sc_msg.specs.Lengths.{Fits};
 ghost use Rattle.sc_msg.specs.declared.version.Version.{Version};
 ghost use Rattle.sc_world.specs.Worlds.{IsHistory as IsWorldHistory};
 ghost use Rattle.q_history.specs.declared.event.ClusterEvent.{ClusterEvent};
-ghost use Rattle.q_history.specs.State.{ClusterState};
+ghost use Rattle.q_history.specs.Headline.{ClusterState, AnswersAreTrue, AnswersStay, ViewsAreReturned};
 ghost use Rattle.q_history.specs.World.{world};
 ghost use Rattle.q_history.specs.Clusters.{start, started};
 ghost use Rattle.q_history.specs.Calls.{Reaches};
-ghost use Rattle.q_history.specs.Headline.{AnswersAreTrue, AnswersStay, ViewsAreReturned};
 ghost use Rattle.q_history.specs.Books.{BooksAreReplays};
 
 /// A law: whatever the founders are, and whatever list of events is accepted, in which messages are lost, repeated and

@@ -4,13 +4,14 @@ use Rattle.std.specs.Prelude.{MatchBool, IfOk, Result, Ok, Err}
 use Rattle.bq_check.specs.Certificate.{Certificate}
 use Rattle.bq_insn.specs.Slots.{spelling}
 use Rattle.sc_operations.specs.declared.session.OperationKind.TheVariants as kind
+use Rattle.sc_operations.specs.Sessions.{kind_of}
 use Rattle.sc_view.specs.declared.view.Stored.{Stored as Entry}
 use Rattle.sc_world.specs.Records.{Among}
 use Rattle.sc_world.specs.declared.op.Op.{Op}
 use Rattle.q_session.specs.declared.query.Query.{Query}
 use Rattle.q_book.specs.State.{BookState}
 use Rattle.q_cluster.specs.Acts.{book_at}
-use Rattle.q_history.specs.State.{ClusterState}
+use Rattle.q_history.specs.Headline.{ClusterState}
 use Rattle.q_history.proofs.Lists.{same_some}
 use Rattle.q_nodes.specs.Found.{IsOnly}
 use Rattle.q_nodes.specs.Lines.{Has, IsProgramOf, IsQueryOf, IsStoreOf, program_id}
@@ -32,11 +33,11 @@ program_is c node id code b p false at has other = λ h.
 pub no_store : (c : ClusterState) (node tag : ℕ) (bytes : List ℕ) → ((o : Op) → Among o c.past.ops → o.node ≡ node → o.tag ≡ tag → ⊥) → (o : Op) → IsStoreOf c node tag bytes o → ⊥
 no_store c node tag bytes none o h = none o h.among h.by h.tagged
 
-pub other_store : (c : ClusterState) (node tag : ℕ) (bytes : List ℕ) (op : Op) → IsOnly c.past.ops node tag op → ((e : Entry) → op.session.kind ≡ kind.Store e → e.value ≡ bytes → ⊥)
+pub other_store : (c : ClusterState) (node tag : ℕ) (bytes : List ℕ) (op : Op) → IsOnly c.past.ops node tag op → ((e : Entry) → kind_of op.session ≡ kind.Store e → e.value ≡ bytes → ⊥)
     → (o : Op) → IsStoreOf c node tag bytes o → ⊥
 other_store c node tag bytes op only other o h =
     let same : o ≡ op = only.only o h.among h.by h.tagged in
-    other h.entry (ap (λ (x : Op). x.session.kind) (sym same) ∙ h.kind) h.value
+    other h.entry (ap (λ (x : Op). kind_of x.session) (sym same) ∙ h.kind) h.value
 
 pub store_lost : (c : ClusterState) (node tag : ℕ) (value : Vec ℕ Global) → ((o : Op) → IsStoreOf c node tag value.items o → ⊥) → Has c (line.Store node value) (outcome.Stored tag) → ⊥
 store_lost c node tag value none h = none h.0 h.1

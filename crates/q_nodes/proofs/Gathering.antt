@@ -3,7 +3,7 @@ use Rattle.std.proofs.Common.{◌≡◌, ℕ, List, Option, None, sym, subst, in
 use Rattle.std.specs.Prelude.{IfOk, Result, Ok, Err, string_bytes}
 use Rattle.q_book.specs.State.{BookState}
 use Rattle.q_gather.specs.Gather.{GathersBooks}
-use Rattle.q_history.specs.State.{ClusterState}
+use Rattle.q_history.specs.Headline.{ClusterState}
 use Rattle.q_nodes.specs.Faults.{bad_founders}
 use Rattle.q_nodes.specs.Lines.{InTurn, IsTold, Lacks, tally_of, texts_of}
 use Rattle.q_nodes.specs.Runs.{IsClusterOf, IsFoundedBy, IsTelling, IsUngathered}

@@ -10,7 +10,7 @@ use Rattle.q_session.specs.declared.query.Query.{Query}
 use Rattle.q_session.specs.declared.ran.Ran.{Ran}
 use Rattle.q_book.specs.State.{BookState}
 use Rattle.q_cluster.specs.Acts.{book_at}
-use Rattle.q_history.specs.State.{ClusterState}
+use Rattle.q_history.specs.Headline.{ClusterState}
 use Rattle.q_history.proofs.Histories.{history_kept}
 use Rattle.q_history.proofs.Lists.{no_some, same_some}
 use Rattle.q_gather.specs.Gather.{Agree, AreRefused, GathersBooks}

@@ -3,7 +3,7 @@ use Rattle.std.specs.Prelude.{◌≡◌, ℕ, List, Option, Some, None, slice_ge
 use Rattle.sc_world.specs.declared.op.Op.{Op}
 use Rattle.sc_world.specs.Records.{Among}
 use Rattle.q_book.specs.State.{BookState}
-use Rattle.q_history.specs.State.{ClusterState}
+use Rattle.q_history.specs.Headline.{ClusterState}
 use Rattle.q_nodes.specs.Lines.{Has, InTurn, IsTold, Lacks}
 use Rattle.q_nodes.specs.Runs.{IsClusterOf, IsUngathered}
 use Rattle.q_nodes.specs.declared.outcome.Outcome.{Outcome}

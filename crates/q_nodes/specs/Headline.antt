@@ -7,8 +7,7 @@ use Rattle.q_session.specs.declared.query.Phase.TheVariants.{Answered}
 use Rattle.q_session.specs.declared.query.Query.{Query}
 use Rattle.q_session.specs.declared.ran.Ran.{Ran}
 use Rattle.q_book.specs.State.{BookState}
-use Rattle.q_history.specs.Headline.{IsTrue}
-use Rattle.q_history.specs.State.{ClusterState}
+use Rattle.q_history.specs.Headline.{IsTrue, ClusterState}
 use Rattle.q_nodes.specs.Books.{AreBooksOf}
 use Rattle.q_nodes.specs.Lines.{program_id, texts_of}
 use Rattle.q_nodes.specs.Runs.{IsClusterOf}

@@ -5,6 +5,7 @@ use Rattle.std.specs.FinMap as fin
 use Rattle.bq_check.specs.Certificate.{Certificate}
 use Rattle.bq_insn.specs.Slots.{spelling}
 use Rattle.sc_operations.specs.declared.session.OperationKind.TheVariants as kind
+use Rattle.sc_operations.specs.Sessions.{kind_of}
 use Rattle.sc_view.specs.declared.view.Stored.{Stored as Entry}
 use Rattle.sc_world.specs.declared.op.Op.{Op}
 use Rattle.sc_world.specs.Records.{Among}
@@ -13,7 +14,7 @@ use Rattle.q_session.specs.declared.ran.Ran.{Ran}
 use Rattle.q_desk.specs.Desks.{answer_in}
 use Rattle.q_book.specs.State.{BookState}
 use Rattle.q_cluster.specs.Acts.{book_at}
-use Rattle.q_history.specs.State.{ClusterState}
+use Rattle.q_history.specs.Headline.{ClusterState}
 use Rattle.q_history.specs.declared.event.EventAnswer.TheVariants as told
 use Rattle.q_sim.specs.Printing.{told_lines}
 use Rattle.q_sim.specs.Programs.{IsProgram, IsRefusal}
@@ -84,7 +85,7 @@ pub record IsStoreOf (c : ClusterState) (node tag : ℕ) (bytes : List ℕ) (op 
   pub by : op.node ≡ node
   pub tagged : op.tag ≡ tag
   pub entry : Entry
-  pub kind : op.session.kind ≡ kind.Store entry
+  pub kind : kind_of op.session ≡ kind.Store entry
   pub value : entry.value ≡ bytes
 
 -- the query of this number at the node asks for this program from this start

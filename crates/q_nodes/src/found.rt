@@ -4,6 +4,7 @@ ghost use Rattle.std.specs.Prelude.{◌≡◌, ◌&&◌, ℕ, nat_eq, is_some, o
 ghost use Rattle.indexmap.specs.IndexMap.{get};
 ghost use Rattle.bq_insn.specs.Slots.{spelling};
 ghost use Rattle.sc_operations.specs.declared.session.OperationKind.TheVariants as kind;
+ghost use Rattle.sc_operations.specs.Sessions.{kind_of};
 ghost use Rattle.sc_view.specs.declared.view.Stored.{Stored as Entry};
 ghost use Rattle.sc_world.specs.declared.op.Op.{Op as Record};
 ghost use Rattle.q_session.specs.declared.query.Query.{Query as QueryValue};
@@ -55,10 +56,10 @@ fn has_program(
 /// Whether the operation is a store of these bytes.
 fn stores(op: &Op, bytes: &[u8]) -> bool
     ensures { MatchBool result
-        ((e : Entry) × (op.now.session.kind ≡ kind.Store e) × (e.value ≡ bytes.now))
-        ((e : Entry) → op.now.session.kind ≡ kind.Store e → e.value ≡ bytes.now → ⊥) }
+        ((e : Entry) × (kind_of op.now.session ≡ kind.Store e) × (e.value ≡ bytes.now))
+        ((e : Entry) → kind_of op.now.session ≡ kind.Store e → e.value ≡ bytes.now → ⊥) }
 {
-    match &op.session.kind {
+    match op.session.kind() {
         OperationKind::Store(stored) => stored.value().bytes() == bytes,
         OperationKind::Collect => false,
     }

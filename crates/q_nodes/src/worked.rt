@@ -16,7 +16,7 @@ ghost use Rattle.q_cluster.specs.Acts.{book_at};
 ghost use Rattle.q_outside.specs.declared.files.FileFault.TheVariants as file;
 ghost use Rattle.q_gather.specs.Gather.{Agree};
 ghost use Rattle.q_gather.specs.declared.fault.GatherFault.TheVariants as gather;
-ghost use Rattle.q_history.specs.State.{ClusterState};
+ghost use Rattle.q_history.specs.Headline.{ClusterState};
 ghost use Rattle.q_script.specs.declared.founding.Founding.{Founding};
 ghost use Rattle.q_script.specs.declared.script.ScriptFault.TheVariants as script_fault;
 ghost use Rattle.q_script.specs.Records.{value_bytes};

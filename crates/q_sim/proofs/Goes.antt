@@ -17,7 +17,7 @@ use Rattle.reasons.specs.declared.Reason.{Reason}
 use Rattle.q_history.specs.declared.event.ClusterEvent.{ClusterEvent}
 use Rattle.q_history.specs.declared.event.ClusterEvent.TheVariants as event
 use Rattle.q_history.specs.declared.event.ClusterStep.{ClusterStep}
-use Rattle.q_history.specs.State.{ClusterState}
+use Rattle.q_history.specs.Headline.{ClusterState}
 use Rattle.q_history.specs.Clusters.{live, live_at, put, lift, registers, asks, stores, delivers, delivered_as, hands, posts, finished, leaves, crashed, stepped, at as at_node}
 use Rattle.q_history.specs.Calls.{Takes}
 use Rattle.q_history.proofs.Called.{at-ok, call-ok}

@@ -12,7 +12,7 @@ use Rattle.q_script.specs.declared.line.ScriptLine.TheVariants.{Program, All, Pa
 use Rattle.q_history.specs.declared.event.ClusterEvent.{ClusterEvent}
 use Rattle.q_history.specs.declared.event.ClusterEvent.TheVariants as event
 use Rattle.q_history.specs.declared.event.ClusterStep.{ClusterStep}
-use Rattle.q_history.specs.State.{ClusterState}
+use Rattle.q_history.specs.Headline.{ClusterState}
 use Rattle.q_history.specs.Calls.{Reaches, Takes}
 use Rattle.q_history.specs.Clusters.{start}
 use Rattle.q_history.proofs.Histories.{reaches_on}

@@ -17,7 +17,7 @@ use Rattle.reasons.specs.declared.Reason.{Reason}
 use Rattle.q_book.proofs.Parts.{desk-parts}
 use Rattle.q_history.specs.declared.event.ClusterStep.{ClusterStep}
 use Rattle.q_history.specs.declared.event.EventAnswer.TheVariants as told
-use Rattle.q_history.specs.State.{ClusterState}
+use Rattle.q_history.specs.Headline.{ClusterState}
 use Rattle.q_history.specs.Clusters.{lift, posts, posted, finished}
 use Rattle.q_history.proofs.Called.{at-ok}
 

@@ -15,7 +15,7 @@ use Rattle.q_book.specs.State.{BookState}
 use Rattle.q_book.specs.Books as book
 use Rattle.reasons.specs.declared.Reason.{Reason}
 use Rattle.q_history.specs.Clusters.{Said, live, live_at, by_book, lift, stores, stored}
-use Rattle.q_history.specs.State.{ClusterState}
+use Rattle.q_history.specs.Headline.{ClusterState}
 use Rattle.q_history.specs.declared.event.ClusterEvent.TheVariants as event
 use Rattle.q_cluster.specs.Acts.{book_at}
 use Rattle.q_cluster.proofs.Coming.{live_none}

@@ -13,10 +13,9 @@ use Rattle.q_history.specs.declared.event.ClusterStep.{ClusterStep}
 use Rattle.q_history.specs.declared.event.EventAnswer.{EventAnswer}
 use Rattle.q_history.specs.declared.event.EventAnswer.TheVariants as told
 use Rattle.reasons.specs.declared.Reason.{Reason}
-use Rattle.q_history.specs.State.{ClusterState}
+use Rattle.q_history.specs.Headline.{ClusterState, AnswersAreTrue, AnswersStay}
 use Rattle.q_history.specs.Calls.{Reaches, Takes}
 use Rattle.q_history.specs.Clusters.{start}
-use Rattle.q_history.specs.Headline.{AnswersAreTrue, AnswersStay}
 use Rattle.q_sim.specs.declared.refusal.Refusal.TheVariants.{Cluster}
 use Rattle.q_sim.specs.Printing.{told_lines, message_lines, printed}
 use Rattle.q_sim.specs.Simulates.{SimState, Writing, at_next_line, is_any, or_refused, Does, Plays, Simulates, config_of, founders_of}

@@ -3,7 +3,7 @@ use Rattle.std.specs.Prelude.{◌≡◌, ℕ, ◌<◌, List, length, Err}
 use Rattle.sc_view.specs.Values.{most_bytes}
 use Rattle.q_session.specs.declared.ran.Ran.{Ran}
 use Rattle.q_history.specs.Clusters.{stepped}
-use Rattle.q_history.specs.State.{ClusterState}
+use Rattle.q_history.specs.Headline.{ClusterState}
 use Rattle.q_history.specs.declared.event.ClusterEvent.TheVariants as event
 use Rattle.reasons.specs.declared.Reason.{Reason}
 

@@ -3,8 +3,8 @@ use Rattle.std.specs.Prelude.{◌≡◌, ℕ, zero, suc, ◌&&◌, Bool, true, f
 use Rattle.std.specs.Fmt.{decimal}
 use Rattle.sc_msg.specs.Kinds.{kind_of, name_of}
 use Rattle.sc_msg.specs.declared.message.Message.{Message}
-use Rattle.sc_operations.specs.declared.session.OperationKind.{OperationKind}
-use Rattle.sc_operations.specs.declared.session.OperationKind.TheVariants as kind
+use Rattle.sc_operations.specs.declared.session.Session.{Session}
+use Rattle.sc_operations.specs.declared.session.Session.TheVariants as session
 use Rattle.sc_world.specs.declared.op.Op.{Op}
 use Rattle.sc_world.specs.Operations.{IsMeeting}
 use Rattle.q_desk.specs.declared.completed.Completed.{Completed}
@@ -14,7 +14,7 @@ use Rattle.q_history.specs.declared.event.EventAnswer.{EventAnswer}
 use Rattle.q_history.specs.declared.event.EventAnswer.TheVariants as told
 use Rattle.q_history.specs.declared.event.ClusterStep.{ClusterStep}
 use Rattle.reasons.specs.declared.Reason.{Reason}
-use Rattle.q_history.specs.State.{ClusterState}
+use Rattle.q_history.specs.Headline.{ClusterState}
 use Rattle.q_sim.specs.declared.refusal.Refusal.TheVariants.{Cluster}
 use Rattle.q_sim.specs.Refusal.{refusal_line}
 
@@ -68,9 +68,9 @@ journal_line events = codes "journal " ++ (decimal events ++ codes " events\n")
 
 -- ---- pairs of operations
 
-abbrev pub is_store : OperationKind → Bool
-is_store (kind.Store e) = true
-is_store kind.Collect = false
+abbrev pub is_store : Session → Bool
+is_store (session.Store e b) = true
+is_store s = false
 
 -- there is an end, and it is before this place
 abbrev pub is_over : Option ℕ → ℕ → Bool
@@ -79,11 +79,11 @@ is_over (Some end) place = nat_lt end place
 
 -- an ended store, and an ended collect that began after the store's end
 abbrev pub is_pair : Op → Op → Bool
-is_pair s c = is_store s.session.kind && (not (is_store c.session.kind) && (is_some c.end && is_over s.end c.begin))
+is_pair s c = is_store s.session && (not (is_store c.session) && (is_some c.end && is_over s.end c.begin))
 
 -- a store and a collect that have ended, whichever did first
 abbrev pub is_ended_pair : Op → Op → Bool
-is_ended_pair s c = is_store s.session.kind && (is_some s.end && (not (is_store c.session.kind) && is_some c.end))
+is_ended_pair s c = is_store s.session && (is_some s.end && (not (is_store c.session) && is_some c.end))
 
 -- the pairs of a store that a test takes, in the order of the operations
 abbrev pub pairs_with : (Op → Op → Bool) → Op → List Op → List (Op × Op)

@@ -17,10 +17,9 @@ use Rattle.q_history.specs.declared.event.ClusterEvent.TheVariants as event
 use Rattle.q_history.specs.declared.event.ClusterStep.{ClusterStep}
 use Rattle.reasons.specs.declared.Reason.{Reason}
 use Rattle.reasons.specs.declared.Reason.TheVariants.{OutOfMemory as memory}
-use Rattle.q_history.specs.State.{ClusterState}
+use Rattle.q_history.specs.Headline.{ClusterState, AnswersAreTrue}
 use Rattle.q_history.specs.Clusters.{live_at, started}
 use Rattle.q_history.specs.Calls.{Takes}
-use Rattle.q_history.specs.Headline.{AnswersAreTrue}
 use Rattle.q_history.specs.Books.{BooksAreReplays}
 use Rattle.q_cluster.specs.Acts.{book_at}
 use Rattle.q_replay.specs.Journal.{journal_of}

@@ -9,7 +9,7 @@ use Rattle.q_book.specs.State.{BookState}
 use Rattle.q_script.specs.declared.line.ScriptLine.{ScriptLine}
 use Rattle.q_script.specs.declared.line.ScriptLine.TheVariants.{Run}
 use Rattle.q_history.specs.Headline as headline
-use Rattle.q_history.specs.State.{ClusterState}
+use Rattle.q_history.specs.Headline.{ClusterState}
 use Rattle.q_history.specs.declared.event.EventAnswer.TheVariants as told
 use Rattle.reasons.specs.declared.Reason.{Reason}
 use Rattle.q_sim.specs.declared.refusal.Refusal.TheVariants.{Cluster}

@@ -5,7 +5,7 @@ ghost use Rattle.q_sim.specs.Printing as printing;
 ghost use Rattle.q_sim.specs.Printing.{AddsPairs, pair_line, pairs_by, pairs_with, pairs_of, ended_pairs_of};
 ghost use Rattle.q_sim.specs.Meetings.{is_told};
 
-use sc_node::OperationKind;
+use sc_node::Session;
 use sc_world::{Op, meets};
 use std::alloc::AllocError;
 
@@ -18,13 +18,10 @@ pub enum Pairs {
     Ended,
 }
 
-fn is_store(kind: &OperationKind) -> bool
-    ensures { result ≡ printing.is_store kind.now }
+fn is_store(session: &Session) -> bool
+    ensures { result ≡ printing.is_store session.now }
 {
-    match kind {
-        OperationKind::Store(_) => true,
-        OperationKind::Collect => false,
-    }
+    matches!(session, Session::Store { .. })
 }
 
 fn is_over(end: Option<usize>, place: usize) -> bool
@@ -40,8 +37,8 @@ fn is_over(end: Option<usize>, place: usize) -> bool
 fn is_pair(store: &Op, collect: &Op) -> bool
     ensures { result ≡ printing.is_pair store.now collect.now }
 {
-    is_store(&store.session.kind)
-        && !is_store(&collect.session.kind)
+    is_store(&store.session)
+        && !is_store(&collect.session)
         && collect.end.is_some()
         && is_over(store.end, collect.begin)
 }
@@ -50,9 +47,9 @@ fn is_pair(store: &Op, collect: &Op) -> bool
 fn is_ended_pair(store: &Op, collect: &Op) -> bool
     ensures { result ≡ printing.is_ended_pair store.now collect.now }
 {
-    is_store(&store.session.kind)
+    is_store(&store.session)
         && store.end.is_some()
-        && !is_store(&collect.session.kind)
+        && !is_store(&collect.session)
         && collect.end.is_some()
 }
 

@@ -13,7 +13,7 @@ ghost use Rattle.q_outside.specs.declared.memory_files.MemoryFiles.{MemoryFiles 
 ghost use Rattle.q_history.specs.Calls.{Takes};
 ghost use Rattle.reasons.specs.declared.Reason.TheVariants.{OutOfMemory as memory};
 ghost use Rattle.q_history.specs.Clusters.{stepped};
-ghost use Rattle.q_history.specs.State.{ClusterState};
+ghost use Rattle.q_history.specs.Headline.{ClusterState};
 ghost use Rattle.q_history.specs.declared.event.ClusterStep.{ClusterStep};
 ghost use Rattle.q_session.specs.declared.ran.Ran.{Ran};
 ghost use Rattle.q_history.specs.declared.event.ClusterEvent.{ClusterEvent};

@@ -4,7 +4,7 @@ use Rattle.std.proofs.lemmas.Result.{err_from_is_err_and}
 use Rattle.sc_world.proofs.Acting.{has_at}
 use Rattle.reasons.specs.declared.Reason.TheVariants.{OutOfMemory as memory}
 use Rattle.reasons.specs.declared.Reason.{Reason}
-use Rattle.q_history.specs.State.{BookMap}
+use Rattle.q_history.specs.Headline.{BookMap}
 use Rattle.q_cluster.specs.Founders.{Founds}
 use Rattle.q_cluster.proofs.FoundBooks.{found_refused}
 use Rattle.q_cluster.proofs.books.found_books.Goals as goal

@@ -2,7 +2,7 @@
 use Rattle.std.proofs.Common.{◌≡◌, ◌∙◌, ℕ, Vec, Global, inl, inr, sym, ap, Err}
 use Rattle.reasons.specs.declared.Reason.{Reason}
 use Rattle.reasons.specs.declared.Reason.TheVariants.{NoSuchNode, OutOfMemory}
-use Rattle.q_history.specs.State.{ClusterState}
+use Rattle.q_history.specs.Headline.{ClusterState}
 use Rattle.q_nodes.specs.Faults.{no_such_node, of_fault}
 use Rattle.q_nodes.specs.Lines.{IsNode, IsTold}
 use Rattle.q_nodes.specs.declared.fault.NodesFault.{NodesFault}

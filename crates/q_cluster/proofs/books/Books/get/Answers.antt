@@ -2,7 +2,7 @@
 use Rattle.std.proofs.Common.{sym, ap, ◌∙◌}
 use Rattle.std.specs.FinMap as fin
 use Rattle.forms.proofs.Maps.{get_found}
-use Rattle.q_history.specs.State.{BookMap}
+use Rattle.q_history.specs.Headline.{BookMap}
 use Rattle.q_cluster.proofs.books.Books.get.Goals as goal
 
 pub returns : goal.returns

@@ -3,7 +3,7 @@ use Rattle.std.proofs.Common.{Option, IsSome, sym, ap, subst, ◌∙◌}
 use Rattle.std.specs.FinMap as fin
 use Rattle.forms.proofs.Maps.{get_found, one_written}
 use Rattle.q_book.specs.State.{BookState}
-use Rattle.q_history.specs.State.{BookMap}
+use Rattle.q_history.specs.Headline.{BookMap}
 use Rattle.q_cluster.proofs.Tables.{lent}
 use Rattle.q_cluster.proofs.books.Books.get_mut.Goals as goal
 

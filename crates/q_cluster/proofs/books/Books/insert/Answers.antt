@@ -2,7 +2,7 @@
 use Rattle.std.proofs.Common.{ap, ◌∙◌}
 use Rattle.std.specs.FinMap as fin
 use Rattle.forms.proofs.Maps.{one_written}
-use Rattle.q_history.specs.State.{BookMap}
+use Rattle.q_history.specs.Headline.{BookMap}
 use Rattle.q_cluster.proofs.books.Books.insert.Goals as goal
 
 pub returns-clause-ok : goal.returns-clause-ok

@@ -1,8 +1,7 @@
 -- Cluster::answers_are_true: a law of every cluster, however it came about: each recorded answer is the meaning of
 -- its query's program over the view that the query's collect returned, and that view holds what was stored before.
 use Rattle.std.proofs.Common.{subst}
-use Rattle.q_history.specs.Headline.{AnswersAreTrue}
-use Rattle.q_history.specs.State.{ClusterState}
+use Rattle.q_history.specs.Headline.{AnswersAreTrue, ClusterState}
 use Rattle.q_cluster.specs.contracts.cluster.Cluster as cluster
 use Rattle.q_cluster.proofs.cluster.Cluster.answers_are_true.Goals as goal
 

@@ -2,7 +2,7 @@
 -- also where the node has left or crashed.
 use Rattle.std.proofs.Common.{subst}
 use Rattle.q_history.specs.Books.{BooksAreReplays}
-use Rattle.q_history.specs.State.{ClusterState}
+use Rattle.q_history.specs.Headline.{ClusterState}
 use Rattle.q_cluster.specs.contracts.cluster.Cluster as cluster
 use Rattle.q_cluster.proofs.cluster.Cluster.books_are_replays.Goals as goal
 

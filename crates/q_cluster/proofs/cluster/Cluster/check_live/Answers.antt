@@ -1,7 +1,7 @@
 -- Cluster::check_live: whether the node of this id is there.
 use Rattle.std.proofs.Common.{◌∙◌, ap, sym, subst, is_some}
 use Rattle.q_history.specs.Clusters.{live_at}
-use Rattle.q_history.specs.State.{ClusterState}
+use Rattle.q_history.specs.Headline.{ClusterState}
 use Rattle.q_cluster.specs.Acts.{IsThere}
 use Rattle.q_cluster.specs.contracts.cluster.Cluster as cluster
 use Rattle.q_cluster.proofs.Coming.{there_is}

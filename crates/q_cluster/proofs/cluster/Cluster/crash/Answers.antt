@@ -1,7 +1,7 @@
 -- Cluster::crash: a node crashes.
 use Rattle.std.proofs.Common.{◌∙◌, ap, sym, is_some}
 use Rattle.q_history.specs.Clusters.{live_at}
-use Rattle.q_history.specs.State.{ClusterState}
+use Rattle.q_history.specs.Headline.{ClusterState}
 use Rattle.q_cluster.proofs.Coming.{crash_goes}
 use Rattle.q_cluster.proofs.cluster.Cluster.crash.Goals as goal
 

@@ -1,7 +1,7 @@
 -- Cluster::is_live: whether the node of this id is there: it has neither left nor crashed.
 use Rattle.std.proofs.Common.{◌∙◌, sym, ap, is_some, not}
 use Rattle.q_history.specs.Clusters.{live_at}
-use Rattle.q_history.specs.State.{ClusterState}
+use Rattle.q_history.specs.Headline.{ClusterState}
 use Rattle.q_cluster.proofs.Coming.{live_some, live_none}
 use Rattle.q_cluster.proofs.cluster.Cluster.is_live.Goals as goal
 

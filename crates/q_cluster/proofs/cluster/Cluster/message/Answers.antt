@@ -2,7 +2,7 @@
 use Rattle.std.proofs.Common.{List, All, sym, subst, rules}
 use Rattle.sc_msg.specs.declared.message.Message.{Message}
 use Rattle.sc_msg.specs.Lengths.{Fits}
-use Rattle.q_history.specs.State.{ClusterState}
+use Rattle.q_history.specs.Headline.{ClusterState}
 use Rattle.q_cluster.specs.contracts.cluster.Cluster as cluster
 use Rattle.q_cluster.proofs.cluster.Cluster.message.Goals as goal
 

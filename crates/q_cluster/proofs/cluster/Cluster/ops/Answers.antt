@@ -3,7 +3,7 @@ use Rattle.std.proofs.Common.{subst}
 use Rattle.sc_world.specs.Records.{AreRecords, AreSent}
 use Rattle.sc_world.specs.Regular.{IsRegular, EndsAreRecorded, EndsAreTold}
 use Rattle.sc_world.proofs.EveryHistory.{lawful_regular, lawful_ends, lawful_told}
-use Rattle.q_history.specs.State.{ClusterState}
+use Rattle.q_history.specs.Headline.{ClusterState}
 use Rattle.q_history.specs.World.{world}
 use Rattle.q_history.proofs.Histories.{history_kept}
 use Rattle.q_cluster.specs.contracts.cluster.Cluster as cluster

@@ -1,6 +1,6 @@
 -- Cluster::run: takes the events in turn, up to the first that is refused, which is answered by its place with its
 -- refusal.
-use Rattle.q_history.specs.State.{ClusterState}
+use Rattle.q_history.specs.Headline.{ClusterState}
 use Rattle.q_cluster.proofs.Histories.{runs_reach}
 use Rattle.q_cluster.proofs.cluster.Cluster.run.Goals as goal
 

@@ -1,6 +1,6 @@
 -- Cluster::step: takes an event, or refuses it with the first of 83, 81, 82, 42, 41, 51, 59, 50, 52, 56, 55, 43,
 -- 53, 48, 46 and 47, with 44, or with 99; then the cluster is as it was.
-use Rattle.q_history.specs.State.{ClusterState}
+use Rattle.q_history.specs.Headline.{ClusterState}
 use Rattle.q_cluster.proofs.Histories.{takes_reach}
 use Rattle.q_cluster.proofs.cluster.Cluster.step.Goals as goal
 

@@ -1,8 +1,7 @@
 -- Cluster::views_are_returned: a law of every cluster: each view over which a query is to run, runs or ran is the
 -- one that its own collect returned, and that view holds what was stored before.
 use Rattle.std.proofs.Common.{subst}
-use Rattle.q_history.specs.Headline.{ViewsAreReturned}
-use Rattle.q_history.specs.State.{ClusterState}
+use Rattle.q_history.specs.Headline.{ViewsAreReturned, ClusterState}
 use Rattle.q_cluster.specs.contracts.cluster.Cluster as cluster
 use Rattle.q_cluster.proofs.cluster.Cluster.views_are_returned.Goals as goal
 

@@ -2,7 +2,7 @@
 -- founders.
 use Rattle.std.proofs.Common.{subst}
 use Rattle.sc_world.specs.Worlds.{IsHistory}
-use Rattle.q_history.specs.State.{ClusterState}
+use Rattle.q_history.specs.Headline.{ClusterState}
 use Rattle.q_history.specs.World.{world}
 use Rattle.q_cluster.specs.contracts.cluster.Cluster as cluster
 use Rattle.q_cluster.proofs.cluster.Cluster.world_is_a_history.Goals as goal
