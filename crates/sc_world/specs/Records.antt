@@ -124,7 +124,7 @@ pub record IsPhase (w : WorldState) (P : Answers) (node since : ℕ) (p : Phase)
   pub measured : IsMeasured w node since p
   pub until : IsUntil w P node since p end
 
--- how far an operation has come that is this now
+-- how far the operation of a record has come, where its session is this
 abbrev pub HasCome : WorldState → Op → Session → Type 0
 -- a store has one phase, from its beginning to its end
 HasCome w o (session.Store e b) = IsPhase w (IsAck o) o.node o.begin b.phase o.end
@@ -134,6 +134,7 @@ HasCome w o (session.Querying p) = (o.end ≡ None) × IsPhase w (IsReply o) o.n
 HasCome w o (session.StoringBack p b) =
     (turn : ℕ) × IsPhase w (IsReply o) o.node o.begin p (Some turn) × IsPhase w (IsAck o) o.node turn b.phase o.end
 
+-- how far an operation has come
 abbrev pub IsRunning : WorldState → Op → Type 0
 IsRunning w o = HasCome w o o.session
 
@@ -143,7 +144,8 @@ pub record IsRecord (w : WorldState) (o : Op) : Type 0 where
   -- its tag is how many operations its node began before it
   pub tagged : o.tag ≡ operations_of o.node (take o.begin w.events)
   -- the number of what it stores is one more than how many stores its node began before it
-  pub numbered : (e : Stored) → kind_of o.session ≡ kind.Store e → e.number ≡ stores_of o.node (take o.begin w.events) + 1
+  pub numbered : (e : Stored) → kind_of o.session ≡ kind.Store e
+      → e.number ≡ stores_of o.node (take o.begin w.events) + 1
   pub runs : IsRunning w o
 
 -- each operation has one record

@@ -73,8 +73,8 @@ pub record IsRegular (w : WorldState) : Type 0 where
   -- it holds only what nodes began to store before the operation ended
   pub genuine : (c : Op) (v : ViewMap) (place : ℕ) → Among c w.ops → stored c.session ≡ Some v → c.end ≡ Some place → IsGenuine w place v
   -- it holds each store that ended before the collect began, and that meets it
-  pub holds : (s c : Op) (e : Stored) (v : ViewMap) → Among s w.ops → Among c w.ops → kind_of s.session ≡ kind.Store e → stored c.session ≡ Some v
-      → IsBefore s c → Meets s c → Holds v s.node e.number
+  pub holds : (s c : Op) (e : Stored) (v : ViewMap) → Among s w.ops → Among c w.ops → kind_of s.session ≡ kind.Store e
+      → stored c.session ≡ Some v → IsBefore s c → Meets s c → Holds v s.node e.number
   -- it lies above what an operation stored, or stored back, that ended before the collect began, and that meets it
   pub above : (b c : Op) (u v : ViewMap) → Among b w.ops → Among c w.ops → stored b.session ≡ Some u → stored c.session ≡ Some v
       → IsBefore b c → Meets b c → IsCoveredBy u v
