@@ -3,9 +3,9 @@
 ghost use Rattle.std.specs.Prelude.{◌≡◌, OnOk, OnErr, option_copied};
 ghost use Rattle.sc_operations.specs.declared.session.Session.TheVariants as session;
 ghost use Rattle.std.specs.FinSet as set;
-ghost use Rattle.sc_operations.specs.Sessions.{new_phase, back_begun, count_sender, is_reached, kind_of, query_of, back_of, open_phase, counted, with_counted, advanced_by, apply};
+ghost use Rattle.sc_operations.specs.Sessions.{new_phase, back_begun, count_sender, is_reached, kind_of, query_of, back_of, open_phase, counted, with_counted, advanced_by, apply, ended_with};
 
-use crate::progress::{Advance, Progress};
+use crate::progress::{Advance, Completion, Ended, Progress};
 use sc_members::IdSet;
 use sc_view::{Stored, View};
 use std::alloc::{AllocError, Global};
@@ -40,7 +40,6 @@ pub struct StoreBack {
 
 /// An operation. A store stores from its beginning. A collect begins with its query phase, whose counted senders it
 /// keeps, and stores back once that phase has ended.
-#[derive(Drop)]
 pub enum Session {
     /// A store: the value with its number, and who acknowledged the view that has it.
     Store {
@@ -58,6 +57,17 @@ pub enum Session {
         /// What is stored back, and who acknowledged it.
         back: StoreBack,
     },
+}
+
+impl Drop for Session {
+    // By hand, so that it is proved here alone, and not in each crate that drops one.
+    fn drop(self) {
+        match self {
+            Session::Store { stored: _, back: _ } => {}
+            Session::Querying(_) => {}
+            Session::StoringBack { query: _, back: _ } => {}
+        }
+    }
 }
 
 impl Phase {
@@ -208,6 +218,18 @@ impl Session {
             Session::Store { back, .. } => back.phase.count(sender),
             Session::StoringBack { back, .. } => back.phase.count(sender),
         }
+    }
+
+    // What it ends with under its tag, where it is stored or stored back.
+    pub(crate) fn into_ended(self, tag: u64) -> Option<Ended>
+        ensures { result ≡ ended_with tag self }
+    {
+        let what = match self {
+            Session::Store { stored: _, back: _ } => Completion::Stored,
+            Session::Querying(_) => return None,
+            Session::StoringBack { query: _, back } => Completion::Returned(back.view),
+        };
+        Some(Ended { tag, what })
     }
 
     // These are counted in the phase that is open.

@@ -2,10 +2,10 @@
 
 ghost use Rattle.std.specs.Prelude.{◌≡◌, ℕ, Some, false, OnOk, OnErr, option_copied};
 ghost use Rattle.std.specs.FinMap as fin;
-ghost use Rattle.sc_operations.specs.Sessions.{querying, storing, ends, ended_with, ended_at, sessions_after};
+ghost use Rattle.sc_operations.specs.Sessions.{querying, storing, ends, ended_at, sessions_after};
 ghost use Rattle.sc_operations.specs.declared.progress.Advance.TheVariants as Advance;
 
-use crate::progress::{Advance, Completion, Ended};
+use crate::progress::{Advance, Ended};
 use crate::session::{Phase, Session};
 use std::alloc::{AllocError, Global};
 use std::collections::BTreeMap;
@@ -107,18 +107,6 @@ impl Sessions {
         ensures removed { (sender : ℕ) → self.new ≡ sessions_after self.old (Some (record { tag = tag; sender = sender; advance = Advance.Ended })) }
     {
         let session = self.entries.remove(&tag)?;
-        ended_with(tag, session)
+        session.into_ended(tag)
     }
-}
-
-// What an operation ends with, where it is stored or stored back.
-fn ended_with(tag: u64, session: Session) -> Option<Ended>
-    ensures { result ≡ ended_with tag session }
-{
-    let what = match session {
-        Session::Store { .. } => Completion::Stored,
-        Session::Querying(_) => return None,
-        Session::StoringBack { back, .. } => Completion::Returned(back.view),
-    };
-    Some(Ended { tag, what })
 }

@@ -18,7 +18,7 @@ returns-in_err-session-clause-removed c = λ sender.
 
 pub returns-clause-ended : goal.returns-clause-ended
 returns-clause-ended c =
-    c.ended_with.ensures
+    c.into_ended.ensures
     ∙ ended_here c.self.inside.entries.entries c.args.self.now c.self.view_is c.args.tag (Some c.in_ok-session.session) c.in_ok-session.ensures.value
 
 pub returns-clause-removed : goal.returns-clause-removed
