@@ -3,9 +3,10 @@ use Rattle.std.proofs.Common.{◌≡◌, ℕ, Bool, true, false, not, List, [], 
 use Rattle.std.specs.Prelude.{if◌then◌else◌}
 use Rattle.std.specs.FinSet as set
 use Rattle.std.specs.List.{AllByRecursion, AllZip, flat_map}
+use Rattle.std.proofs.lemmas.Bool.{not-true}
 use Rattle.forms.specs.Lists.{Among}
 use Rattle.sc_msg.specs.declared.message.Body.{Body}
-use Rattle.sc_msg.specs.declared.message.Body.TheVariants.{Enter, EnterEcho, Join, JoinEcho, Leave, LeaveEcho, Store, StoreAck, StoreEcho, CollectQuery, CollectReply}
+use Rattle.sc_msg.specs.declared.message.Body.TheVariants.{Enter, Join, Leave}
 use Rattle.sc_msg.specs.declared.version.Version.{Version}
 use Rattle.sc_operations.specs.declared.session.Phase.{Phase}
 use Rattle.sc_node.specs.State.{NodeState}
@@ -24,13 +25,9 @@ all_front : {X : Type 0} (P : X → Type 0) (xs ys : List X) → AllByRecursion 
 all_front P [] ys h = tt
 all_front P (x ∷ xs) ys h = (h.0, all_front P xs ys h.1)
 
-all_map : {X Y : Type 0} (P : Y → Type 0) (f : X → Y) (xs : List X) → AllByRecursion (λ x. P (f x)) xs → AllByRecursion P (map f xs)
-all_map P f [] h = tt
-all_map P f (x ∷ xs) h = (h.0, all_map P f xs h.1)
-
-all_imply : {X : Type 0} (P Q : X → Type 0) → ((x : X) → P x → Q x) → (xs : List X) → AllByRecursion P xs → AllByRecursion Q xs
-all_imply P Q g [] h = tt
-all_imply P Q g (x ∷ xs) h = (g x h.0, all_imply P Q g xs h.1)
+all_map : {X Y : Type 0} (P : X → Type 0) (Q : Y → Type 0) (f : X → Y) → ((x : X) → P x → Q (f x)) → (xs : List X) → AllByRecursion P xs → AllByRecursion Q (map f xs)
+all_map P Q f g [] h = tt
+all_map P Q f g (x ∷ xs) h = (g x h.0, all_map P Q f g xs h.1)
 
 all_flat_map : {X Y : Type 0} (P : X → Type 0) (Q : Y → Type 0) (f : X → List Y) → ((x : X) → P x → AllByRecursion Q (f x)) → (xs : List X) → AllByRecursion P xs → AllByRecursion Q (flat_map f xs)
 all_flat_map P Q f g [] h = tt
@@ -41,45 +38,31 @@ all_if P xs true g = g refl
 all_if P xs false g = tt
 
 -- what a filter keeps is among the elements, and passes the test
-abbrev Passes : {X : Type 0} → (X → Bool) → List X → X → Type 0
-Passes test xs x = Among x xs × (test x ≡ true)
+filter_one : {X : Type 0} (P : X → Type 0) (x : X) (xs : List X) (b : Bool) → (b ≡ true → P x) → AllByRecursion P xs → AllByRecursion P (cond b (x ∷ xs) xs)
+filter_one P x xs true g h = (g refl, h)
+filter_one P x xs false g h = h
 
-passes_one : {X : Type 0} (test : X → Bool) (x : X) (xs : List X) (b : Bool) → test x ≡ b → AllByRecursion (Passes test (x ∷ xs)) (filter test xs) → AllByRecursion (Passes test (x ∷ xs)) (cond b (x ∷ filter test xs) (filter test xs))
-passes_one test x xs true e h = ((inl refl, e), h)
-passes_one test x xs false e h = h
-
-passes_each : {X : Type 0} (test : X → Bool) (xs : List X) → AllByRecursion (Passes test xs) (filter test xs)
-passes_each test [] = tt
-passes_each test (x ∷ xs) =
-    passes_one test x xs (test x) refl
-    (all_imply (Passes test xs) (Passes test (x ∷ xs)) (λ y h. (inr h.0, h.1)) (filter test xs) (passes_each test xs))
+all_filter : {X : Type 0} (P : X → Type 0) (test : X → Bool) (xs : List X) → ((x : X) → Among x xs → test x ≡ true → P x) → AllByRecursion P (filter test xs)
+all_filter P test [] g = tt
+all_filter P test (x ∷ xs) g =
+    filter_one P x (filter test xs) (test x) (g x (inl refl)) (all_filter P test xs (λ y among. g y (inr among)))
 
 -- ---- to whom
-
-not_true : (b : Bool) → not b ≡ true → b ≡ false
-not_true true e = absurd (cc)
-not_true false e = refl
 
 module _ (n : NodeState) (nodes : List ℕ) where
   for_uncounted : (b : Body) (o : Option Phase) → asking_phase n b ≡ o → AllByRecursion (IsFor n nodes b) (map Some (uncounted o nodes))
   for_uncounted b None e = tt
   for_uncounted b (Some p) e =
       let test = λ (id : ℕ). not (set.contains p.counted id) in
-      all_map (IsFor n nodes b) Some (filter test nodes)
-      (all_imply (Passes test nodes) (λ id. IsFor n nodes b (Some id)) (λ id h. (h.0, p, e, not_true (set.contains p.counted id) h.1)) (filter test nodes) (passes_each test nodes))
+      let asked = λ (id : ℕ). IsFor n nodes b (Some id) in
+      all_map asked (IsFor n nodes b) Some (λ id h. h) (filter test nodes)
+      (all_filter asked test nodes (λ id among t. (among, p, e, not-true (set.contains p.counted id) t)))
 
   for_each : (b : Body) → AllByRecursion (IsFor n nodes b) (targets n nodes b)
   for_each Enter = (refl, tt)
   for_each Join = (refl, tt)
   for_each Leave = (refl, tt)
-  for_each (EnterEcho to joined facts view) = for_uncounted (EnterEcho to joined facts view) None refl
-  for_each (JoinEcho about) = for_uncounted (JoinEcho about) None refl
-  for_each (LeaveEcho about) = for_uncounted (LeaveEcho about) None refl
-  for_each (Store tag view) = for_uncounted (Store tag view) (asking_phase n (Store tag view)) refl
-  for_each (StoreAck a) = for_uncounted (StoreAck a) None refl
-  for_each (StoreEcho view) = for_uncounted (StoreEcho view) None refl
-  for_each (CollectQuery tag) = for_uncounted (CollectQuery tag) (asking_phase n (CollectQuery tag)) refl
-  for_each (CollectReply r) = for_uncounted (CollectReply r) None refl
+  for_each b = for_uncounted b (asking_phase n b) refl
 
   module _ (v : Version) (questions : List Question) where
     -- a message that was given before, is kept and is due, for whom it is
@@ -94,12 +77,12 @@ module _ (n : NodeState) (nodes : List ℕ) where
     asked_each : AllByRecursion Asked (due v n nodes questions)
     asked_each =
         let test = λ (q : Question). is_kept n q.looks q.message.body in
-        all_flat_map (Passes test questions) Asked (due_of v n nodes)
+        let kept = λ (q : Question). Among q questions × (test q ≡ true) in
+        all_flat_map kept Asked (due_of v n nodes)
         (λ q h. all_if Asked (map (message_to q.message) (targets n nodes q.message.body)) (is_due v q)
-        (λ e. all_map Asked (message_to q.message) (targets n nodes q.message.body)
-        (all_imply (IsFor n nodes q.message.body) (λ to. Asked (message_to q.message to))
-        (λ to k. record { question = q; given = h.0; kept = h.1; due = e; message = refl; to = k }) (targets n nodes q.message.body) (for_each q.message.body))))
-        (filter test questions) (passes_each test questions)
+        (λ e. all_map (IsFor n nodes q.message.body) Asked (message_to q.message)
+        (λ to k. record { question = q; given = h.0; kept = h.1; due = e; message = refl; to = k }) (targets n nodes q.message.body) (for_each q.message.body)))
+        (filter test questions) (all_filter kept test questions (λ q among t. (among, t)))
 
     goes_one : (a : Addressed) (l : Letter) → Asked a → Spells v a l → GoesAgain v n nodes questions l
     goes_one a l h s = record {

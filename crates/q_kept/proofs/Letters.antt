@@ -1,7 +1,7 @@
 -- Letters that are put behind others.
 use Rattle.std.proofs.Common.{◌≡◌, ℕ, ◌+◌, ◌<◌, List, [], ◌∷◌, ◌++◌, length, take, drop, get_or, refl, sym, ap, ◌∙◌, subst, suc, Result, Ok, Err, append_assoc, append-nil}
 use Rattle.std.specs.Prelude.{OnErr}
-use Rattle.std.specs.List.{AllZip, flat_map}
+use Rattle.std.specs.List.{AllZip}
 use Rattle.std.proofs.lemmas.List.{take_more, take-append-drop}
 use Rattle.std.proofs.Math.Seq.{drop-cons}
 use Rattle.sc_msg.specs.declared.version.Version.{Version}
@@ -13,9 +13,6 @@ zip_append R [] ys [] vs h k = k
 zip_append R [] ys (u ∷ us) vs h k = absurd h
 zip_append R (x ∷ xs) ys [] vs h k = absurd h
 zip_append R (x ∷ xs) ys (u ∷ us) vs h k = (h.0, zip_append R xs ys us vs h.1 k)
-
-pub flat_map_one : {A : Type 0} (f : A → List Addressed) (x : A) → flat_map f (x ∷ []) ≡ f x
-flat_map_one f x = append-nil (f x)
 
 pub on_err : {A E : Type 0} (r : Result A E) (P : Type 0) → P → OnErr r P
 on_err (Ok a) P p = tt

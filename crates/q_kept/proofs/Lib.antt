@@ -2,12 +2,9 @@
 mod Parts
 mod GrownJournals
 mod Recorded
-mod LeftOut
 mod Letters
 mod Targets
 mod Each
 mod Gifts
 mod Growing
-mod Looks
 mod Settling
-mod Leaving

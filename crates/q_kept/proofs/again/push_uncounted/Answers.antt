@@ -5,7 +5,7 @@ use Rattle.std.proofs.lemmas.List.{get_or_default}
 use Rattle.q_kept.specs.Letters.{Addressed, AddsAll}
 use Rattle.q_kept.specs.declared.letter.Letter.{Letter}
 use Rattle.q_kept.proofs.Letters.{adds_first_none, adds_more, adds_none, adds_up_to, on_err}
-use Rattle.q_kept.proofs.Targets.{to_none, to_one, to_uncounted, uncounted-append}
+use Rattle.q_kept.proofs.Targets.{to_one, to_uncounted, uncounted-append}
 use Rattle.q_kept.proofs.again.push_uncounted.Goals as goal
 use Rattle.q_kept.proofs.again.push_uncounted.Goals.{then-not-contains+in_ok-push_letter, else-not-contains}
 
@@ -27,9 +27,9 @@ loop-id-preserved c =
       | then-not-contains+in_ok-push_letter w ↦
           more c.if-not-contains.letters.items c.loop-id.invariant
           (subst (λ (l : List Letter). AddsAll v (to_uncounted m p (id ∷ [])) ls l) (ap (λ x. x.items) (sym w.letters-is))
-          (subst (λ (l : List Addressed). AddsAll v l ls w.push_letter.new.letters.items) (sym (to_one m p id (sym c.contains.ensures ∙ w.if-not-contains.true))) w.in_ok-push_letter.ensures.ok))
+          (subst (λ (l : List Addressed). AddsAll v l ls w.push_letter.new.letters.items) (sym (to_one m p id _ (sym c.contains.ensures ∙ w.if-not-contains.true))) w.in_ok-push_letter.ensures.ok))
       | else-not-contains w ↦
           more c.if-not-contains.letters.items c.loop-id.invariant
           (subst (λ (l : List Letter). AddsAll v (to_uncounted m p (id ∷ [])) ls l) (ap (λ x. x.items) (sym w.letters-is))
-          (subst (λ (l : List Addressed). AddsAll v l ls ls) (sym (to_none m p id (sym c.contains.ensures ∙ w.if-not-contains.false))) (adds_none v ls)))
+          (subst (λ (l : List Addressed). AddsAll v l ls ls) (sym (to_one m p id _ (sym c.contains.ensures ∙ w.if-not-contains.false))) (adds_none v ls)))
     ]
