@@ -1,10 +1,10 @@
 -- Whether books are of different nodes, and agree on their heads.
-use Rattle.std.proofs.Common.{◌≡◌, ◌<◌, ◌≤◌, ◌+◌, ℕ, ◌==◌, Bool, true, false, cond, List, [], ◌∷◌, length, take, Option, Some, None, Result, Ok, Err, refl, sym, ap, ◌∙◌, subst, slice_get, arith, rules}
+use Rattle.std.proofs.Common.{◌≡◌, ◌<◌, ◌≤◌, ◌+◌, ℕ, ◌==◌, Bool, true, false, cond, List, [], ◌∷◌, length, take, Option, Some, None, Result, Ok, refl, sym, ap, ◌∙◌, subst, slice_get, arith, rules, inl, inr, ⊎_elim}
 use Rattle.std.specs.Prelude.{MatchBool, nat_eq, ◌&&◌}
 use Rattle.std.specs.List.{list_any}
 use Rattle.std.specs.Ordering.{nat_cmp}
 use Rattle.std.specs.FinSet as set
-use Rattle.std.proofs.lemmas.Bool.{eqb-true, eqb-false, eq-eqb}
+use Rattle.std.proofs.lemmas.Bool.{eqb-true, eq-eqb, cases_eq, cases_order}
 use Rattle.std.proofs.lemmas.Option.{slice_get_within}
 use Rattle.sc_members.specs.Members.{Config}
 use Rattle.sc_msg.specs.declared.version.Version.{Version}
@@ -16,7 +16,7 @@ use Rattle.sc_node.specs.Nodes.{are_founders}
 use Rattle.reasons.specs.declared.Reason.{Reason}
 use Rattle.reasons.specs.declared.Reason.TheVariants as reasons
 use Rattle.sc_world.proofs.Acting.{has_at}
-use Rattle.sc_world.proofs.Inverts.{same_answer, no_refusal}
+use Rattle.forms.proofs.Calls.{same_answer, passed}
 use Rattle.sc_world.proofs.Steps.{and_left, and_right}
 use Rattle.q_book.specs.State.{BookState}
 use Rattle.q_history.specs.Headline.{ClusterState}
@@ -31,9 +31,9 @@ use Rattle.q_gather.proofs.Finding.{get_take, take_within}
 
 -- ---- ids
 
--- the books before a place are of different nodes
+-- no book before a place is of the node of one before it
 abbrev pub DistinctBelow : List BookState → ℕ → Type 0
-DistinctBelow books n = (i k : ℕ) (a b : BookState) → i < n → k < n → slice_get books i ≡ Some a → slice_get books k ≡ Some b → a.id ≡ b.id → i ≡ k
+DistinctBelow books n = (k : ℕ) (b : BookState) → k < n → slice_get books k ≡ Some b → HasBook (take k books) b.id → ⊥
 
 -- one before a place is of the node of that at the place
 pub not_distinct : (books : List BookState) (n : ℕ) (x : BookState) → slice_get books n ≡ Some x → HasBook (take n books) x.id → AreDistinct books → ⊥
@@ -42,35 +42,23 @@ not_distinct books n x here has distinct =
     let same : has.place ≡ n = distinct has.place n has.book x (sym (get_take books n has.place less) ∙ has.at) here has.of in
     omega (arith, less, same)
 
-module _ (books : List BookState) (n : ℕ) (x : BookState) (here : slice_get books n ≡ Some x) (none : HasBook (take n books) x.id → ⊥) where
-  other : (i : ℕ) (a : BookState) → i < n → slice_get books i ≡ Some a → a.id ≡ x.id → ⊥
-  other i a less at same = none (record { place = i; book = a; at = get_take books n i less ∙ at; of = same })
-
-  pub distinct_next : DistinctBelow books n → DistinctBelow books (n + 1)
-  distinct_next below i k a b less few at there same = go (i == n) (k == n) refl refl
-    where
-      go : (p q : Bool) → (i == n) ≡ p → (k == n) ≡ q → i ≡ k
-      go true true is as' = eqb-true i n is ∙ sym (eqb-true k n as')
-      go true false is as' =
-          let own : i ≡ n = eqb-true i n is in
-          let away = eqb-false k n as' in
-          let first : x ≡ a = same_some x a (sym here ∙ ap (slice_get books) (sym own) ∙ at) in
-          absurd (other k b (omega (arith, few, away)) there (sym same ∙ ap (λ (y : BookState). y.id) (sym first)))
-      go false true is as' =
-          let own : k ≡ n = eqb-true k n as' in
-          let away = eqb-false i n is in
-          let first : x ≡ b = same_some x b (sym here ∙ ap (slice_get books) (sym own) ∙ there) in
-          absurd (other i a (omega (arith, less, away)) at (same ∙ ap (λ (y : BookState). y.id) (sym first)))
-      go false false is as' =
-          let off = eqb-false i n is in
-          let away = eqb-false k n as' in
-          below i k a b (omega (arith, less, off)) (omega (arith, few, away)) at there same
+pub distinct_next : (books : List BookState) (n : ℕ) (x : BookState) → slice_get books n ≡ Some x → (HasBook (take n books) x.id → ⊥) → DistinctBelow books n → DistinctBelow books (n + 1)
+distinct_next books n x here none below k b less at has = elim (cases_eq k n) [
+  | inl same ↦
+      let one : b ≡ x = same_some b x (sym at ∙ ap (slice_get books) same ∙ here) in
+      none (subst (λ (i : ℕ). HasBook (take i books) x.id) same (subst (λ (y : BookState). HasBook (take k books) y.id) one has))
+  | inr away ↦ below k b (omega (arith, less, away)) at has
+]
 
 pub distinct_all : (books : List BookState) (n : ℕ) → DistinctBelow books n → length books ≤ n → AreDistinct books
 distinct_all books n below past i k a b at there same =
-    let first : i < length books = slice_get_within books i a at in
-    let second : k < length books = slice_get_within books k b there in
-    below i k a b (omega (arith, first, past)) (omega (arith, second, past)) at there same
+    ⊎_elim (λ one. one) (λ away. ⊎_elim (λ less. absurd (none i k a b less at there same)) (λ more. absurd (none k i b a more there at (sym same))) away)
+    (cases_order i k)
+  where
+    none : (i k : ℕ) (a b : BookState) → i < k → slice_get books i ≡ Some a → slice_get books k ≡ Some b → a.id ≡ b.id → ⊥
+    none i k a b less at there same =
+        let within : k < length books = slice_get_within books k b there in
+        below k b (omega (arith, within, past)) there (record { place = i; book = a; at = get_take books k i less ∙ at; of = same })
 
 -- ---- one founder
 
@@ -80,19 +68,18 @@ some_by false ids founders h = absurd (no_some ids h)
 
 -- where the books agree, it is on the head of each founder
 module _ (books : List BookState) (version : Version) (config : Config) (ids : List ℕ) (h : HasHead books version config ids) (a : Agree books) where
-  version_same : a.0 ≡ version
-  version_same = sym (a.3.versions h.place h.book h.at) ∙ h.version_is
-
-  config_same : a.1 ≡ config
-  config_same = sym (a.3.heads h.place h.book h.at).0 ∙ h.config_is
-
   founders_same : ids ≡ a.2
   founders_same = some_by (set.contains (set.from_list {R = nat_cmp} a.2) h.book.id) ids a.2 (sym (a.3.heads h.place h.book h.at).1 ∙ h.founders_are)
 
   pub agree_headed : AreHeaded books version config ids
   agree_headed k b at =
       let own = a.3.heads k b at in
-      (a.3.versions k b at ∙ version_same, own.0 ∙ config_same, own.1 ∙ ap (founders_for b.id) (sym founders_same))
+      let head = a.3.heads h.place h.book h.at in
+      (
+        a.3.versions k b at ∙ sym (a.3.versions h.place h.book h.at) ∙ h.version_is,
+        own.0 ∙ sym head.0 ∙ h.config_is,
+        own.1 ∙ ap (founders_for b.id) (sym founders_same),
+      )
 
   pub agree_there : AreThere books ids
   agree_there id in' = a.3.there id (ap (λ (x : List ℕ). set.contains (set.from_list {R = nat_cmp} x) id) (sym founders_same) ∙ in')
@@ -121,13 +108,8 @@ versions_refused journals books i k a b r distinct at here other = (books, r, di
 
 -- ---- the start
 
-starts_by : (version : Version) (config : Config) (ids : List ℕ) (are : Bool) (c : ClusterState) → (let r : Result ClusterState Reason = cond are (Ok (start version config ids)) (Err reasons.BadFounders) in r) ≡ Ok c
-    → c ≡ start version config ids
-starts_by version config ids true c h = same_answer {E = Reason} c (start version config ids) (sym h)
-starts_by version config ids false c h = absurd (no_refusal _ c h)
-
 pub starts : (version : Version) (config : Config) (ids : List ℕ) (c : ClusterState) → started version config ids ≡ Ok c → c ≡ start version config ids
-starts version config ids c h = starts_by version config ids (are_founders ids) c h
+starts version config ids c h = same_answer {E = Reason} c (start version config ids) (sym (passed (are_founders ids) reasons.BadFounders (Ok (start version config ids)) c h).1)
 
 pub agree_on : (books : List BookState) (version : Version) (config : Config) (ids : List ℕ) (c : ClusterState) → started version config ids ≡ Ok c → AreHeaded books version config ids → AreThere books ids → AgreeOn books version config ids
 agree_on books version config ids c h heads there = record {

@@ -22,7 +22,8 @@ use Rattle.q_gather.specs.Merging.Merges.{Over, Takes}
 use Rattle.q_gather.specs.Traces.{IsTraceFrom, entering, IsTrace}
 use Rattle.q_gather.specs.Gathered.{AreDistinct, AreRight, AgreeOn, AreTraces, IsGathered, IsAt, IsUnderWay}
 use Rattle.q_gather.specs.Gathered.IsAt.{Away, There}
-use Rattle.q_gather.proofs.BooksGather.{step_goes, gathered}
+use Rattle.q_gather.proofs.BooksGather.{gathered}
+use Rattle.q_gather.proofs.Turns.{step_goes}
 use Rattle.q_gather.proofs.Tracing.{first_same}
 
 module _ (version : Version) (config : Config) (ids : List ℕ) where
@@ -50,14 +51,11 @@ module _ (version : Version) (config : Config) (ids : List ℕ) where
         (subst (λ (x : List (Step Message)). IsTraceFrom (new_book b.version b.id b.config b.founders t.first) b.desk.journal x b)
         (sym (t.is ∙ ap (λ (o : Option (List ℕ)). entering b o ++ t.rest) (heads ∙ some))) t.trace)
 
-    is_away : set.contains (set.from_list {R = nat_cmp} ids) b.id ≡ false → IsAt c b b.desk.journal steps
-    is_away away =
-        let none : founders_for b.id ids ≡ None = ap (λ (k : Bool). let o : Option (List ℕ) = cond k (Some ids) None in o) away in
-        Away (absent_by b.id (book_at c b.id) refl away) (heads ∙ none) refl t
-
     begins_by : (k : Bool) → set.contains (set.from_list {R = nat_cmp} ids) b.id ≡ k → IsAt c b b.desk.journal steps
     begins_by true is = is_founder is
-    begins_by false is = is_away is
+    begins_by false away =
+        let none : founders_for b.id ids ≡ None = ap (λ (k : Bool). let o : Option (List ℕ) = cond k (Some ids) None in o) away in
+        Away (absent_by b.id (book_at c b.id) refl away) (heads ∙ none) refl t
 
   -- nothing is gathered yet
   pub begins : (books : List BookState) (lists : List (List (Step Message))) → AreDistinct books → AreRight books → AgreeOn books version config ids → AreTraces books lists → IsUnderWay books c lists

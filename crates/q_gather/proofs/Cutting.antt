@@ -1,5 +1,6 @@
 -- A book has one beginning of each number of entries; and what a book gives.
-use Rattle.std.proofs.Common.{◌≡◌, ℕ, Bool, true, false, nat_le, leb-true, leb-false, List, [], ◌∷◌, ◌++◌, length, take, drop, Option, Some, None, refl, sym, ap, ◌∙◌, subst, slice_get, take-append-drop, take-take, take_all, length-take, arith}
+use Rattle.std.proofs.Common.{◌≡◌, ℕ, List, [], ◌∷◌, ◌++◌, length, take, drop, Option, Some, None, refl, sym, ap, ◌∙◌, subst, slice_get, take-append-drop, take-take, take_all, length-take, arith, inl, inr}
+use Rattle.std.proofs.lemmas.Bool.{cases_lt}
 use Rattle.std.proofs.lemmas.Option.{slice_get_read}
 use Rattle.sc_msg.specs.declared.message.Message.{Message}
 use Rattle.sc_node.specs.State.{NodeState}
@@ -96,14 +97,11 @@ module _ (a b c : BookState) (h : IsBeginningOf a b) (k : IsBeginningOf b c) whe
   twice : a.desk.journal ≡ take h.entries (take k.entries c.desk.journal)
   twice = h.journal ∙ ap (take h.entries) k.journal
 
-  again_by : (fewer : Bool) → nat_le h.entries k.entries ≡ fewer → IsBeginningOf a c
-  again_by true is = with_entries h.entries (twice ∙ take-take h.entries k.entries c.desk.journal (leb-true h.entries k.entries is))
-  again_by false is =
-      let more = leb-false h.entries k.entries is in
-      with_entries k.entries (twice ∙ take_all h.entries (take k.entries c.desk.journal) (omega (arith, more, length-take k.entries c.desk.journal)))
-
   pub part_again : IsBeginningOf a c
-  part_again = again_by (nat_le h.entries k.entries) refl
+  part_again = elim (cases_lt k.entries h.entries) [
+    | inl more ↦ with_entries k.entries (twice ∙ take_all h.entries (take k.entries c.desk.journal) (omega (arith, more, length-take k.entries c.desk.journal)))
+    | inr fewer ↦ with_entries h.entries (twice ∙ take-take h.entries k.entries c.desk.journal fewer)
+  ]
 
 -- ---- what is given
 

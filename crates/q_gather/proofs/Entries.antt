@@ -10,6 +10,7 @@ use Rattle.sc_view.specs.Views.{ViewMap}
 use Rattle.sc_msg.specs.declared.message.Message.{Message}
 use Rattle.sc_node.specs.declared.answer.Begun.{Begun}
 use Rattle.sc_world.specs.declared.event.WorldEvent.TheVariants as world_event
+use Rattle.sc_world.specs.State.{Past}
 use Rattle.sc_world.specs.Ledgers.{recorded}
 use Rattle.bq_meaning.proofs.Folding as folding
 use Rattle.bq_check.specs.Certificate.{Certificate}
@@ -34,9 +35,10 @@ use Rattle.q_book.specs.declared.answer.Asked.{Asked}
 use Rattle.q_book.specs.declared.answer.Taken.{Taken}
 use Rattle.q_history.specs.declared.event.ClusterEvent.{ClusterEvent}
 use Rattle.q_history.specs.declared.event.ClusterEvent.TheVariants as event
+use Rattle.q_history.specs.declared.event.ClusterStep.{ClusterStep}
 use Rattle.q_history.specs.Headline.{ClusterState}
-use Rattle.q_history.specs.Clusters.{live_at, at as at_node, enters, entered, registers, opened, asks, stores, delivers, delivered_as, hands, posts, posted, finished, leaves}
-use Rattle.q_history.specs.Calls.{Answers, IsHistory}
+use Rattle.q_history.specs.Clusters.{lift, stepped, live_at, at as at_node, enters, entered, registers, opened, asks, stores, delivers, delivered_as, hands, posts, posted, finished, leaves}
+use Rattle.q_history.specs.Calls.{Answers, AnswersTo, IsHistory}
 use Rattle.q_history.proofs.Lists.{same_some}
 use Rattle.q_desk.proofs.Accepted.{Keeps, keeps_itself, answered as with_answer, IsPosted}
 use Rattle.bq_insn.specs.Slots.{spelling}
@@ -44,6 +46,7 @@ use Rattle.q_table.specs.Programs as table
 use Rattle.q_desk.proofs.Own.{job_by, and_both, same_bytes, same_number, own_fits}
 use Rattle.q_book.proofs.Followed.{is_posted}
 use Rattle.q_history.proofs.World.{at_live}
+use Rattle.q_history.proofs.Called.{With}
 use Rattle.q_history.proofs.Histories.{history_kept}
 use Rattle.q_cluster.specs.Acts.{book_at}
 use Rattle.q_gather.specs.Merging.{CanGo}
@@ -58,44 +61,6 @@ use Rattle.q_gather.proofs.EveryJob.{history_jobs}
 -- an answer that nobody asks for
 nothing : Ran
 nothing = record { acc = 0; steps = 0 }
-
--- ---- calls that run no job
-
-module _ (c : ClusterState) (id : ℕ) (b d : BookState) (up : live_at c id ≡ Some b) where
-  leave_makes : (outs : List Message) → book.left b ≡ Ok (outs, d) → Makes c (event.Leave id) id d (sends b entry.Leave)
-  leave_makes outs h =
-      subst (Makes c (event.Leave id) id d) (sym (ap (seen (λ (x : List Message). x) []) h))
-      (makes c (event.Leave id) id d outs nothing (leaves c id outs d) tt (λ r _. call_says c id b d up (leaves c id) book.left outs h)
-      (put_turn c (recorded c.past (world_event.Leave id) id outs None None) c.jobs id d outs refl))
-
-  register_makes : (program : Certificate) (n : ℕ) → book.registered b program ≡ Ok (n, d) → Makes c (event.Register id program) id d []
-  register_makes program n h =
-      makes c (event.Register id program) id d [] nothing (registers c id n d) tt (λ r _. call_says c id b d up (registers c id) (λ x. book.registered x program) n h)
-      (put_turn c c.past c.jobs id d [] (sym (append-nil c.past.sent)))
-
-  ask_makes : (program start : ℕ) (a : Asked) → book.asked b program start ≡ Ok (a, d) → Makes c (event.Ask id program start) id d (sends b (entry.Ask program start))
-  ask_makes program start a h =
-      subst (Makes c (event.Ask id program start) id d) (sym (ap (seen (λ (x : Asked). x.begun.outs) []) h))
-      (makes c (event.Ask id program start) id d a.begun.outs nothing (asks c id a d) tt (λ r _. call_says c id b d up (asks c id) (λ x. book.asked x program start) a h)
-      (put_turn c (recorded c.past (world_event.Collect id) id a.begun.outs None (opened a.begun)) c.jobs id d a.begun.outs refl))
-
-  store_makes : (value : List ℕ) (a : Begun) → book.stored b value ≡ Ok (a, d) → Makes c (event.Store id value) id d (sends b (entry.Store value))
-  store_makes value a h =
-      subst (Makes c (event.Store id value) id d) (sym (ap (seen (λ (x : Begun). x.outs) []) h))
-      (makes c (event.Store id value) id d a.outs nothing (stores c id value a d) tt (λ r _. call_says c id b d up (stores c id value) (λ x. book.stored x value) a h)
-      (put_turn c (recorded c.past (world_event.Store id value) id a.outs None (opened a)) c.jobs id d a.outs refl))
-
-  deliver_makes : (m : Message) (number : ℕ) (a : Taken) → slice_get c.past.sent number ≡ Some m → book.delivered b m ≡ Ok (a, d) → Makes c (event.Deliver number id) id d (sends b (entry.Deliver m))
-  deliver_makes m number a at h =
-      subst (Makes c (event.Deliver number id) id d) (sym (ap (seen (λ (x : Taken). x.outs) []) h))
-      (makes c (event.Deliver number id) id d a.outs nothing (delivers c number id a d) tt
-      (λ r _. ap (λ (o : Option Message). at_node c id (λ x. delivered_as c number id x o)) at ∙ call_says c id b d up (delivers c number id) (λ x. book.delivered x m) a h)
-      (put_turn c (recorded c.past (world_event.Deliver number id) id a.outs a.progress None) c.jobs id d a.outs refl))
-
-  hand_out_makes : (j : Job) → book.handed_out b ≡ Ok (Some j, d) → Makes c (event.HandOut id) id d []
-  hand_out_makes j h =
-      makes c (event.HandOut id) id d [] nothing (hands c id (Some j) d) tt (λ r _. call_says c id b d up (hands c id) book.handed_out (Some j) h)
-      (put_turn c c.past (c.jobs ++ j ∷ []) id d [] (sym (append-nil c.past.sent)))
 
 -- ---- an answer
 
@@ -224,15 +189,42 @@ module _ (c : ClusterState) (h : IsHistory c) (id : ℕ) (b d : BookState) (up :
       (finish_makes c b d ran i it.job (ap (live_at c) it.by ∙ up) (((history_kept c h).headed id b stands).id ∙ sym it.by) (it.of ∙ sym of) posts
       ((history_jobs c h id b stands).each number it.job it.at it.by) right number it.at)
 
+  module _ (e : Entry) where
+    -- what the entry sends was recorded
+    noted_turn : (p : Past) (outs : List Message) → p.sent ≡ c.past.sent ++ outs → sends b e ≡ outs → IsTurn c id d (sends b e) (With c p c.jobs id d)
+    noted_turn p outs sent same = put_turn c p c.jobs id d (sends b e) (sent ∙ ap (λ (x : List Message). c.past.sent ++ x) (sym same))
+
+    -- the event by which the node takes the call of the entry, which runs no job
+    call_makes : {A : Type 0} (next : A → BookState → ClusterStep × ClusterState) (call : BookState → Result (A × BookState) Reason) (a : A) → call b ≡ Ok (a, d)
+        → (x ev : ClusterEvent) → ev ≡ x → AnswersTo c x nothing → ((r : Ran) → stepped r c x ≡ at_node c id (λ y. lift next (call y)))
+        → IsTurn c id d (sends b e) (next a d).1 → Makes c ev id d (sends b e)
+    call_makes next call a h x ev is right says turn =
+        subst (λ (y : ClusterEvent). Makes c y id d (sends b e)) (sym is)
+        (makes c x id d (sends b e) nothing (next a d) right (λ r _. says r ∙ call_says c id b d up next call a h) turn)
+
+  -- nothing was sent
+  quiet_turn : (jobs : List Job) → IsTurn c id d [] (With c c.past jobs id d)
+  quiet_turn jobs = put_turn c c.past jobs id d [] (sym (append-nil c.past.sent))
+
   pub entry_makes : (e : Entry) (ev : ClusterEvent) → IsRightLater d.desk → Follows b e d → IsEventOf c id e ev → Makes c ev id d (sends b e)
-  entry_makes entry.Leave ev right f is = subst (λ (x : ClusterEvent). Makes c x id d (sends b entry.Leave)) (sym is) (leave_makes c id b d up f.0 f.1)
-  entry_makes (entry.Register program) ev right f is = subst (λ (x : ClusterEvent). Makes c x id d []) (sym is) (register_makes c id b d up program f.0 f.1)
+  entry_makes entry.Leave ev right f is =
+      call_makes entry.Leave (leaves c id) book.left f.0 f.1 (event.Leave id) ev is tt (λ r. refl)
+      (noted_turn entry.Leave (recorded c.past (world_event.Leave id) id f.0 None None) f.0 refl (ap (seen (λ (x : List Message). x) []) f.1))
+  entry_makes (entry.Register program) ev right f is =
+      call_makes (entry.Register program) (registers c id) (λ x. book.registered x program) f.0 f.1 (event.Register id program) ev is tt (λ r. refl) (quiet_turn c.jobs)
   entry_makes (entry.Ask program start) ev right f is =
-      subst (λ (x : ClusterEvent). Makes c x id d (sends b (entry.Ask program start))) (sym is) (ask_makes c id b d up program start f.0 f.1)
-  entry_makes (entry.Store value) ev right f is = subst (λ (x : ClusterEvent). Makes c x id d (sends b (entry.Store value))) (sym is) (store_makes c id b d up value f.0 f.1)
+      let begun = f.0.begun in
+      call_makes (entry.Ask program start) (asks c id) (λ x. book.asked x program start) f.0 f.1 (event.Ask id program start) ev is tt (λ r. refl)
+      (noted_turn (entry.Ask program start) (recorded c.past (world_event.Collect id) id begun.outs None (opened begun)) begun.outs refl (ap (seen (λ (x : Asked). x.begun.outs) []) f.1))
+  entry_makes (entry.Store value) ev right f is =
+      call_makes (entry.Store value) (stores c id value) (λ x. book.stored x value) f.0 f.1 (event.Store id value) ev is tt (λ r. refl)
+      (noted_turn (entry.Store value) (recorded c.past (world_event.Store id value) id f.0.outs None (opened f.0)) f.0.outs refl (ap (seen (λ (x : Begun). x.outs) []) f.1))
   entry_makes (entry.Deliver m) ev right f is =
-      subst (λ (x : ClusterEvent). Makes c x id d (sends b (entry.Deliver m))) (sym is.2) (deliver_makes c id b d up m is.0 f.0 is.1 f.1)
-  entry_makes entry.HandOut ev right f is = subst (λ (x : ClusterEvent). Makes c x id d []) (sym is) (hand_out_makes c id b d up f.0 f.1)
+      call_makes (entry.Deliver m) (delivers c is.0 id) (λ x. book.delivered x m) f.0 f.1 (event.Deliver is.0 id) ev is.2 tt
+      (λ r. ap (λ (o : Option Message). at_node c id (λ x. delivered_as c is.0 id x o)) is.1)
+      (noted_turn (entry.Deliver m) (recorded c.past (world_event.Deliver is.0 id) id f.0.outs f.0.progress None) f.0.outs refl (ap (seen (λ (x : Taken). x.outs) []) f.1))
+  entry_makes entry.HandOut ev right f is =
+      call_makes entry.HandOut (hands c id) book.handed_out (Some f.0) f.1 (event.HandOut id) ev is tt (λ r. refl) (quiet_turn (c.jobs ++ f.0 ∷ []))
   entry_makes (entry.Post query ran) ev right f is = subst (λ (x : ClusterEvent). Makes c x id d []) (sym is.2) (post_makes query ran f.0 is.0 right f.1 f.3 is.1)
 
   -- where what an entry wants was sent, there is such an event

@@ -46,10 +46,10 @@ module _ (c : ClusterState) (kept : IsKept c) (are : JobsAre c.books c.jobs) whe
       let b = k.book.desk in
       let e = k.later.desk in
       let o = handed k.book k.entry in
-      let change : Change b k.id e o =
-      subst (λ (n : ℕ). Change b n e o) (kept.headed k.id k.book at).id (follows-accepted k.book k.entry k.later k.follows).change in
+      let a = follows-accepted k.book k.entry k.later k.follows in
+      let change : Change b k.id e o = subst (λ (n : ℕ). Change b n e o) (kept.headed k.id k.book at).id a.change in
       subst (λ (x : ClusterState). JobsAre x.books x.jobs) k.is
-      (put_jobs c.books c.jobs (with_job c.jobs o) k.id k.later are (change_jobs c.jobs k.id b e (are k.id k.book at) o change) (away_jobs c.jobs k.id b e o change))
+      (put_jobs c.books c.jobs (with_job c.jobs o) k.id k.later are (change_jobs c.jobs k.id b e o change a.keeps.programs (are k.id k.book at)) (away_jobs c.jobs k.id b e o change))
 
   made_jobs : (d : ClusterState) → IsMade c d → JobsAre d.books d.jobs
   made_jobs d (enters id none is) =

@@ -1,12 +1,12 @@
 -- Searches of a list, one element after another.
-use Rattle.std.proofs.Common.{◌≡◌, ◌<◌, ◌≤◌, ◌+◌, ℕ, zero, suc, ◌==◌, Bool, true, false, List, [], ◌∷◌, length, take, Option, Some, refl, sym, ap, ◌∙◌, subst, slice_get, arith}
+use Rattle.std.proofs.Common.{◌≡◌, ◌<◌, ◌≤◌, ◌+◌, ℕ, zero, suc, true, List, [], ◌∷◌, length, length-take, take, Option, Some, refl, sym, ap, ◌∙◌, subst, slice_get, arith, inl, inr}
 use Rattle.std.specs.Ordering.{nat_cmp}
 use Rattle.std.specs.FinSet as set
 use Rattle.std.specs.Prelude.{nat_eq}
-use Rattle.std.proofs.lemmas.Bool.{eqb-true, eqb-false}
+use Rattle.std.proofs.lemmas.Bool.{eqb-true, cases_eq}
 use Rattle.std.proofs.lemmas.List.Folds.{Any-from_list_any}
 use Rattle.std.proofs.lemmas.Option.{slice_get_within, slice_get_read}
-use Rattle.q_history.proofs.Lists.{same_some, no_some}
+use Rattle.q_history.proofs.Lists.{same_some}
 
 -- this holds of each element before a place
 abbrev pub Below : {X : Type 0} → (X → Type 0) → List X → ℕ → Type 0
@@ -16,13 +16,10 @@ pub none_below : {X : Type 0} (P : X → Type 0) (xs : List X) → Below P xs 0
 none_below P xs k x less at = absurd (omega (arith, less))
 
 pub below_next : {X : Type 0} (P : X → Type 0) (xs : List X) (i : ℕ) (x : X) → Below P xs i → slice_get xs i ≡ Some x → P x → Below P xs (i + 1)
-below_next P xs i x below here holds k y less at = go (k == i) refl
-  where
-    go : (b : Bool) → (k == i) ≡ b → P y
-    go true is = subst P (same_some x y (sym here ∙ ap (slice_get xs) (sym (eqb-true k i is)) ∙ at)) holds
-    go false is =
-        let away = eqb-false k i is in
-        below k y (omega (arith, less, away)) at
+below_next P xs i x below here holds k y less at = elim (cases_eq k i) [
+  | inl same ↦ subst P (same_some x y (sym here ∙ ap (slice_get xs) (sym same) ∙ at)) holds
+  | inr away ↦ below k y (omega (arith, less, away)) at
+]
 
 pub all_below : {X : Type 0} (P : X → Type 0) (xs : List X) (i : ℕ) → Below P xs i → length xs ≤ i → (k : ℕ) (x : X) → slice_get xs k ≡ Some x → P x
 all_below P xs i below past k x at =
@@ -36,10 +33,7 @@ get_take (x ∷ xs) (suc n) zero less = refl
 get_take (x ∷ xs) (suc n) (suc k) less = get_take xs n k (omega (arith, less))
 
 pub take_within : {X : Type 0} (xs : List X) (n k : ℕ) (x : X) → slice_get (take n xs) k ≡ Some x → k < n
-take_within xs zero k x at = absurd (no_some x at)
-take_within [] (suc n) k x at = absurd (no_some x at)
-take_within (y ∷ xs) (suc n) zero x at = omega arith
-take_within (y ∷ xs) (suc n) (suc k) x at = let less : k < n = take_within xs n k x at in omega (arith, less)
+take_within xs n k x at = omega (arith, slice_get_within (take n xs) k x at, length-take n xs)
 
 -- a number that is among others stands at some place
 pub place_of : (ids : List ℕ) (x : ℕ) → set.contains (set.from_list {R = nat_cmp} ids) x ≡ true → (k : ℕ) × (slice_get ids k ≡ Some x)

@@ -1,6 +1,6 @@
 -- Reads of lists that were written, and of lists that begin others.
-use Rattle.std.proofs.Common.{◌≡◌, ℕ, zero, suc, ◌==◌, Bool, true, false, List, [], ◌∷◌, ◌++◌, Some, refl, subst, ◌⊎◌, inl, inr, ⊎_elim, slice_get, slice_set}
-use Rattle.std.proofs.lemmas.Bool.{eqb-true, eqb-false}
+use Rattle.std.proofs.Common.{◌≡◌, ℕ, zero, suc, List, [], ◌∷◌, ◌++◌, Some, refl, subst, ◌⊎◌, inl, inr, ⊎_elim, slice_get, slice_set}
+use Rattle.std.proofs.lemmas.Bool.{cases_eq}
 use Rattle.q_history.proofs.Lists.{no_some}
 pub use Rattle.q_desk.proofs.Lists.{get-front}
 use Rattle.q_gather.proofs.Lists.{get_after}
@@ -22,14 +22,13 @@ module _ {X : Type 0} (y : X) (ys : List X) (R : ℕ → ℕ → Type 0) (one : 
   nowhere i r away none zero x h s = away (one 0 i j r s)
   nowhere i r away none (suc k) x h s = none k x h s
 
-  found_by : (i : ℕ) → R 0 i → (b : Bool) → (i == j) ≡ b → Found ys (λ k. R (suc k)) j → Found (y ∷ ys) R j
-  found_by i r true is rest = inl (0, y, refl, subst (R 0) (eqb-true i j is) r)
-  found_by i r false is (inl h) = inl (suc h.0, h.1, h.2, h.3)
-  found_by i r false is (inr none) = inr (nowhere i r (eqb-false i j is) none)
+  found_by : (i : ℕ) → R 0 i → Found ys (λ k. R (suc k)) j → Found (y ∷ ys) R j
+  found_by i r (inl h) = inl (suc h.0, h.1, h.2, h.3)
+  found_by i r (inr none) = elim (cases_eq i j) [ inl same ↦ inl (0, y, refl, subst (R 0) same r) | inr away ↦ inr (nowhere i r away none) ]
 
 -- of a relation by which each place has one number
 pub find_place : {X : Type 0} (xs : List X) (R : ℕ → ℕ → Type 0) → ((k : ℕ) (x : X) → slice_get xs k ≡ Some x → (j : ℕ) × R k j) → ((k i j : ℕ) → R k i → R k j → i ≡ j) → (j : ℕ) → Found xs R j
 find_place [] R each one j = inr (λ k x h r. no_some x h)
 find_place (y ∷ ys) R each one j =
     let first = each 0 y refl in
-    found_by y ys R one j first.0 first.1 (first.0 == j) refl (find_place ys (λ k. R (suc k)) (λ k x h. each (suc k) x h) (λ k a b. one (suc k) a b) j)
+    found_by y ys R one j first.0 first.1 (find_place ys (λ k. R (suc k)) (λ k x h. each (suc k) x h) (λ k a b. one (suc k) a b) j)

@@ -1,14 +1,13 @@
 -- Of lists of steps that merge, fronts merge too that have each step which gives what one of them wants.
-use Rattle.std.proofs.Common.{◌≡◌, ℕ, zero, suc, ◌==◌, Bool, true, false, List, [], ◌∷◌, ◌++◌, get_or, Option, Some, None, refl, sym, ap, ◌∙◌, subst, ◌⊎◌, inl, inr, ⊎_elim}
+use Rattle.std.proofs.Common.{◌≡◌, ℕ, zero, suc, List, [], ◌∷◌, ◌++◌, Option, Some, None, refl, sym, ap, ◌∙◌, subst, ◌⊎◌, inl, inr, ⊎_elim}
 use Rattle.std.specs.Prelude.{Contains, IfSome, slice_get, slice_set}
-use Rattle.std.proofs.lemmas.Bool.{eqb-true, eqb-false}
+use Rattle.std.proofs.lemmas.Bool.{cases_eq}
 use Rattle.std.proofs.lemmas.List.Elements.{Contains-append_left, Contains-append_right, Contains-append_cases}
-use Rattle.std.proofs.lemmas.Option.{slice_get-get_or}
 use Rattle.q_history.proofs.Lists.{same_some, no_some, get_elsewhere}
 use Rattle.q_gather.specs.Merging.{Step, CanGo, AreOver, Merges}
 use Rattle.q_gather.specs.Merging.Merges.{Over, Takes}
 use Rattle.q_gather.proofs.Lists.{get-same, get_after}
-use Rattle.q_gather.proofs.Merging.{over_at, same_first}
+use Rattle.q_gather.proofs.Merging.{over_at, all_over, same_first}
 use Rattle.q_gather.proofs.FrontLists.{IsFront, get-front, get_other, find_place}
 
 -- ---- the steps of lists
@@ -47,30 +46,24 @@ module _ {M : Type 0} (lists : List (List (Step M))) (j : ℕ) (s : Step M) (res
   later t zero there = inl (same_some s t there)
   later t (suc place) there = inr (record { steps = rest; at = get-same lists j (s ∷ rest) rest at; place = place; there = there })
 
-  after_by : (i : ℕ) (t : Step M) (h : HasStep lists i t) (b : Bool) → (i == j) ≡ b → (s ≡ t) ⊎ HasStep (slice_set lists j rest) i t
-  after_by i t h true is =
-      let same : i ≡ j = eqb-true i j is in
-      let steps : h.steps ≡ s ∷ rest = same_some h.steps (s ∷ rest) (sym h.at ∙ ap (slice_get lists) same ∙ at) in
-      ⊎_elim (λ first. inl first) (λ k. inr (subst (λ (x : ℕ). HasStep (slice_set lists j rest) x t) (sym same) k))
-      (later t h.place (ap (λ (x : List (Step M)). slice_get x h.place) (sym steps) ∙ h.there))
-  after_by i t h false is = inr (record { steps = h.steps; at = get_elsewhere lists j rest i h.steps (eqb-false i j is) h.at; place = h.place; there = h.there })
-
   -- a step is that one, or still there
   pub has_after : (i : ℕ) (t : Step M) → HasStep lists i t → (s ≡ t) ⊎ HasStep (slice_set lists j rest) i t
-  has_after i t h = after_by i t h (i == j) refl
+  has_after i t h = elim (cases_eq i j) [
+    | inl same ↦
+        let steps : h.steps ≡ s ∷ rest = same_some h.steps (s ∷ rest) (sym h.at ∙ ap (slice_get lists) same ∙ at) in
+        subst (λ (x : ℕ). (s ≡ t) ⊎ HasStep (slice_set lists j rest) x t) (sym same)
+        (later t h.place (ap (λ (x : List (Step M)). slice_get x h.place) (sym steps) ∙ h.there))
+    | inr away ↦ inr (record { steps = h.steps; at = get_elsewhere lists j rest i h.steps away h.at; place = h.place; there = h.there })
+  ]
 
   pub given_before : (m : M) → IsGiven (slice_set lists j rest) m → IsGiven lists m
   given_before m g = record { list = g.list; step = g.step; has = has_before g.list g.step g.has; gives = g.gives }
-
-wanted : {M : Type 0} (given : List M) (o : Option M) (m : M) → IfSome o (Contains given) → o ≡ Some m → Contains given m
-wanted given None m can is = absurd (no_some m is)
-wanted given (Some x) m can is = subst (Contains given) (same_some x m is) can
 
 -- in lists that merge each message that a step wants is given by a step
 pub all_given : {M : Type 0} {given : List M} {lists : List (List (Step M))} → Merges M given lists → (m : M) (i : ℕ) (t : Step M) → HasStep lists i t → t.wants ≡ Some m → Contains given m ⊎ IsGiven lists m
 all_given (Over {lists = lists} over) m i t h is = absurd (no_some t (ap (λ (x : List (Step _)). slice_get x h.place) (sym (over_at lists i h.steps over h.at)) ∙ h.there))
 all_given {M} (Takes {given = given} {lists = lists} j s rest at can then) m i t h is =
-    ⊎_elim (λ first. inl (wanted given s.wants m can (ap (λ (x : Step M). x.wants) first ∙ is)))
+    ⊎_elim (λ first. inl (subst (λ (o : Option M). IfSome o (Contains given)) (ap (λ (x : Step M). x.wants) first ∙ is) can))
     (λ k. ⊎_elim
     (λ now. ⊎_elim (λ old. inl old) (λ new. inr (record { list = j; step = s; has = has_first lists j s rest at; gives = new })) (Contains-append_cases given s.gives m now))
     (λ g. inr (given_before lists j s rest at m g))
@@ -102,10 +95,9 @@ module _ {M : Type 0} (From : ℕ → ℕ → Type 0) (once : (i k j : ℕ) → 
 
   module _ (given more : List M) (lists kept : List (List (Step M))) (f : AreFronts given more lists kept) where
     over_kept : AreOver lists → AreOver kept
-    over_kept over k d less =
-        let here = slice_get-get_or kept k d less in
-        let p = f.fronts k (get_or kept k d) here in
-        none_of (get_or kept k d) p.front.0 (sym (over_at lists p.list p.whole over p.at) ∙ p.front.1)
+    over_kept over = all_over kept (λ k steps here.
+        let p = f.fronts k steps here in
+        none_of steps p.front.0 (sym (over_at lists p.list p.whole over p.at) ∙ p.front.1))
 
     -- a step of a kept list is one of the list that it comes from
     from_has : (j k : ℕ) (t : Step M) → From k j → HasStep kept k t → HasStep lists j t
@@ -132,17 +124,16 @@ module _ {M : Type 0} (From : ℕ → ℕ → Type 0) (once : (i k j : ℕ) → 
         no_step : (k : ℕ) (t : Step M) → From k j → HasStep kept k t → ⊥
         no_step k t comes h = no_some t (ap (λ (x : List (Step M)). slice_get x h.place) (sym (none k h.steps h.at comes)) ∙ h.there)
 
-        skipped_front : (k : ℕ) (steps : List (Step M)) (p : IsFrontOf lists k steps) → slice_get kept k ≡ Some steps → (b : Bool) → (p.list == j) ≡ b → IsFrontOf (slice_set lists j rest) k steps
-        skipped_front k steps p here true is =
-            let same : p.list ≡ j = eqb-true p.list j is in
-            record {
-              list = j;
-              comes = subst (From k) same p.comes;
-              whole = rest;
-              at = get-same lists j (s ∷ rest) rest at;
-              front = (rest, ap (λ (x : List (Step M)). x ++ rest) (sym (none k steps here (subst (From k) same p.comes))));
-            }
-        skipped_front k steps p here false is = front_elsewhere k steps p (eqb-false p.list j is)
+        skipped_front : (k : ℕ) (steps : List (Step M)) → slice_get kept k ≡ Some steps → IsFrontOf (slice_set lists j rest) k steps
+        skipped_front k steps here =
+            let p = f.fronts k steps here in
+            elim (cases_eq p.list j) [
+              | inl same ↦
+                  let comes : From k j = subst (From k) same p.comes in
+                  let front : IsFront steps rest = (rest, ap (λ (x : List (Step M)). x ++ rest) (sym (none k steps here comes))) in
+                  record { list = j; comes = comes; whole = rest; at = get-same lists j (s ∷ rest) rest at; front = front }
+              | inr away ↦ front_elsewhere k steps p away
+            ]
 
         skipped_reach : (m : M) (i : ℕ) (t : Step M) → HasStep kept i t → t.wants ≡ Some m → Contains s.gives m → Contains more m
         skipped_reach m i t h is gives = elim (f.held m i t h is) [
@@ -155,7 +146,7 @@ module _ {M : Type 0} (From : ℕ → ℕ → Type 0) (once : (i k j : ℕ) → 
 
         pub skipped : AreFronts (given ++ s.gives) more (slice_set lists j rest) kept
         skipped = record {
-          fronts = λ k steps here. let p = f.fronts k steps here in skipped_front k steps p here (p.list == j) refl;
+          fronts = skipped_front;
           alone = alone_on;
           reach = λ m i t h is now. ⊎_elim (λ old. f.reach m i t h is old) (λ new. skipped_reach m i t h is new) (Contains-append_cases given s.gives m now);
           held = f.held;
@@ -170,21 +161,21 @@ module _ {M : Type 0} (From : ℕ → ℕ → Type 0) (once : (i k j : ℕ) → 
         pub taken_can : CanGo more s
         taken_can = taken_by s.wants refl can
 
-        front_by : (i : ℕ) (steps : List (Step M)) (b : Bool) → (i == k) ≡ b → slice_get (slice_set kept k left) i ≡ Some steps → IsFrontOf (slice_set lists j rest) i steps
-        front_by i steps true is now =
-            let same : i ≡ k = eqb-true i k is in
-            let one_left : left ≡ steps = same_some left steps (sym (get-same kept k (s ∷ left) left here) ∙ ap (slice_get (slice_set kept k left)) (sym same) ∙ now) in
-            record {
-              list = j;
-              comes = subst (λ (x : ℕ). From x j) (sym same) comes;
-              whole = rest;
-              at = get-same lists j (s ∷ rest) rest at;
-              front = subst (λ (x : List (Step M)). IsFront x rest) one_left front;
-            }
-        front_by i steps false is now =
-            let away : i ≡ k → ⊥ = eqb-false i k is in
-            let p = f.fronts i steps (get_other kept k left i steps away now) in
-            front_elsewhere i steps p (λ same. away (once i k j (subst (From i) same p.comes) comes))
+        taken_front : (i : ℕ) (steps : List (Step M)) → slice_get (slice_set kept k left) i ≡ Some steps → IsFrontOf (slice_set lists j rest) i steps
+        taken_front i steps now = elim (cases_eq i k) [
+          | inl same ↦
+              let one_left : left ≡ steps = same_some left steps (sym (get-same kept k (s ∷ left) left here) ∙ ap (slice_get (slice_set kept k left)) (sym same) ∙ now) in
+              record {
+                list = j;
+                comes = subst (λ (x : ℕ). From x j) (sym same) comes;
+                whole = rest;
+                at = get-same lists j (s ∷ rest) rest at;
+                front = subst (λ (x : List (Step M)). IsFront x rest) one_left front;
+              }
+          | inr away ↦
+              let p = f.fronts i steps (get_other kept k left i steps away now) in
+              front_elsewhere i steps p (λ same. away (once i k j (subst (From i) same p.comes) comes))
+        ]
 
         taken_held : (m : M) (i : ℕ) (t : Step M) → HasStep (slice_set kept k left) i t → t.wants ≡ Some m → Contains (more ++ s.gives) m ⊎ IsGiven (slice_set kept k left) m
         taken_held m i t h is = elim (f.held m i t (has_before kept k s left here i t h) is) [
@@ -197,7 +188,7 @@ module _ {M : Type 0} (From : ℕ → ℕ → Type 0) (once : (i k j : ℕ) → 
 
         pub taken : AreFronts (given ++ s.gives) (more ++ s.gives) (slice_set lists j rest) (slice_set kept k left)
         taken = record {
-          fronts = λ i steps now. front_by i steps (i == k) refl now;
+          fronts = taken_front;
           alone = alone_on;
           reach = λ m i t h is now. ⊎_elim
               (λ old. Contains-append_left more s.gives m (f.reach m i t (has_before kept k s left here i t h) is old))

@@ -12,15 +12,13 @@ use Rattle.q_history.proofs.Lists.{same_some, no_some}
 use Rattle.q_gather.specs.Merging.{Step, Merges}
 use Rattle.q_gather.specs.Traces.{IsTrace}
 use Rattle.q_gather.specs.Gathered.{AreDistinct, HasBook, AreRight, AgreeOn, AreTraces}
+use Rattle.q_gather.proofs.Keeping.{Steps}
 use Rattle.q_gather.proofs.Tracing.{trace_some, trace_one}
 use Rattle.q_gather.specs.Beginnings.{IsBeginningOf, AnswersStay, AreBeginnings, IsGivenAmong, HoldWhatTheyDeliver, MayGather}
 use Rattle.q_gather.proofs.Fronts.{HasStep, IsGiven, all_given, IsFrontOf, fronts_merge}
 use Rattle.q_gather.proofs.Senders.{trace_own}
 use Rattle.q_gather.proofs.FrontsTraced.{trace_front, part_keeps, step_entry, entry_step}
 use Rattle.q_gather.proofs.Known.{right_part}
-
-abbrev Steps : Type 0
-Steps = List (Step Message)
 
 -- ---- steps of books
 
@@ -59,16 +57,13 @@ module _ (books : List BookState) (lists : List Steps) (traces : AreTraces books
         gives = g.given.gives;
       }
 
-  none_given : (m : Message) → Contains [] m → ⊥
-  none_given m c = omega (arith, c.1)
-
   -- books that merge hold what they deliver
   pub hold_all : Merges Message [] lists → HoldWhatTheyDeliver books
   hold_all merges k place b m here at =
       let t = traces.each k b here in
       let s = entry_step b t.0 t.2 place m at in
       elim (all_given merges m k s.1 (record { steps = t.0; at = t.1; place = s.0; there = s.2 }) s.3) [
-        | inl before ↦ absurd (none_given m before)
+        | inl before ↦ absurd (omega (arith, before.1))
         | inr g ↦ given_among m g
       ]
 

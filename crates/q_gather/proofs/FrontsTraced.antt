@@ -10,18 +10,14 @@ use Rattle.q_book.specs.State.{BookState}
 use Rattle.q_book.specs.Books.{new_book}
 use Rattle.q_book.specs.Replays.{IsReplay}
 use Rattle.q_book.proofs.Followed.{follows_one}
-use Rattle.q_book.proofs.Replays.{replays_later}
 use Rattle.q_gather.specs.Merging.{Step}
 use Rattle.q_gather.specs.Traces.{wants, step_of, IsTraceFrom, entering, IsTrace}
-use Rattle.q_gather.proofs.Keeping.{trace_replays}
+use Rattle.q_gather.proofs.Keeping.{Steps, trace_replays, trace_later}
 use Rattle.q_gather.proofs.Tracing.{first_same}
 use Rattle.q_gather.specs.Beginnings.{IsBeginningOf}
 use Rattle.q_gather.proofs.FrontLists.{IsFront}
 
 -- ---- the first entries
-
-abbrev Steps : Type 0
-Steps = List (Step Message)
 
 -- the steps of the first entries stand first among those of all, and the rest leads on from there
 from_front : (es rest : List Entry) (b c d : BookState) (steps others : Steps) → IsTraceFrom b es steps c → IsTraceFrom b (es ++ rest) others d
@@ -60,7 +56,7 @@ module _ (whole : BookState) (n : NodeState) (d : DeskState) where
           u.is ∙ ap (λ (x : Steps). entering whole whole.founders ++ x) r.1 ∙ sym (append_assoc (entering whole whole.founders) t.rest r.0)
               ∙ ap (λ (x : Steps). (x ++ t.rest) ++ r.0) (sym (entering_same whole.founders)) ∙ ap (λ (x : Steps). x ++ r.0) (sym t.is),
         ),
-        (replays_later rest part whole (trace_replays rest part whole r.0 r.2)).keeps,
+        (trace_later rest part whole r.0 r.2).keeps,
       )
 
 module _ (part whole : BookState) (k : IsBeginningOf part whole) where

@@ -1,7 +1,5 @@
 -- The books are gathered by the events that are found, until none is.
-use Rattle.std.proofs.Common.{◌≡◌, ◌<◌, ℕ, true, List, [], ◌∷◌, ◌++◌, length, length-append, Some, refl, sym, ap, ◌∙◌, subst, slice_get, slice_set, arith, ◌+◌, inl, inr}
-use Rattle.std.specs.List.{list_any}
-use Rattle.std.specs.Prelude.{nat_eq}
+use Rattle.std.proofs.Common.{◌≡◌, ◌<◌, ℕ, List, [], ◌∷◌, ◌++◌, length, length-append, refl, sym, ap, ◌∙◌, subst, slice_get, slice_set, arith, ◌+◌, inl, inr}
 use Rattle.std.proofs.lemmas.List.{append-nil}
 use Rattle.sc_msg.specs.declared.message.Message.{Message}
 use Rattle.q_desk.specs.declared.journal.Entry.{Entry}
@@ -20,11 +18,11 @@ use Rattle.q_gather.specs.Gathered.{IsAt, Goes}
 use Rattle.q_gather.specs.Gathered.IsAt.{Away, There}
 use Rattle.q_gather.proofs.Lists.{get_after}
 use Rattle.q_gather.proofs.Merging.{over_at, all_over, merges_next, merges_stuck}
-use Rattle.q_gather.proofs.BooksGather.{goes_by, gathered, done_at}
+use Rattle.q_gather.proofs.BooksGather.{gathered, done_at}
 use Rattle.q_gather.proofs.Tracing.{traces_one}
 use Rattle.q_gather.specs.Gather.{Merge}
 use Rattle.q_gather.specs.Gathering.{IsNextOf, IsNextAmong, HasTaken, HaveTaken, AreIdle, IsGathering, IsMerged}
-use Rattle.q_gather.proofs.Turns.{Turn, left_by, all_left, turn_of, next_is, left_later, less_left, trace_length}
+use Rattle.q_gather.proofs.Turns.{Turn, left_by, all_left, turn_of, next_is, turn_goes, left_later, less_left, trace_length}
 
 -- ---- one event
 
@@ -40,7 +38,7 @@ module _ (books : List BookState) (c later : ClusterState) (numbers after : Numb
   turn = turn_of books c g.left g.under_way n.place n.book n.at ev n.next
 
   goes : Goes books c g.left n.place turn.step turn.rest ev
-  goes = goes_by books c g.left g.under_way n.place n.book n.at turn.step turn.rest turn.at ev turn.left turn.goes
+  goes = turn_goes books c g.left g.under_way n.place n.book n.at ev turn
 
   pub goes_on : ((outs : List Message) → AreNumbers c.past.sent numbers → later.past.sent ≡ c.past.sent ++ outs → AreNumbers later.past.sent after) → IsGathering books later after
   goes_on numbered =
@@ -58,19 +56,13 @@ module _ (books : List BookState) (c later : ClusterState) (numbers after : Numb
 
   pub goes_less : all_left later books < all_left c books
   goes_less =
-      let now : IsTurn c n.book.id turn.goes.book turn.step.gives later = turn.goes.makes.turns told later f in
+      let now : IsTurn c n.book.id turn.book turn.step.gives later = turn.makes.turns told later f in
       less_left c later books n.place n.book n.at
       (λ i b at away. ap (left_by b) (now.others b.id (λ same. away (g.under_way.distinct i n.place b n.book at n.at same))))
       (left_later c later g.left n.place n.book ev turn now)
 
-  -- the book that went was none of those that could not go on
-  not_idle : (places : List ℕ) → AreIdle c books places → (k : ℕ) (b : BookState) → k ≡ n.place → list_any (nat_eq k) places ≡ true → slice_get books k ≡ Some b → ⊥
-  not_idle places idle k b same among at =
-      let one : n.book ≡ b = same_some n.book b (sym n.at ∙ ap (slice_get books) (sym same) ∙ at) in
-      idle k b ev among at (subst (λ (x : BookState). IsNextOf c x ev) one n.next)
-
-  -- where the event sent nothing, those that could not go on still cannot
-  idle_on : (places : List ℕ) → AreIdle c books places → length later.past.sent ≡ length c.past.sent → AreIdle later books places
+  -- where the event sent nothing, those that could not go on still cannot; the book that went was none of them
+  pub idle_on : (places : List ℕ) → AreIdle c books places → length later.past.sent ≡ length c.past.sent → AreIdle later books places
   idle_on places idle long k b next among at is =
       let rests : List (List (Step Message)) = slice_set g.left n.place turn.rest in
       let same : later.past.sent ≡ c.past.sent = sent_same c.past.sent later.past.sent turn.step.gives (goes.sent told later f) long in
@@ -80,11 +72,10 @@ module _ (books : List BookState) (c later : ClusterState) (numbers after : Numb
             let can : CanGo c.past.sent now.step = subst (λ (x : List Message). CanGo x now.step) same now.can in
             let before = next_is books c g.left g.under_way k b at now.step now.rest can old in
             idle k b before.0 among at before.1
-        | inr new ↦ not_idle places idle k b new.0 among at
+        | inr new ↦
+            let one : n.book ≡ b = same_some n.book b (sym n.at ∙ ap (slice_get books) (sym new.0) ∙ at) in
+            idle k b ev among at (subst (λ (x : BookState). IsNextOf c x ev) one n.next)
       ]
-
-  pub waiting_on : (places : List ℕ) (sent : ℕ) → sent ≡ length c.past.sent → AreIdle c books places → length later.past.sent ≡ sent → AreIdle later books places
-  waiting_on places sent is idle long = idle_on places idle (long ∙ is)
 
 -- ---- no event
 

@@ -8,6 +8,7 @@ pub mod EveryJob
 pub mod Entries
 pub mod Keeping
 pub mod BooksGather
+pub mod Turns
 pub mod Beginning
 pub mod Tracing
 pub mod NumberFinding
@@ -23,7 +24,6 @@ pub mod Moving
 pub mod Merged
 pub mod Table
 pub mod Finding
-pub mod Turns
 pub mod Numbering
 pub mod Waiting
 pub mod Going

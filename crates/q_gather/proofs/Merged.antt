@@ -1,6 +1,8 @@
 -- The books of each history merge.
-use Rattle.std.proofs.Common.{◌≡◌, ℕ, zero, suc, List, [], ◌∷◌, ◌++◌, Some, None, refl, sym, ap, ◌∙◌, subst, slice_get, slice_set}
+use Rattle.std.proofs.Common.{◌≡◌, ℕ, zero, suc, List, [], ◌∷◌, ◌++◌, map, Some, None, refl, sym, ap, ◌∙◌, subst, slice_get, slice_set}
+use Rattle.std.specs.Prelude.{option_map}
 use Rattle.std.proofs.lemmas.List.{append_cancel_left}
+use Rattle.std.proofs.lemmas.Option.{slice_get-map}
 use Rattle.sc_msg.specs.declared.message.Message.{Message}
 use Rattle.sc_node.specs.Nodes as node
 use Rattle.q_desk.specs.declared.journal.Entry.{Entry}
@@ -22,32 +24,26 @@ use Rattle.q_gather.specs.Traces.{step_of, IsTraceFrom, IsTrace}
 use Rattle.q_gather.specs.Turns.{IsTurn}
 use Rattle.q_gather.specs.Gathered.{AreDistinct, HasBook, AreRight, AgreeOn, IsGathered, IsAt}
 use Rattle.q_gather.specs.Gathered.IsAt.{Away, There}
-use Rattle.q_gather.proofs.Lists.{get-same}
+use Rattle.q_gather.proofs.Lists.{get-same, get_map}
 use Rattle.q_gather.proofs.Merging.{all_over}
 use Rattle.q_gather.proofs.BooksGather.{at_stays, IsPlaced, placed_set, few_set, has_book}
 use Rattle.q_gather.proofs.Beginning.{begins}
-use Rattle.q_book.proofs.Replays.{IsLater, replays_later}
-use Rattle.q_gather.proofs.Keeping.{trace_replays}
+use Rattle.q_book.proofs.Replays.{IsLater}
+use Rattle.q_gather.proofs.Keeping.{Steps, trace_later}
 use Rattle.q_gather.proofs.Tracing.{from_one, trace_one}
 use Rattle.q_gather.specs.Beginnings.{MayGather}
 use Rattle.q_gather.proofs.Moving.{IsMove, event_moves}
 use Rattle.q_gather.proofs.Moving.IsMove.{Rests, Goes, Enters}
 use Rattle.q_gather.proofs.FrontsGather.{all_traced}
 
-abbrev Steps : Type 0
-Steps = List (Step Message)
-
 -- ---- one list of steps is left
-
-from_onward : (es : List Entry) (b c : BookState) (steps : Steps) → IsTraceFrom b es steps c → IsLater b es c
-from_onward es b c steps t = replays_later es b c (trace_replays es b c steps t)
 
 -- the steps that are left of a book are the same, however it was found how far its node has come
 module _ (c : ClusterState) (whole : BookState) (steps others : Steps) where
   there_one : (b d : BookState) (es fs : List Entry) → b ≡ d → IsTraceFrom b es steps whole → IsTraceFrom d fs others whole → steps ≡ others
   there_one b d es fs same t u =
       let v = subst (λ (x : BookState). IsTraceFrom x fs others whole) (sym same) u in
-      let entries : fs ≡ es = append_cancel_left b.desk.journal fs es (sym (from_onward fs b whole others v).adds ∙ (from_onward es b whole steps t).adds) in
+      let entries : fs ≡ es = append_cancel_left b.desk.journal fs es (sym (trace_later fs b whole others v).adds ∙ (trace_later es b whole steps t).adds) in
       from_one es b whole whole steps others t (subst (λ (x : List Entry). IsTraceFrom b x others whole) entries v)
 
   at_one : (es fs : List Entry) → IsAt c whole es steps → IsAt c whole fs others → steps ≡ others
@@ -63,9 +59,11 @@ set_back [] k x y h = absurd (no_some y h)
 set_back (z ∷ zs) zero x y h = ap (λ (w : _). w ∷ zs) (sym (same_some z y h))
 set_back (z ∷ zs) (suc k) x y h = ap (λ (ws : List _). z ∷ ws) (set_back zs k x y h)
 
+abbrev no_steps : BookState → Steps
+no_steps b = []
+
 abbrev nothing_left : List BookState → List Steps
-nothing_left [] = []
-nothing_left (b ∷ bs) = [] ∷ nothing_left bs
+nothing_left books = map no_steps books
 
 -- ---- on the way back
 
@@ -130,11 +128,10 @@ module _ (books : List BookState) (distinct : AreDistinct books) (c later : Clus
     first = record { wants = None; gives = (book.entered c.version c.past.config id).1 }
 
     on : IsLater new left whole
-    on = from_onward left new whole steps t
+    on = trace_later left new whole steps t
 
     entered_trace : IsTrace whole (first ∷ steps)
     entered_trace =
-        let later_book : BookState = record new { node = whole.node; desk = whole.desk } in
         let entries : left ≡ whole.desk.journal = sym on.adds in
         subst (λ (x : BookState). IsTrace x (first ∷ steps)) on.same
         (record {
@@ -174,14 +171,10 @@ run_back books distinct (e ∷ es) c d r lists coming =
 -- ---- the end, where nothing is left
 
 nothing_at : (books : List BookState) (k : ℕ) (b : BookState) → slice_get books k ≡ Some b → slice_get (nothing_left books) k ≡ Some []
-nothing_at [] k b h = absurd (no_some b h)
-nothing_at (x ∷ xs) zero b h = refl
-nothing_at (x ∷ xs) (suc k) b h = nothing_at xs k b h
+nothing_at books k b h = slice_get-map no_steps books k ∙ ap (option_map no_steps) h
 
 nothing_few : (books : List BookState) (k : ℕ) (steps : Steps) → slice_get (nothing_left books) k ≡ Some steps → (steps ≡ []) × ((b : BookState) × (slice_get books k ≡ Some b))
-nothing_few [] k steps h = absurd (no_some steps h)
-nothing_few (x ∷ xs) zero steps h = (sym (same_some [] steps h), (x, refl))
-nothing_few (x ∷ xs) (suc k) steps h = nothing_few xs k steps h
+nothing_few books k steps h = let b = get_map no_steps books k steps h in (sym b.2, (b.0, b.1))
 
 nothing_over : (books : List BookState) → AreOver (nothing_left books)
 nothing_over books = all_over (nothing_left books) (λ k steps at. (nothing_few books k steps at).0)

@@ -1,7 +1,7 @@
 -- Which step goes first makes no difference to whether lists merge.
-use Rattle.std.proofs.Common.{◌≡◌, ℕ, ◌==◌, Bool, true, false, List, [], ◌∷◌, ◌++◌, get_or, Option, Some, None, refl, sym, ap, ◌∙◌, subst, ⊎_elim}
+use Rattle.std.proofs.Common.{◌≡◌, ℕ, List, [], ◌∷◌, ◌++◌, get_or, Option, Some, None, sym, ap, ◌∙◌, subst, inl, inr, ⊎_elim}
 use Rattle.std.specs.Prelude.{Contains, slice_get, slice_set, IfSome}
-use Rattle.std.proofs.lemmas.Bool.{eqb-true, eqb-false}
+use Rattle.std.proofs.lemmas.Bool.{cases_eq}
 use Rattle.std.proofs.lemmas.List.{set_comm}
 use Rattle.std.proofs.lemmas.List.Elements.{Contains-append_left, Contains-append_right, Contains-append_cases}
 use Rattle.std.proofs.lemmas.Option.{get_or_from_slice_get, slice_get_within, slice_get-get_or}
@@ -47,13 +47,6 @@ swapped given one two m h =
     (λ a. Contains-append_left (given ++ two) one m (Contains-append_right given two m a))
     (Contains-append_cases (given ++ one) two m h)
 
--- no list that is over has a first step
-pub not_over : {M : Type 0} (lists : List (List (Step M))) (k : ℕ) (s : Step M) (rest : List (Step M)) → AreOver lists → slice_get lists k ≡ Some (s ∷ rest) → ⊥
-not_over lists k s rest over at =
-    let none : get_or lists k [] ≡ [] = over k [] (slice_get_within lists k (s ∷ rest) at) in
-    let some : get_or lists k [] ≡ s ∷ rest = get_or_from_slice_get lists k (s ∷ rest) [] at in
-    absurd (cc)
-
 pub same_first : {X : Type 0} (x y : X) (xs ys : List X) → x ∷ xs ≡ y ∷ ys → (x ≡ y) × (xs ≡ ys)
 same_first x y xs ys h = (cc, cc)
 
@@ -76,18 +69,14 @@ module _ {M : Type 0} (given : List M) (lists : List (List (Step M))) (j : ℕ) 
       (then (get_elsewhere lists j left k (s ∷ rest) (λ e. away (sym e)) at) (goes_on given (given ++ t.gives) s (λ m h. Contains-append_left given t.gives m h) can)))
       ((given ++ s.gives) ++ t.gives) (swapped given t.gives s.gives))
 
-  by_test : (b : Bool) → (j == k) ≡ b → Merges M (given ++ t.gives) (slice_set lists j left)
-      → (slice_get (slice_set lists j left) k ≡ Some (s ∷ rest) → CanGo (given ++ t.gives) s → Merges M ((given ++ t.gives) ++ s.gives) (slice_set (slice_set lists j left) k rest))
-      → Merges M (given ++ s.gives) (slice_set lists k rest)
-  by_test true is one two = by_one (eqb-true j k is) one
-  by_test false is one two = by_two (eqb-false j k is) two
-
 -- a first step that can go may go at once
 pub merges_next : {M : Type 0} {given : List M} {lists : List (List (Step M))} → Merges M given lists → (k : ℕ) (s : Step M) (rest : List (Step M)) → slice_get lists k ≡ Some (s ∷ rest) → CanGo given s
     → Merges M (given ++ s.gives) (slice_set lists k rest)
-merges_next (Over {lists = lists} over) k s rest at can = absurd (not_over lists k s rest over at)
-merges_next (Takes {given = given} {lists = lists} j t left there may then) k s rest at can =
-    by_test given lists j t left there may k s rest at can (j == k) refl then (λ here goes. merges_next then k s rest here goes)
+merges_next (Over {lists = lists} over) k s rest at can = let none : s ∷ rest ≡ [] = over_at lists k (s ∷ rest) over at in absurd (cc)
+merges_next (Takes {given = given} {lists = lists} j t left there may then) k s rest at can = elim (cases_eq j k) [
+  | inl same ↦ by_one given lists j t left there may k s rest at can same then
+  | inr away ↦ by_two given lists j t left there may k s rest at can away (λ here goes. merges_next then k s rest here goes)
+]
 
 -- where no first step can go, lists merge only if all are over
 pub merges_stuck : {M : Type 0} {given : List M} {lists : List (List (Step M))} → Merges M given lists → ((k : ℕ) (s : Step M) (rest : List (Step M)) → slice_get lists k ≡ Some (s ∷ rest) → CanGo given s → ⊥)

@@ -1,10 +1,10 @@
 -- Journals and their books, and that refusals exclude each other.
-use Rattle.std.proofs.Common.{◌≡◌, ◌<◌, ◌≤◌, ◌+◌, ℕ, zero, suc, Bool, true, false, nat_lt, List, [], ◌∷◌, ◌++◌, length, map, take, get_or, Some, Result, Ok, Err, refl, sym, ap, ◌∙◌, subst, slice_get, arith, Bor}
-use Rattle.std.specs.Prelude.{IfOk, IfErr, MatchResult}
+use Rattle.std.proofs.Common.{◌≡◌, ◌<◌, ◌+◌, ℕ, zero, suc, List, [], ◌∷◌, ◌++◌, length, map, take, get_or, Some, Result, Ok, Err, refl, sym, ap, ◌∙◌, subst, slice_get, Bor, ⊎_elim}
+use Rattle.std.specs.Prelude.{option_map, IfOk, IfErr, MatchResult}
 use Rattle.std.specs.List.{AllByRecursion}
-use Rattle.std.proofs.lemmas.Bool.{ltb-true, ltb-false}
+use Rattle.std.proofs.lemmas.Bool.{cases_order}
 use Rattle.std.proofs.lemmas.List.{map-append, take_more}
-use Rattle.std.proofs.lemmas.Option.{slice_get_within, get_or_from_slice_get}
+use Rattle.std.proofs.lemmas.Option.{slice_get-map, slice_get-get_or, slice_get_within, get_or_from_slice_get}
 use Rattle.q_book.specs.State.{BookState}
 use Rattle.q_history.specs.Headline.{ClusterState}
 use Rattle.q_history.proofs.Lists.{same_some, no_some}
@@ -26,27 +26,22 @@ all_snoc : (books : List BookState) (b : BookState) → AllByRecursion IsJournal
 all_snoc [] b all is = (is, tt)
 all_snoc (x ∷ xs) b all is = (all.0, all_snoc xs b all.1 is)
 
-pub replayed_next : (journals : List (List ℕ)) (books : List BookState) (place : ℕ) (b : BookState) → place < length journals → AreReplayed (take place journals) books → get_or journals place [] ≡ journal_of b → IsJournalled b
-    → AreReplayed (take (place + 1) journals) (books ++ b ∷ [])
-replayed_next journals books place b within before spelled is = record {
-  are =
-      take_more journals place [] within ∙ (λ i. before.are i ++ spelled i ∷ []) ∙ sym (map-append journal_of books (b ∷ []));
-  each = all_snoc books b before.each is;
-}
-
 -- the bytes at a place
 pub text_at : (js : List (Bor (List ℕ))) (k : ℕ) (d : Bor (List ℕ)) → k < length js → slice_get (map (λ (bytes : Bor (List ℕ)). bytes.now) js) k ≡ Some (get_or js k d).now
-text_at [] k d less = absurd (omega (arith, less))
-text_at (x ∷ xs) zero d less = refl
-text_at (x ∷ xs) (suc k) d less = text_at xs k d (omega (arith, less))
+text_at js k d less = slice_get-map (λ (bytes : Bor (List ℕ)). bytes.now) js k ∙ ap (option_map (λ (bytes : Bor (List ℕ)). bytes.now)) (slice_get-get_or js k d less)
 
 pub replayed_text : (js : List (Bor (List ℕ))) (books more : List BookState) (place : ℕ) (d : Bor (List ℕ)) (b : BookState) → place < length js → AreReplayed (take place (map (λ (bytes : Bor (List ℕ)). bytes.now) js)) books
     → (get_or js place d).now ≡ journal_of b → IsJournalled b → more ≡ books ++ b ∷ [] → AreReplayed (take (place + 1) (map (λ (bytes : Bor (List ℕ)). bytes.now) js)) more
 replayed_text js books more place d b less before spelled is grows =
     let journals : List (List ℕ) = map (λ (bytes : Bor (List ℕ)). bytes.now) js in
     let at = text_at js place d less in
-    subst (AreReplayed (take (place + 1) journals)) (sym grows)
-    (replayed_next journals books place b (slice_get_within journals place (get_or js place d).now at) before (get_or_from_slice_get journals place (get_or js place d).now [] at ∙ spelled) is)
+    let read : get_or journals place [] ≡ journal_of b = get_or_from_slice_get journals place (get_or js place d).now [] at ∙ spelled in
+    subst (AreReplayed (take (place + 1) journals)) (sym grows) (record {
+      are =
+          take_more journals place [] (slice_get_within journals place (get_or js place d).now at) ∙ (λ i. before.are i ++ read i ∷ [])
+          ∙ sym (map-append journal_of books (b ∷ []));
+      each = all_snoc books b before.each is;
+    })
 
 -- ---- one answer
 
@@ -56,14 +51,11 @@ OneBook = (b c : BookState) → IsJournalled b → IsJournalled c → journal_of
 abbrev pub NoFault : Type 0
 NoFault = (b : BookState) (e : ReplayFault) → IsJournalled b → IsFault (journal_of b) e → e ≡ replay_fault.OutOfMemory
 
-no_journals : (x : List ℕ) (xs : List (List ℕ)) → [] ≡ x ∷ xs → ⊥
-no_journals x xs h = absurd (cc)
-
 -- journals have one list of books
 books_one : OneBook → (books others : List BookState) → AllByRecursion IsJournalled books → AllByRecursion IsJournalled others → map journal_of books ≡ map journal_of others → books ≡ others
 books_one one [] [] all more same = refl
-books_one one [] (y ∷ ys) all more same = absurd (no_journals (journal_of y) (map journal_of ys) same)
-books_one one (x ∷ xs) [] all more same = absurd (no_journals (journal_of x) (map journal_of xs) (sym same))
+books_one one [] (y ∷ ys) all more same = absurd (cc)
+books_one one (x ∷ xs) [] all more same = absurd (cc)
 books_one one (x ∷ xs) (y ∷ ys) all more same =
     let parts = same_first (journal_of x) (journal_of y) (map journal_of xs) (map journal_of ys) same in
     let head = one x y all.0 more.0 parts.0 in
@@ -111,17 +103,14 @@ module _ (one : OneBook) (none : NoFault) (first : OneFault) (journals : List (L
       let b = journal_at y.before y.replayed.each p x.bytes (ap (λ (js : List (List ℕ)). slice_get js p) (sym y.replayed.are) ∙ at) in
       x.known (none b.0 f b.1 (subst (λ (bytes : List ℕ). IsFault bytes f) (sym b.2) x.is))
 
-  one_place : (p q : ℕ) (f g : ReplayFault) → IsFaulty journals p f → IsFaulty journals q g → (a b : Bool) → nat_lt p q ≡ a → nat_lt q p ≡ b → p ≡ q
-  one_place p q f g x y true b is also = absurd (not_before p q f g (ltb-true p q is) x y)
-  one_place p q f g x y false true is also = absurd (not_before q p g f (ltb-true q p also) y x)
-  one_place p q f g x y false false is also =
-      let le : q ≤ p = ltb-false p q is in
-      let ge : p ≤ q = ltb-false q p also in
-      omega (arith, le, ge)
+  one_place : (p q : ℕ) (f g : ReplayFault) → IsFaulty journals p f → IsFaulty journals q g → p ≡ q
+  one_place p q f g x y =
+      ⊎_elim (λ same. same)
+      (λ away. ⊎_elim (λ less. absurd (not_before p q f g less x y)) (λ more. absurd (not_before q p g f more y x)) away) (cases_order p q)
 
   one_faulty : (p q : ℕ) (f g : ReplayFault) → IsFaulty journals p f → IsFaulty journals q g → Journal p f ≡ Journal q g
   one_faulty p q f g x y =
-      let place : p ≡ q = one_place p q f g x y (nat_lt p q) (nat_lt q p) refl refl in
+      let place : p ≡ q = one_place p q f g x y in
       let bytes : x.bytes ≡ y.bytes = same_some x.bytes y.bytes (sym x.at ∙ ap (slice_get journals) place ∙ y.at) in
       let fault : f ≡ g = first y.bytes f g (subst (λ (b : List ℕ). IsFault b f) bytes x.is) y.is x.known y.known in
       λ i. Journal (place i) (fault i)
@@ -133,12 +122,8 @@ module _ (one : OneBook) (none : NoFault) (first : OneFault) (journals : List (L
   refused_one OutOfMemory e x y loud known = absurd (loud refl)
   refused_one d OutOfMemory x y loud known = absurd (known refl)
   refused_one (Journal p f) (Journal q g) x y loud known = one_faulty p q f g x y
-  refused_one (Journal p f) IdUsed x y loud known = absurd (not_faulty one none journals y.0 y.1 p f x)
-  refused_one (Journal p f) BadFounders x y loud known = absurd (not_faulty one none journals y.0 y.1 p f x)
-  refused_one (Journal p f) NeverSent x y loud known = absurd (not_faulty one none journals y.0 y.1 p f x)
-  refused_one IdUsed (Journal q g) x y loud known = absurd (not_faulty one none journals x.0 x.1 q g y)
-  refused_one BadFounders (Journal q g) x y loud known = absurd (not_faulty one none journals x.0 x.1 q g y)
-  refused_one NeverSent (Journal q g) x y loud known = absurd (not_faulty one none journals x.0 x.1 q g y)
+  refused_one (Journal p f) e x y loud known = absurd (not_faulty one none journals y.0 y.1 p f x)
+  refused_one d (Journal q g) x y loud known = absurd (not_faulty one none journals x.0 x.1 q g y)
   refused_one IdUsed IdUsed x y loud known = refl
   refused_one IdUsed BadFounders x y loud known = absurd (x.2 (subst AreDistinct (same_books y.0 x.0 y.1 x.1) y.2))
   refused_one IdUsed NeverSent x y loud known = absurd (x.2 (subst AreDistinct (same_books y.0 x.0 y.1 x.1) y.2))
@@ -155,16 +140,7 @@ module _ (one : OneBook) (none : NoFault) (first : OneFault) (journals : List (L
 pub faulty : (journals : List (List ℕ)) (place : ℕ) (before : List BookState) (bytes : List ℕ) (fault : ReplayFault) → AreReplayed (take place journals) before → slice_get journals place ≡ Some bytes → IsFault bytes fault
     → IsRefused journals (of_replay place fault)
 faulty journals place before bytes replay_fault.OutOfMemory r at is = tt
-faulty journals place before bytes (replay_fault.Form event) r at is =
-    record { before = before; replayed = r; bytes = bytes; at = at; is = is; known = λ e. no_memory e }
-  where
-    no_memory : (let f : ReplayFault = replay_fault.Form event in f) ≡ replay_fault.OutOfMemory → ⊥
-    no_memory e = cc
-faulty journals place before bytes (replay_fault.Mismatch event) r at is =
-    record { before = before; replayed = r; bytes = bytes; at = at; is = is; known = λ e. no_memory e }
-  where
-    no_memory : (let f : ReplayFault = replay_fault.Mismatch event in f) ≡ replay_fault.OutOfMemory → ⊥
-    no_memory e = cc
+faulty journals place before bytes fault r at is = record { before = before; replayed = r; bytes = bytes; at = at; is = is; known = λ e. absurd (cc) }
 
 -- ---- journals whose books are gathered
 

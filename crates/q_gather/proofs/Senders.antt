@@ -8,8 +8,6 @@ use Rattle.sc_msg.specs.declared.message.Body.TheVariants.{Enter, Leave, Store, 
 use Rattle.sc_node.specs.State.{NodeState}
 use Rattle.sc_node.specs.Nodes as node
 use Rattle.sc_node.specs.Nodes.{message_from, answers, stored_view}
-use Rattle.sc_node.specs.declared.answer.Begun.{Begun}
-use Rattle.sc_node.specs.declared.answer.Delivered.{Delivered}
 use Rattle.reasons.specs.declared.Reason.{Reason}
 use Rattle.reasons.specs.declared.Reason.TheVariants as reasons
 use Rattle.sc_world.specs.Worlds.{Outcome, of_begun, of_left, of_delivered, by_node}
@@ -23,6 +21,7 @@ use Rattle.q_book.specs.Replays.{Follows, IsFirst}
 use Rattle.q_book.specs.Sends.{sends}
 use Rattle.q_book.proofs.Followed.{NodeDid, follows-accepted}
 use Rattle.q_gather.specs.Merging.{Step}
+use Rattle.q_gather.proofs.Lists.{get_map}
 use Rattle.q_gather.specs.Traces.{step_of, IsTraceFrom, entering, IsTrace}
 
 -- each of these messages names this sender
@@ -30,9 +29,7 @@ abbrev pub AreOwn : ℕ → List Message → Type 0
 AreOwn id outs = (k : ℕ) (m : Message) → slice_get outs k ≡ Some m → m.from ≡ id
 
 all_own : (id : ℕ) (bodies : List Body) → AreOwn id (map (message_from id) bodies)
-all_own id [] k m h = absurd (no_some m h)
-all_own id (b ∷ bs) zero m h = ap (λ (x : Message). x.from) (sym (same_some (message_from id b) m h))
-all_own id (b ∷ bs) (suc k) m h = all_own id bs k m h
+all_own id bodies k m h = ap (λ (x : Message). x.from) (sym (get_map (message_from id) bodies k m h).2)
 
 one_own : (id : ℕ) (b : Body) → AreOwn id (message_from id b ∷ [])
 one_own id b = all_own id (b ∷ [])
@@ -42,37 +39,33 @@ record IsOwn (n : NodeState) (outs : List Message) (later : NodeState) : Type 0 
   stays : later.id ≡ n.id
   own : AreOwn n.id outs
 
-module _ (n : NodeState) where
-  of_outcome : (x y : Outcome) → x ≡ y → IsOwn n x.outs x.node → IsOwn n y.outs y.node
-  of_outcome x y is own = subst (λ (z : Outcome). IsOwn n z.outs z.node) is own
-
-  store_own : (value : List ℕ) (a : Begun × NodeState) → node.store_begun n value ≡ Ok a → IsOwn n a.0.outs a.1
-  store_own value a h = of_outcome _ (of_begun a) (stores-ok value n (of_begun a) (ap (by_node of_begun) h)) (record { stays = refl; own = one_own n.id (Store n.operations (stored_view n value)) })
-
-  collect_own : (a : Begun × NodeState) → node.collect_begun n ≡ Ok a → IsOwn n a.0.outs a.1
-  collect_own a h = of_outcome _ (of_begun a) (collects-ok n (of_begun a) (ap (by_node of_begun) h)) (record { stays = refl; own = one_own n.id (CollectQuery n.operations) })
-
-  leave_own : (a : List Message × NodeState) → node.left n ≡ Ok a → IsOwn n a.0 a.1
-  leave_own a h = of_outcome _ (of_left a) (leaves-ok n (of_left a) (ap (by_node of_left) h)) (record { stays = refl; own = one_own n.id Leave })
-
-  deliver_own : (m : Message) (a : Delivered × NodeState) → node.delivered n m ≡ Ok a → IsOwn n a.0.outs a.1
-  deliver_own m a h = of_outcome _ (of_delivered a) (delivers-ok m n (of_delivered a) (ap (by_node of_delivered) h)) (record { stays = refl; own = all_own n.id (answers n m.from m.body) })
-
--- ---- the calls of a book
+of_outcome : (n : NodeState) (x y : Outcome) → x ≡ y → IsOwn n x.outs x.node → IsOwn n y.outs y.node
+of_outcome n x y is own = subst (λ (z : Outcome). IsOwn n z.outs z.node) is own
 
 did_own : (b : BookState) (e : Entry) (outs : List Message) (n : NodeState) → NodeDid b e outs n → IsOwn b.node outs n
-did_own b entry.Leave outs n d = subst (λ (x : List Message). IsOwn b.node x n) d.2 (leave_own b.node (d.0, n) d.1)
-did_own b (entry.Ask program start) outs n d = subst (λ (x : List Message). IsOwn b.node x n) d.2 (collect_own b.node (d.0, n) d.1)
-did_own b (entry.Store value) outs n d = subst (λ (x : List Message). IsOwn b.node x n) d.2 (store_own b.node value (d.0, n) d.1)
-did_own b (entry.Deliver m) outs n d = subst (λ (x : List Message). IsOwn b.node x n) d.2 (deliver_own b.node m (d.0, n) d.1)
+did_own b entry.Leave outs n d =
+    let y = of_left (d.0, n) in
+    subst (λ (x : List Message). IsOwn b.node x n) d.2
+    (of_outcome b.node _ y (leaves-ok b.node y (ap (by_node of_left) d.1)) (record { stays = refl; own = one_own b.node.id Leave }))
+did_own b (entry.Ask program start) outs n d =
+    let y = of_begun (d.0, n) in
+    subst (λ (x : List Message). IsOwn b.node x n) d.2
+    (of_outcome b.node _ y (collects-ok b.node y (ap (by_node of_begun) d.1)) (record { stays = refl; own = one_own b.node.id (CollectQuery b.node.operations) }))
+did_own b (entry.Store value) outs n d =
+    let y = of_begun (d.0, n) in
+    let own = one_own b.node.id (Store b.node.operations (stored_view b.node value)) in
+    subst (λ (x : List Message). IsOwn b.node x n) d.2 (of_outcome b.node _ y (stores-ok value b.node y (ap (by_node of_begun) d.1)) (record { stays = refl; own = own }))
+did_own b (entry.Deliver m) outs n d =
+    let y = of_delivered (d.0, n) in
+    let own = all_own b.node.id (answers b.node m.from m.body) in
+    subst (λ (x : List Message). IsOwn b.node x n) d.2 (of_outcome b.node _ y (delivers-ok m b.node y (ap (by_node of_delivered) d.1)) (record { stays = refl; own = own }))
 did_own b e outs n d = record {
   stays = ap (λ (x : NodeState). x.id) d.0;
   own = λ k m h. absurd (no_some m (ap (λ (x : List Message). slice_get x k) (sym d.1) ∙ h));
 }
 
 entry_own : (b c : BookState) (e : Entry) → Follows b e c → IsOwn b.node (sends b e) c.node
-entry_own b c e f =
-    did_own b e (sends b e) c.node (follows-accepted b e c f).node
+entry_own b c e f = did_own b e (sends b e) c.node (follows-accepted b e c f).node
 
 -- ---- the steps of a trace
 

@@ -64,17 +64,13 @@ gathers_books books f c d founded distinct m same = record {
 pub unfounded : (books : List BookState) → AreDistinct books → (e : GatherFault) → IsUnfounded books e → AreRefused books e
 unfounded books distinct BadFounders none = (distinct, none)
 unfounded books distinct OutOfMemory none = tt
-unfounded books distinct (Journal place fault) none = absurd none
-unfounded books distinct IdUsed none = absurd none
-unfounded books distinct NeverSent none = absurd none
+unfounded books distinct e none = absurd none
 
 -- and so is why some are left
 pub stuck_on : (books : List BookState) (f : ClusterState) → IsFounded books f → AreDistinct books → (e : GatherFault) → IsStuck books e → AreRefused books e
 stuck_on books f founded distinct NeverSent none = (distinct, agreed books f founded, none)
 stuck_on books f founded distinct OutOfMemory none = tt
-stuck_on books f founded distinct (Journal place fault) none = absurd none
-stuck_on books f founded distinct IdUsed none = absurd none
-stuck_on books f founded distinct BadFounders none = absurd none
+stuck_on books f founded distinct e none = absurd none
 
 -- a refusal that a call passes on
 pub passed : {A : Type 0} (P : GatherFault → Type 0) (e : GatherFault) (r : Result A GatherFault) → IsErrAnd r (λ x. x ≡ e) → P e → IfErr r P

@@ -1,8 +1,8 @@
 -- Rounds over the books: what is next, and which cannot go on.
-use Rattle.std.proofs.Common.{◌≡◌, ◌<◌, ◌≤◌, ◌+◌, ℕ, Bool, true, false, cond, nat_lt, List, [], ◌∷◌, length, Option, Some, None, Result, Ok, Err, refl, sym, ap, ◌∙◌, subst, slice_get, arith}
+use Rattle.std.proofs.Common.{◌≡◌, ◌<◌, ◌≤◌, ◌+◌, ℕ, Bool, true, false, cond, List, [], ◌∷◌, length, Option, Some, None, Result, Ok, Err, refl, sym, ap, ◌∙◌, subst, slice_get, arith, inl, inr}
 use Rattle.std.specs.Prelude.{IfOk, nat_eq}
 use Rattle.std.specs.List.{list_any}
-use Rattle.std.proofs.lemmas.Bool.{eqb-true, ltb-true, ltb-false}
+use Rattle.std.proofs.lemmas.Bool.{eqb-true, cases_lt}
 use Rattle.std.proofs.lemmas.Option.{slice_get_within}
 use Rattle.q_book.specs.State.{BookState}
 use Rattle.q_history.specs.declared.event.ClusterEvent.{ClusterEvent}
@@ -64,14 +64,12 @@ module _ (c : ClusterState) (books : List BookState) where
     found_at None none = none_at none
     found_at (Some ev) is = record { place = place; book = own; at = here; next = is }
 
-  within_by : (first place k : ℕ) (b : BookState) (ev : ClusterEvent) (t : Bool) → nat_lt k place ≡ t → IsNextWithin c books first place None → IsNextWithin c books place (place + 1) None → first ≤ k → k < place + 1 → slice_get books k ≡ Some b
-      → IsNextOf c b ev → ⊥
-  within_by first place k b ev true is before own low high at next = before k b ev low (ltb-true k place is) at next
-  within_by first place k b ev false is before own low high at next = own k b ev (ltb-false k place is) high at next
-
   -- nothing, of one more
   pub none_more : (first place : ℕ) → IsNextWithin c books first place None → IsNextWithin c books place (place + 1) None → IsNextWithin c books first (place + 1) None
-  none_more first place before own k b ev low high at next = within_by first place k b ev (nat_lt k place) refl before own low high at next
+  none_more first place before own k b ev low high at next = elim (cases_lt k place) [
+    | inl less ↦ before k b ev low less at next
+    | inr past ↦ own k b ev past high at next
+  ]
 
   pub none_yet : (first : ℕ) → IsNextWithin c books first first None
   none_yet first k b ev low high at next = absurd (omega (arith, low, high))
@@ -80,16 +78,14 @@ module _ (c : ClusterState) (books : List BookState) where
   pub none_until : (first place end : ℕ) → end ≤ place → IsNextWithin c books first place None → IsNextWithin c books first end None
   none_until first place end past none k b ev low high at next = none k b ev low (omega (arith, past, high)) at next
 
-  among_by : (first end : ℕ) → end ≡ length books → IsNextWithin c books first end None → IsNextWithin c books 0 first None → (ev : ClusterEvent) (n : IsNextAmong c books ev) (t : Bool) → nat_lt n.place first ≡ t → ⊥
-  among_by first end all behind before ev n true is =
-      before n.place n.book ev (omega arith) (ltb-true n.place first is) n.at n.next
-  among_by first end all behind before ev n false is =
-      let within : n.place < length books = slice_get_within books n.place n.book n.at in
-      behind n.place n.book ev (ltb-false n.place first is) (omega (arith, within, all)) n.at n.next
-
   -- of all, in a round
   pub round : (first end : ℕ) → end ≡ length books → IsNextWithin c books first end None → (o : Option ClusterEvent) → IsNextWithin c books 0 first o → Finds (IsNextAmong c books) o
-  round first end all behind None before = λ ev n. among_by first end all behind before ev n (nat_lt n.place first) refl
+  round first end all behind None before = λ ev n. elim (cases_lt n.place first) [
+    | inl less ↦ before n.place n.book ev (omega arith) less n.at n.next
+    | inr past ↦
+        let within : n.place < length books = slice_get_within books n.place n.book n.at in
+        behind n.place n.book ev past (omega (arith, within, all)) n.at n.next
+  ]
   round first end all behind (Some ev) before = before
 
   pub round_ok : {E : Type 0} (first end : ℕ) → end ≡ length books → IsNextWithin c books first end None → (r : Result (Option ClusterEvent) E) → IfOk r (IsNextWithin c books 0 first) → IfOk r (Finds (IsNextAmong c books))

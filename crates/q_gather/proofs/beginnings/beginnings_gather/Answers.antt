@@ -11,6 +11,6 @@ returns c = record {
       let e = later.0 in
       let h = later.1.history in
       (e, later.1, c.every_answer_is_true.ensures e.version e.past.config e.past.founders h.0 e h.1);
-  may = λ wholes parts version config founders may begun hold. parts_gather wholes parts version config founders may begun hold;
-  stay = λ part whole r is. answers_stay part whole r is;
+  may = parts_gather;
+  stay = answers_stay;
 }

@@ -6,5 +6,5 @@ use Rattle.q_gather.proofs.beginnings.beginnings_merge.Goals as goal
 pub returns : goal.returns
 returns c = record {
   merges = λ wholes parts lists held distinct traces merges begun own hold. parts_merge wholes parts distinct begun lists held traces own merges hold;
-  only = λ books lists traces merges. hold_all books lists traces merges;
+  only = hold_all;
 }

@@ -4,8 +4,4 @@ use Rattle.q_gather.proofs.Cutting.{some_part, one_part, part_again}
 use Rattle.q_gather.proofs.beginnings.each_beginning_is_one.Goals as goal
 
 pub returns : goal.returns
-returns c = record {
-  some = λ whole entries r. some_part whole entries r;
-  one = λ part other whole a b same. one_part part other whole a b same;
-  again = λ part more whole a b. part_again part more whole a b;
-}
+returns c = record { some = some_part; one = one_part; again = part_again }

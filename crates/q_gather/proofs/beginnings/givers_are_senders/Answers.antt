@@ -4,7 +4,4 @@ use Rattle.q_gather.proofs.Cutting.{gives_more, given_own}
 use Rattle.q_gather.proofs.beginnings.givers_are_senders.Goals as goal
 
 pub returns : goal.returns
-returns c = record {
-  sender = λ m b g. given_own m b g;
-  more = λ m part whole r k g. gives_more m part whole r k g;
-}
+returns c = record { sender = given_own; more = gives_more }

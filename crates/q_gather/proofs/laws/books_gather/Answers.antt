@@ -2,7 +2,8 @@
 -- gathered in one cluster where their steps merge.
 use Rattle.std.proofs.Common.{refl}
 use Rattle.q_history.specs.Clusters.{start}
-use Rattle.q_gather.proofs.BooksGather.{step_goes, gathered}
+use Rattle.q_gather.proofs.BooksGather.{gathered}
+use Rattle.q_gather.proofs.Turns.{step_goes}
 use Rattle.q_gather.proofs.Beginning.{begins, gathers}
 use Rattle.q_gather.proofs.laws.books_gather.Goals as goal
 
@@ -10,7 +11,7 @@ pub returns : goal.returns
 returns c = record {
   begins = λ books version config founders lists distinct right agree traces. begins version config founders books lists distinct right agree traces;
   goes = λ books d lists k s rest u at can. step_goes books d lists u k s rest at can;
-  over = λ books d lists u over. gathered books d lists u over;
+  over = gathered;
   gathers = λ books version config founders lists distinct right agree traces merges.
       gathers merges books (start version config founders) refl (begins version config founders books lists distinct right agree traces);
 }

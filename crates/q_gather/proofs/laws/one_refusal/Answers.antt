@@ -3,4 +3,4 @@ use Rattle.q_gather.proofs.Replaying.{refused_one}
 use Rattle.q_gather.proofs.laws.one_refusal.Goals as goal
 
 pub returns : goal.returns
-returns c = λ journals d e x y loud known. refused_one c.one_book.ensures c.one_fault.ensures.none c.one_fault.ensures.one journals d e x y loud known
+returns c = refused_one c.one_book.ensures c.one_fault.ensures.none c.one_fault.ensures.one

@@ -3,8 +3,4 @@ use Rattle.q_gather.proofs.Tracing.{trace_some, trace_one, traces_one}
 use Rattle.q_gather.proofs.laws.one_trace.Goals as goal
 
 pub returns : goal.returns
-returns c = record {
-  some = λ b r. trace_some b r;
-  one = λ b steps others t u. trace_one b steps others t u;
-  all = λ books lists others t u. traces_one books lists others t u;
-}
+returns c = record { some = trace_some; one = trace_one; all = traces_one }

@@ -1,9 +1,9 @@
 -- take_all: takes events of the books, until none can go on.
-use Rattle.std.proofs.Common.{Option, None, subst}
+use Rattle.std.proofs.Common.{Option, None, subst, ◌∙◌}
 use Rattle.q_history.specs.declared.event.ClusterEvent.{ClusterEvent}
 use Rattle.q_gather.specs.Gathering.{Finds, IsNextAmong}
 use Rattle.q_gather.proofs.Waiting.{idle_none}
-use Rattle.q_gather.proofs.Going.{goes_on, goes_less, waiting_on, merged, stuck}
+use Rattle.q_gather.proofs.Going.{goes_on, goes_less, idle_on, merged, stuck}
 use Rattle.q_gather.proofs.rounds.take_all.Goals as goal
 
 pub loop-rounds-init : goal.loop-rounds-init
@@ -40,7 +40,7 @@ loop-rounds-preserved-in_ok-take c =
     let idle = c.in_ok-event.ensures.waiting c.loop-rounds.invariant.gathering.numbered c.loop-rounds.invariant.waiting in
     record {
       gathering = goes_on c.args.books.now c.loop-rounds.gathering.cluster c.take.new.self.cluster c.loop-rounds.gathering.numbers c.take.new.self.numbers c.loop-rounds.invariant.gathering c.in-Some.event found t.event.0 t.event.1 t.numbers;
-      waiting = waiting_on c.args.books.now c.loop-rounds.gathering.cluster c.take.new.self.cluster c.loop-rounds.gathering.numbers c.take.new.self.numbers c.loop-rounds.invariant.gathering c.in-Some.event found t.event.0 t.event.1 c.next.new.self.waiting.keys c.next.new.self.sent c.next.ensures.sent idle;
+      waiting = λ long. idle_on c.args.books.now c.loop-rounds.gathering.cluster c.take.new.self.cluster c.loop-rounds.gathering.numbers c.take.new.self.numbers c.loop-rounds.invariant.gathering c.in-Some.event found t.event.0 t.event.1 c.next.new.self.waiting.keys idle (long ∙ c.next.ensures.sent);
     }
 
 pub loop-rounds-preserved : goal.loop-rounds-preserved
@@ -50,5 +50,5 @@ loop-rounds-preserved c =
     let idle = c.in_ok-event.ensures.waiting c.loop-rounds.invariant.gathering.numbered c.loop-rounds.invariant.waiting in
     record {
       gathering = goes_on c.args.books.now c.loop-rounds.gathering.cluster c.take.new.self.cluster c.loop-rounds.gathering.numbers c.take.new.self.numbers c.loop-rounds.invariant.gathering c.in-Some.event found t.event.0 t.event.1 t.numbers;
-      waiting = waiting_on c.args.books.now c.loop-rounds.gathering.cluster c.take.new.self.cluster c.loop-rounds.gathering.numbers c.take.new.self.numbers c.loop-rounds.invariant.gathering c.in-Some.event found t.event.0 t.event.1 c.next.new.self.waiting.keys c.next.new.self.sent c.next.ensures.sent idle;
+      waiting = λ long. idle_on c.args.books.now c.loop-rounds.gathering.cluster c.take.new.self.cluster c.loop-rounds.gathering.numbers c.take.new.self.numbers c.loop-rounds.invariant.gathering c.in-Some.event found t.event.0 t.event.1 c.next.new.self.waiting.keys idle (long ∙ c.next.ensures.sent);
     }

@@ -5,6 +5,6 @@ use Rattle.q_gather.proofs.worked.beginnings_are_no_more.Goals as goal
 
 pub returns : goal.returns
 returns c = record {
-  brief = λ part whole k. part_brief part whole k;
+  brief = part_brief;
   lost = λ books k place b m here at none hold. none (hold k place b m here at);
 }

@@ -4,8 +4,4 @@ use Rattle.q_gather.proofs.BookHeads.{head_begun, heads_hold, head_gives}
 use Rattle.q_gather.proofs.worked.heads_are_beginnings.Goals as goal
 
 pub returns : goal.returns
-returns c = record {
-  one = λ b first h. head_begun b first h;
-  all = λ books heads. heads_hold books heads;
-  enter = λ version config id m h. head_gives version config id m h;
-}
+returns c = record { one = head_begun; all = heads_hold; enter = head_gives }

@@ -3,7 +3,4 @@ use Rattle.q_gather.proofs.BookHeads.{whole_begun, wholes_begun}
 use Rattle.q_gather.proofs.worked.wholes_are_beginnings.Goals as goal
 
 pub returns : goal.returns
-returns c = record {
-  one = λ b r. whole_begun b r;
-  all = λ books version config founders may. wholes_begun books version config founders may;
-}
+returns c = record { one = whole_begun; all = wholes_begun }

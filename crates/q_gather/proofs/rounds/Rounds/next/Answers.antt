@@ -1,6 +1,6 @@
 -- Rounds::next: the event of the next book that can go on: of the one that went last, or of the first behind it, in
 -- a round over all.
-use Rattle.std.proofs.Common.{Option, None, length, refl, sym, ◌∙◌, subst}
+use Rattle.std.proofs.Common.{Option, length, refl, subst}
 use Rattle.q_history.specs.declared.event.ClusterEvent.{ClusterEvent}
 use Rattle.q_gather.specs.Gathering.{IsNextWithin}
 use Rattle.q_gather.proofs.Waiting.{idle_woken, round_ok}

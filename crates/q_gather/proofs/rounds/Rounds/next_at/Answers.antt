@@ -1,5 +1,5 @@
 -- Rounds::next_at: the event by which the book at this place goes on.
-use Rattle.std.proofs.Common.{Option, None, Some, refl, sym, ◌∙◌, subst, ◌+◌}
+use Rattle.std.proofs.Common.{Option, Some, refl, sym, ◌∙◌, subst}
 use Rattle.std.proofs.lemmas.Option.{slice_get_read}
 use Rattle.q_history.specs.declared.event.ClusterEvent.{ClusterEvent}
 use Rattle.q_gather.specs.Gathering.{Finds, IsNextOf}

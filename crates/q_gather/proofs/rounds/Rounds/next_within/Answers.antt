@@ -1,5 +1,5 @@
 -- Rounds::next_within: the event of the first book from one place up to another that can go on.
-use Rattle.std.proofs.Common.{Option, None, refl, sym, ◌∙◌, subst, ◌+◌}
+use Rattle.std.proofs.Common.{Option, refl, ◌∙◌, subst, ◌+◌}
 use Rattle.q_history.specs.declared.event.ClusterEvent.{ClusterEvent}
 use Rattle.q_gather.specs.Gathering.{IsNextWithin}
 use Rattle.q_gather.proofs.Waiting.{none_yet, none_more, none_until}
