@@ -1,5 +1,4 @@
 -- Proofs of a client.
-mod Reading
 mod Heard
 mod Scripts
 mod Moves

@@ -5,7 +5,7 @@ use Rattle.bq_check.specs.Spelling.{long_bytes}
 use Rattle.bq_check.proofs.Fields.{length-long}
 use Rattle.q_asker.specs.declared.replies.ReplyKind.TheVariants as kind
 use Rattle.q_asker.proofs.Heard.{answer_cut, heard_failed}
-use Rattle.q_asker.proofs.Reading.{got_none, got_some}
+use Rattle.q_net.proofs.Reading.{got_none, got_some}
 use Rattle.q_asker.proofs.replies.read_answer.Goals as goal
 
 pub returns-in_default-clause-read : goal.returns-in_default-clause-read

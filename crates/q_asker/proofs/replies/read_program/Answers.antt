@@ -2,7 +2,7 @@
 use Rattle.std.proofs.Common.{refl, rules}
 use Rattle.bq_check.specs.Spelling.{short_bytes}
 use Rattle.q_asker.proofs.Heard.{program_cut}
-use Rattle.q_asker.proofs.Reading.{got_none, got_some}
+use Rattle.q_net.proofs.Reading.{got_none, got_some}
 use Rattle.q_asker.proofs.replies.read_program.Goals as goal
 
 pub returns-in-Some-clause-read : goal.returns-in-Some-clause-read
