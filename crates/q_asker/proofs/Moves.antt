@@ -1,39 +1,36 @@
 -- Steps, one behind the other.
-use Rattle.std.proofs.Common.{◌≡◌, ℕ, Bool, true, false, ◌&&◌, List, [], ◌∷◌, ◌++◌, Option, Err, refl, ap, sym, ◌∙◌, subst, append_assoc, append-nil}
+use Rattle.std.proofs.Common.{◌≡◌, ℕ, List, [], ◌∷◌, ◌++◌, Option, Err, refl, ap, sym, ◌∙◌, subst, append_assoc, append-nil}
 use Rattle.std.specs.Io.KnownBytes.{Appends, Consumes}
 use Rattle.std.proofs.KnownBytes.{Appends-nil, Appends-trans, Consumes-nil, Consumes-trans}
 use Rattle.std.proofs.lemmas.List.Concat.{flat_map-append}
-use Rattle.std.proofs.lemmas.List.Folds.{list_all-append}
 use Rattle.reasons.specs.declared.Reason.{Reason}
 use Rattle.q_sim.specs.Line.{line_of}
 use Rattle.q_sim.specs.declared.refusal.RefusalPlace.{RefusalPlace}
 use Rattle.q_net.specs.declared.request.Request.{Request}
 use Rattle.q_asker.specs.declared.connection.ExchangeFault.{ExchangeFault}
-use Rattle.q_asker.specs.declared.connection.ExchangeFault.TheVariants.{Unsent, Unheard, NoReply, OutOfMemory}
+use Rattle.q_asker.specs.declared.connection.ExchangeFault.TheVariants.{OutOfMemory}
 use Rattle.q_asker.specs.Exchanges.{Exchanges}
 use Rattle.q_asker.specs.Runs.{GivesPart, TakesPart}
-use Rattle.q_asker.specs.Steps.{GaveUp, Moves, Step, StepTells, StepsTell, Streams, Unmade, all_done, heard_by, is_done, sent_by, unanswered_line}
+use Rattle.q_asker.specs.Steps.{GaveUp, Moves, Step, StepTells, StepsTell, Streams, Unmade, heard_by, sent_by, unanswered_line}
 
 -- ---- parts
 
-pub no_part : (a : Option (List ℕ)) → TakesPart a a
-no_part a = ([], Appends-nil a)
+same_sent : (a b : Option (List ℕ)) → b ≡ a → Appends a b []
+same_sent a b e = subst (λ (x : Option (List ℕ)). Appends a x []) (sym e) (Appends-nil a)
 
-pub nothing_given : (a : Option (List ℕ)) → GivesPart a a
-nothing_given a = ([], Consumes-nil a)
+same_heard : (a b : Option (List ℕ)) → b ≡ a → Consumes a b []
+same_heard a b e = subst (λ (x : Option (List ℕ)). Consumes a x []) (sym e) (Consumes-nil a)
 
 pub same_part : (a b : Option (List ℕ)) → b ≡ a → TakesPart a b
-same_part a b e = subst (TakesPart a) (sym e) (no_part a)
+same_part a b e = ([], same_sent a b e)
 
 pub same_given : (a b : Option (List ℕ)) → b ≡ a → GivesPart a b
-same_given a b e = subst (GivesPart a) (sym e) (nothing_given a)
+same_given a b e = ([], same_heard a b e)
 
 -- what a fault leaves behind it
 pub fault_parts : (r : Request) (sent sending heard hearing : Option (List ℕ)) (fault : ExchangeFault) → Exchanges r sent sending heard hearing (Err fault) → TakesPart sent sending × GivesPart heard hearing
 fault_parts r sent sending heard hearing OutOfMemory h = (same_part sent sending h.0, same_given heard hearing h.1)
-fault_parts r sent sending heard hearing Unsent h = h
-fault_parts r sent sending heard hearing Unheard h = h
-fault_parts r sent sending heard hearing NoReply h = h
+fault_parts r sent sending heard hearing fault h = h
 
 -- ---- steps
 
@@ -63,12 +60,6 @@ moves_one step a b text sends hears tells prints = record {
   prints = prints;
 }
 
-same_sent : (a b : Option (List ℕ)) → b ≡ a → Appends a b []
-same_sent a b e = subst (λ (x : Option (List ℕ)). Appends a x []) (sym e) (Appends-nil a)
-
-same_heard : (a b : Option (List ℕ)) → b ≡ a → Consumes a b []
-same_heard a b e = subst (λ (x : Option (List ℕ)). Consumes a x []) (sym e) (Consumes-nil a)
-
 -- no request was made
 pub moves_unmade : (why : Reason) (at : RefusalPlace) (a b : Streams) → b.sent ≡ a.sent → b.heard ≡ a.heard → Appends a.printed b.printed (line_of why at) → Moves (Unmade why at ∷ []) a b
 moves_unmade why at a b sent heard prints = moves_one (Unmade why at) a b (line_of why at) (same_sent a.sent b.sent sent) (same_heard a.heard b.heard heard) refl prints
@@ -76,12 +67,3 @@ moves_unmade why at a b sent heard prints = moves_one (Unmade why at) a b (line_
 -- a query was given up
 pub moves_given_up : (a b : Streams) → b.sent ≡ a.sent → b.heard ≡ a.heard → Appends a.printed b.printed unanswered_line → Moves (GaveUp ∷ []) a b
 moves_given_up a b sent heard prints = moves_one GaveUp a b unanswered_line (same_sent a.sent b.sent sent) (same_heard a.heard b.heard heard) refl prints
-
--- ---- whether all was done
-
-pub and_true : (b : Bool) → (b && true) ≡ b
-and_true true = refl
-and_true false = refl
-
-pub done_behind : (ss ts : List Step) → all_done (ss ++ ts) ≡ (all_done ss && all_done ts)
-done_behind ss ts = list_all-append is_done ss ts

@@ -1,12 +1,11 @@
 -- Lines, run one behind the other.
-use Rattle.std.proofs.Common.{◌≡◌, ℕ, ◌<◌, Bool, true, false, ◌&&◌, List, [], ◌∷◌, ◌++◌, length, Option, Some, None, Result, Ok, Err, inl, inr, refl, ap, sym, ◌∙◌, subst}
-use Rattle.std.specs.Prelude.{IfOk, IsErrAnd, Vec}
-use Rattle.std.specs.declared.alloc.Global.{Global}
+use Rattle.std.proofs.Common.{◌≡◌, ℕ, Bool, false, ◌&&◌, List, [], ◌∷◌, ◌++◌, append-nil, Option, Some, None, Result, Ok, Err, inl, inr, refl, ap, sym, ◌∙◌, subst}
+use Rattle.std.specs.Prelude.{IfOk, IsErrAnd}
+use Rattle.std.proofs.Math.Bool.{and_comm, and-true}
+use Rattle.std.proofs.lemmas.List.Folds.{list_all-append}
 use Rattle.reasons.specs.declared.Reason.{Reason}
-use Rattle.reasons.specs.declared.Reason.TheVariants as reasons
 use Rattle.q_sim.specs.Line.{line_of}
 use Rattle.q_sim.specs.declared.refusal.RefusalPlace.{RefusalPlace}
-use Rattle.q_sim.specs.declared.refusal.RefusalPlace.TheVariants.{Untold}
 use Rattle.q_net.specs.declared.replies.Reply.{Reply}
 use Rattle.q_net.specs.declared.replies.Reply.TheVariants as reply
 use Rattle.q_net.specs.declared.request.Request.{Request}
@@ -16,21 +15,12 @@ use Rattle.q_asker.specs.declared.step.Halt.TheVariants.{Lost, Unwritten}
 use Rattle.q_asker.specs.declared.step.LineEnd.{LineEnd}
 use Rattle.q_asker.specs.declared.script.ClientLine.{ClientLine}
 use Rattle.q_asker.specs.declared.script.ClientLine.TheVariants as line
-use Rattle.q_sim.specs.Programs.{IsRefusal}
-use Rattle.q_sim.specs.Refusal as refusal
-use Rattle.q_sim.specs.declared.refusal.Refusal.{Refusal}
-use Rattle.q_asker.specs.Makes.{IsRegistration, Makes, MakesNone, most_value, program_number}
+use Rattle.q_asker.specs.Makes.{IsUnfit, Makes, program_number}
 use Rattle.q_asker.specs.Replies.{MayReply}
 use Rattle.q_asker.specs.Runs.{Looks, Prints, RunsLine, RunsRequest, Stops, Takes, StopsAt, TakesPart, is_done_end}
-use Rattle.q_asker.specs.Steps.{AreOf, AreOfAll, BeginAll, Exchanged, Follows, Moves, Step, Streams, Unmade, all_done, is_done_reply}
-use Rattle.q_asker.proofs.Beginnings.{begin_behind, begin_first, begin_longer, begin_none, lacking, lacking_of, of_behind}
-use Rattle.q_asker.proofs.Moves.{and_true, done_behind, moves_behind, moves_none, moves_unmade, same_given, same_part}
-
-and_swap : (a b : Bool) → (a && b) ≡ (b && a)
-and_swap true true = refl
-and_swap true false = refl
-and_swap false true = refl
-and_swap false false = refl
+use Rattle.q_asker.specs.Steps.{AreOf, AreOfAll, BeginAll, Exchanged, Follows, Moves, Step, Streams, Unmade, all_done, is_done, is_done_reply}
+use Rattle.q_asker.proofs.Beginnings.{begin_behind, begin_first, begin_none, lacking, lacking_of, of_behind}
+use Rattle.q_asker.proofs.Moves.{moves_behind, moves_none, moves_unmade, same_given, same_part}
 
 -- ---- what stopped
 
@@ -65,40 +55,35 @@ takes_none q a b o is h = subst (λ (x : Option Reply). Takes q a b (Ok x)) is h
 
 -- ---- one line
 
--- a line stopped before a step of it was done
-pub stops_first : (l : ClientLine) (h : Halt) (a b : Streams) → StopsAt h a b → Stops (l ∷ []) h a b
-stops_first l h a b s = record { steps = []; begin = begin_none (l ∷ []); between = a; moves = moves_none a; stops = s }
+-- lines stopped before a step of them was done
+pub stops_first : (ls : List ClientLine) (h : Halt) (a b : Streams) → StopsAt h a b → Stops ls h a b
+stops_first ls h a b s = record { steps = []; begin = begin_none ls; between = a; moves = moves_none a; stops = s }
 
 -- a line stopped behind some steps of it
 pub stops_behind : (l : ClientLine) (h : Halt) (steps more : List Step) (a b c : Streams) → AreOf l (steps ++ more) → Moves steps a b → StopsAt h b c → Stops (l ∷ []) h a c
-stops_behind l h steps more a b c of m s = record { steps = steps; begin = begin_first l [] steps more of; between = b; moves = m; stops = s }
+stops_behind l h steps more a b c of m s = record { steps = steps; begin = begin_first l steps more of; between = b; moves = m; stops = s }
 
 -- no request was made of a line, which was told
-pub line_unmade : (l : ClientLine) (why : Reason) (at : RefusalPlace) (a b : Streams) (r : Result LineEnd Halt) → MakesNone l why at → b.sent ≡ a.sent → b.heard ≡ a.heard
+pub line_unmade : (l : ClientLine) (why : Reason) (at : RefusalPlace) (a b : Streams) (r : Result LineEnd Halt) → IsUnfit l why at → b.sent ≡ a.sent → b.heard ≡ a.heard
     → Prints (line_of why at) a.printed b.printed r → IfOk r (λ e. is_done_end e ≡ false) → RunsLine l a b r
-line_unmade l why at a b (Ok e) none sent heard prints refused = (Unmade why at ∷ [], (none, refl), moves_unmade why at a b sent heard prints, refused)
-line_unmade l why at a b (Err Unwritten) none sent heard prints refused = stops_first l Unwritten a b (unwritten_at a b sent heard prints)
-line_unmade l why at a b (Err (Lost fault)) none sent heard prints refused = absurd prints
+line_unmade l why at a b (Ok e) unfit sent heard prints refused = (Unmade why at ∷ [], (inr unfit, refl), moves_unmade why at a b sent heard prints, refused)
+line_unmade l why at a b (Err Unwritten) unfit sent heard prints refused = stops_first (l ∷ []) Unwritten a b (unwritten_at a b sent heard prints)
+line_unmade l why at a b (Err (Lost fault)) unfit sent heard prints refused = absurd prints
 
 -- where nothing follows the reply to a line's request
 pub follows_none : (l : ClientLine) (said : Reply) → ((n : ℕ) → said ≡ reply.Number n → ⊥) → Follows l said []
-follows_none (line.Program code) said none = refl
-follows_none (line.Store value) said none = refl
-follows_none (line.Ask program start) (reply.Program n) none = refl
 follows_none (line.Ask program start) (reply.Number n) none = absurd (none n refl)
-follows_none (line.Ask program start) reply.Open none = refl
-follows_none (line.Ask program start) (reply.Answer acc steps) none = refl
-follows_none (line.Ask program start) (reply.Refused n) none = refl
+follows_none l said none = refl
 
 -- the request of a line was replied to
 pub requested : (q : Request) (said : Reply) (e : LineEnd) (a b : Streams) → MayReply q said → Moves (Exchanged q said ∷ []) a b → is_done_end e ≡ is_done_reply said → RunsRequest q a b (Ok e)
-requested q said e a b may m is = inl (said, may, m, is ∙ sym (and_true (is_done_reply said)))
+requested q said e a b may m is = inl (said, may, m, is ∙ sym (and-true (is_done_reply said)))
 
 -- the only request of a line was made
 pub line_requested : (l : ClientLine) (q : Request) (a b : Streams) (r : Result LineEnd Halt) → Makes l q → ((said : Reply) → Follows l said []) → RunsRequest q a b r → RunsLine l a b r
 line_requested l q a b (Ok e) makes follows (inl h) = (Exchanged q h.0 ∷ [], (makes, h.1, follows h.0), h.2, h.3)
 line_requested l q a b (Ok e) makes follows (inr h) = (lacking ∷ [], lacking_of l, h.0, h.1)
-line_requested l q a b (Err h) makes follows s = stops_first l h a b s
+line_requested l q a b (Err h) makes follows s = stops_first (l ∷ []) h a b s
 
 -- a query was asked, and then its answer
 pub line_asked : (program start number query : ℕ) (said : Reply) (a b c : Streams) (r : Result LineEnd Halt) → number ≡ program_number program → MayReply (request.Ask number start) said → said ≡ reply.Number query
@@ -116,27 +101,7 @@ line_asked program start number query said a b c (Err halt) same may is m h =
 
 pub line_stop : (l : ClientLine) (h : Halt) (a b : Streams) (r : Result LineEnd Halt) → IsErrAnd r (λ e. e ≡ h) → StopsAt h a b → RunsLine l a b r
 line_stop l h a b (Ok x) is s = absurd is
-line_stop l h a b (Err e) is s = stops_first l e a b (same_halt h e a b is s)
-
--- ---- the lines of each kind
-
-pub program_requested : (l : ClientLine) (code : Vec ℕ Global) (bytes : List ℕ) (q : Request) (a b : Streams) (r : Result LineEnd Halt) → l ≡ line.Program code → bytes ≡ code.items → IsRegistration bytes q → RunsRequest q a b r → RunsLine l a b r
-program_requested l code bytes q a b r is same made h =
-    subst (λ (x : ClientLine). RunsLine x a b r) (sym is) (line_requested (line.Program code) q a b r (subst (λ (x : List ℕ). IsRegistration x q) same made) (λ said. refl) h)
-
-pub program_unmade : (l : ClientLine) (code : Vec ℕ Global) (bytes : List ℕ) (refused : Refusal) (why : Reason) (at : RefusalPlace) (a b : Streams) (r : Result LineEnd Halt) → l ≡ line.Program code → bytes ≡ code.items → IsRefusal bytes refused
-    → why ≡ refusal.reason refused → at ≡ refusal.place refused → b.sent ≡ a.sent → b.heard ≡ a.heard → Prints (line_of why at) a.printed b.printed r → IfOk r (λ e. is_done_end e ≡ false) → RunsLine l a b r
-program_unmade l code bytes refused why at a b r is same bad because there sent heard prints ends =
-    subst (λ (x : ClientLine). RunsLine x a b r) (sym is) (line_unmade (line.Program code) why at a b r (inr (refused, subst (λ (x : List ℕ). IsRefusal x refused) same bad, because, there)) sent heard prints ends)
-
-pub store_requested : (l : ClientLine) (value : Vec ℕ Global) (bytes : List ℕ) (q : Request) (a b : Streams) (r : Result LineEnd Halt) → l ≡ line.Store value → bytes ≡ value.items → q ≡ request.StoreOf bytes → RunsRequest q a b r → RunsLine l a b r
-store_requested l value bytes q a b r is same made h =
-    subst (λ (x : ClientLine). RunsLine x a b r) (sym is) (line_requested (line.Store value) q a b r (made ∙ ap request.StoreOf same) (λ said. refl) h)
-
-pub store_unmade : (l : ClientLine) (value : Vec ℕ Global) (bytes : List ℕ) (a b : Streams) (r : Result LineEnd Halt) → l ≡ line.Store value → bytes ≡ value.items → most_value < length bytes → b.sent ≡ a.sent → b.heard ≡ a.heard
-    → Prints (line_of reasons.BadValue Untold) a.printed b.printed r → IfOk r (λ e. is_done_end e ≡ false) → RunsLine l a b r
-store_unmade l value bytes a b r is same long sent heard prints ends =
-    subst (λ (x : ClientLine). RunsLine x a b r) (sym is) (line_unmade (line.Store value) reasons.BadValue Untold a b r (inr (subst (λ (x : List ℕ). most_value < length x) same long, refl, refl)) sent heard prints ends)
+line_stop l h a b (Err e) is s = stops_first (l ∷ []) e a b (same_halt h e a b is s)
 
 -- ---- lines in turn
 
@@ -147,16 +112,15 @@ pub lines_more : (ls more : List ClientLine) (l : ClientLine) (clean done now : 
     → (steps : List Step) × AreOfAll more steps × Moves steps a c × (now ≡ all_done steps)
 lines_more ls more l clean done now a b c is both h k =
     let steps = h.0 ++ k.0 in
-    let all : now ≡ all_done steps = both ∙ and_swap done clean ∙ ap (λ (x : Bool). x && done) h.3 ∙ ap (λ (x : Bool). all_done h.0 && x) k.3 ∙ sym (done_behind h.0 k.0) in
-    (steps, subst (λ (x : List ClientLine). AreOfAll x steps) (sym is) (of_behind ls l h.0 k.0 h.1 k.1), moves_behind h.0 k.0 a b c h.2 k.2, all)
+    let all : now ≡ all_done steps = both ∙ and_comm done clean ∙ ap (λ (x : Bool). x && done) h.3 ∙ ap (λ (x : Bool). all_done h.0 && x) k.3 ∙ sym (list_all-append is_done h.0 k.0) in
+    (steps, subst (λ (x : List ClientLine). AreOfAll x steps) (sym is) (of_behind ls (l ∷ []) h.0 k.0 h.1 (k.0, [], k.1, refl, sym (append-nil k.0))), moves_behind h.0 k.0 a b c h.2 k.2, all)
 
 -- lines were run, and then the run stopped at one
 pub lines_stop : (ls all rest : List ClientLine) (l : ClientLine) (h : Halt) (steps : List Step) (a b c : Streams) → all ≡ ls ++ (l ∷ rest) → AreOfAll ls steps → Moves steps a b → Stops (l ∷ []) h b c → Stops all h a c
-lines_stop ls all rest l h steps a b c is of m s =
-    let behind = begin_behind ls (l ∷ rest) steps s.steps of (begin_longer l rest s.steps s.begin) in record {
-      steps = steps ++ s.steps;
-      begin = subst (λ (x : List ClientLine). BeginAll x (steps ++ s.steps)) (sym is) behind;
-      between = s.between;
-      moves = moves_behind steps s.steps a b s.between m s.moves;
-      stops = s.stops;
-    }
+lines_stop ls all rest l h steps a b c is of m s = record {
+  steps = steps ++ s.steps;
+  begin = subst (λ (x : List ClientLine). BeginAll x (steps ++ s.steps)) (sym is) (begin_behind ls l rest steps s.steps of s.begin);
+  between = s.between;
+  moves = moves_behind steps s.steps a b s.between m s.moves;
+  stops = s.stops;
+}

@@ -1,65 +1,19 @@
 //! The lines that replies tell.
 
-ghost use Rattle.std.specs.Prelude.{◌≡◌, ◌++◌, ℕ, List, OnOk, OnErr, codes, decimal};
+ghost use Rattle.std.specs.Prelude.{◌≡◌, ℕ, List, OnOk, OnErr};
 ghost use Rattle.std.specs.Io.KnownBytes.{Appends};
-ghost use Rattle.std.specs.List.{flat_map};
 ghost use Rattle.q_outside.specs.Counts.{count_after};
 ghost use Rattle.q_sim.specs.Line.{line_of};
 ghost use Rattle.reasons.specs.Table as table;
 ghost use Rattle.reasons.specs.declared.Reason.{Reason as Why};
 ghost use Rattle.q_asker.specs.Replies.{IsRefusal, MayReply};
-ghost use Rattle.q_asker.specs.Steps.{Tells, number_word, query_of, spaced, told_line};
+ghost use Rattle.q_asker.specs.Steps.{Tells, number_word, query_of};
 
 use crate::replies::reason_of;
-use itoa::Buffer;
 use q_net::{Reply, Request};
-use q_outside::{Counted, TransportFailed};
+use q_outside::{Counted, Piece, TransportFailed};
 use q_sim::{RefusalPlace, put_line};
 use std::io::Write;
-
-/// Writes a space and a number in decimal.
-fn put_spaced<O: Write>(out: &mut Counted<O>, number: u64) -> Result<(), TransportFailed>
-    ensures written { OnOk result (Appends (O.contents out.old.inner) (O.contents out.new.inner) (spaced number)) }
-    ensures failed { OnErr result ((part : List ℕ) × Appends
-        (O.contents out.old.inner) (O.contents out.new.inner) part) }
-    ensures counted { out.new.failures ≡ count_after result out.old.failures }
-{
-    out.put(b" ")?;
-    let mut buffer = Buffer::new();
-    let digits = buffer.format(number);
-    out.put(digits.as_bytes())
-}
-
-/// Writes numbers, each behind a space.
-fn put_numbers<O: Write>(out: &mut Counted<O>, numbers: &[u64]) -> Result<(), TransportFailed>
-    ensures written { OnOk result (Appends
-        (O.contents out.old.inner) (O.contents out.new.inner) (flat_map spaced numbers.now)) }
-    ensures failed { OnErr result ((part : List ℕ) × Appends
-        (O.contents out.old.inner) (O.contents out.new.inner) part) }
-    ensures counted { out.new.failures ≡ count_after result out.old.failures }
-{
-    for number in numbers {
-        put_spaced(out, *number)?;
-    }
-    Ok(())
-}
-
-/// Writes a line: a word, and numbers, each behind a space.
-fn put_words<O: Write>(
-    out: &mut Counted<O>,
-    word: &str,
-    numbers: &[u64],
-) -> Result<(), TransportFailed>
-    ensures written { OnOk result (Appends
-        (O.contents out.old.inner) (O.contents out.new.inner) (told_line word.now numbers.now)) }
-    ensures failed { OnErr result ((part : List ℕ) × Appends
-        (O.contents out.old.inner) (O.contents out.new.inner) part) }
-    ensures counted { out.new.failures ≡ count_after result out.old.failures }
-{
-    out.put(word.as_bytes())?;
-    put_numbers(out, numbers)?;
-    out.put(b"\n")
-}
 
 /// The word before a number that a request is replied to.
 fn number_word(request: &Request) -> &'static str
@@ -110,10 +64,27 @@ pub fn put_told<O: Write>(
     ensures counted { out.new.failures ≡ count_after result out.old.failures }
 {
     match said {
-        Reply::Program(program) => put_words(out, "program", &[u64::from(program)]),
-        Reply::Number(number) => put_words(out, number_word(request), &[number]),
+        Reply::Program(program) => out.put_all(&[
+            Piece::Words("program "),
+            Piece::Number(u64::from(program)),
+            Piece::Words("\n"),
+        ]),
+        Reply::Number(number) => out.put_all(&[
+            Piece::Words(number_word(request)),
+            Piece::Words(" "),
+            Piece::Number(number),
+            Piece::Words("\n"),
+        ]),
         Reply::Open => out.put(b""),
-        Reply::Answer { acc, steps } => put_words(out, "answer", &[query_of(request), acc, steps]),
+        Reply::Answer { acc, steps } => out.put_all(&[
+            Piece::Words("answer "),
+            Piece::Number(query_of(request)),
+            Piece::Words(" "),
+            Piece::Number(acc),
+            Piece::Words(" "),
+            Piece::Number(steps),
+            Piece::Words("\n"),
+        ]),
         Reply::Refused(number) => put_refused(out, number),
     }
 }

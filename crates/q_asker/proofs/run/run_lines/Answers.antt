@@ -21,7 +21,7 @@ returns-in-Err-clause-steps g c =
     let line = c.line-item.result in
     let (steps, of, moves, clean) = c.loop-line.invariant.0 in
     let split = pieces_at lines (take i lines) i line refl c.loop-line-test.true c.line-item.is in
-    halted lines c.in-Err.halted c.halt.result _ _ _ (lines_stop (take i lines) lines (drop (i + 1) lines) line c.in-Err.halted steps _ _ _ split of moves c.in-Err.ensures.steps) refl refl c.halt.ensures.written
+    halted lines c.in-Err.halted c.halt.result _ _ _ (lines_stop (take i lines) lines (drop (i + 1) lines) line c.in-Err.halted steps _ _ _ split of moves c.in-Err.ensures.steps) c.halt.ensures.written
 
 pub returns-in-Err-clause-counted : goal.returns-in-Err-clause-counted
 returns-in-Err-clause-counted g c =
