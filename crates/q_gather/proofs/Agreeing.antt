@@ -74,8 +74,7 @@ module _ (books : List BookState) (version : Version) (config : Config) (ids : L
   pub agree_headed : AreHeaded books version config ids
   agree_headed k b at =
       let own = a.3.heads k b at in
-      let head = a.3.heads h.place h.book h.at in
-      (
+      let head = a.3.heads h.place h.book h.at in (
         a.3.versions k b at ∙ sym (a.3.versions h.place h.book h.at) ∙ h.version_is,
         own.0 ∙ sym head.0 ∙ h.config_is,
         own.1 ∙ ap (founders_for b.id) (sym founders_same),

@@ -200,8 +200,7 @@ step_goes books c lists u k s rest at can =
     let b = u.few k (s ∷ rest) at in
     let ev = next_is books c lists u k b.0 b.1 s rest can at in
     let t = turn_of books c lists u k b.0 b.1 ev.0 ev.1 in
-    let parts = same_first t.step s t.rest rest (same_some (t.step ∷ t.rest) (s ∷ rest) (sym t.at ∙ at)) in
-    (
+    let parts = same_first t.step s t.rest rest (same_some (t.step ∷ t.rest) (s ∷ rest) (sym t.at ∙ at)) in (
       ev.0,
       subst (λ (x : Step Message). Goes books c lists k x rest ev.0) parts.0
           (subst (λ (x : List (Step Message)). Goes books c lists k t.step x ev.0) parts.1 (turn_goes books c lists u k b.0 b.1 ev.0 t)),
