@@ -1,5 +1,5 @@
 -- What is found in the gathered cluster of the call of a line, and what is not.
-use Rattle.std.proofs.Common.{◌≡◌, ℕ, Bool, true, false, List, Some, Vec, Global, sym, ap, ◌∙◌, slice_get}
+use Rattle.std.proofs.Common.{◌≡◌, ℕ, Bool, true, false, List, Some, Vec, Global, inl, inr, sym, ap, ◌∙◌, slice_get}
 use Rattle.std.specs.Prelude.{MatchBool, IfOk, Result, Ok, Err}
 use Rattle.bq_check.specs.Certificate.{Certificate}
 use Rattle.bq_insn.specs.Slots.{spelling}
@@ -14,7 +14,9 @@ use Rattle.q_cluster.specs.Acts.{book_at}
 use Rattle.q_history.specs.Headline.{ClusterState}
 use Rattle.q_history.proofs.Lists.{same_some}
 use Rattle.q_nodes.specs.Found.{IsOnly}
-use Rattle.q_nodes.specs.Lines.{Has, IsProgramOf, IsQueryOf, IsStoreOf, program_id}
+use Rattle.q_nodes.specs.Faults.{no_such_node}
+use Rattle.q_nodes.specs.Lines.{IsNode, CallsAt, Has, IsProgramOf, IsQueryOf, IsStoreOf, program_id}
+use Rattle.q_nodes.specs.declared.outcome.Outcome.{Outcome}
 use Rattle.q_nodes.specs.declared.outcome.Outcome.TheVariants as outcome
 use Rattle.q_nodes.specs.declared.script.ClusterLine.TheVariants as line
 
@@ -38,6 +40,11 @@ pub other_store : (c : ClusterState) (node tag : ℕ) (bytes : List ℕ) (op : O
 other_store c node tag bytes op only other o h =
     let same : o ≡ op = only.only o h.among h.by h.tagged in
     other h.entry (ap (λ (x : Op). kind_of x.session) (sym same) ∙ h.kind) h.value
+
+-- a call that came to a tag is that of a node
+pub stored_there : (nodes node tag : ℕ) (calls : Outcome → Type 0) → CallsAt nodes node calls (outcome.Stored tag) → IsNode nodes node
+stored_there nodes node tag calls (inl h) = h.0
+stored_there nodes node tag calls (inr h) = let e : outcome.Stored tag ≡ outcome.Refused no_such_node = h.1 in absurd (cc)
 
 pub store_lost : (c : ClusterState) (node tag : ℕ) (value : Vec ℕ Global) → ((o : Op) → IsStoreOf c node tag value.items o → ⊥) → Has c (line.Store node value) (outcome.Stored tag) → ⊥
 store_lost c node tag value none h = none h.0 h.1

@@ -1,11 +1,20 @@
 -- find_store: what a line tells that was answered with this tag.
 use Rattle.std.proofs.Common.{ℕ, List, sym, subst}
 use Rattle.sc_world.specs.declared.op.Op.{Op}
-use Rattle.q_nodes.specs.Lines.{Has, IsStoreOf}
+use Rattle.q_nodes.specs.Books.{BeginsStore}
+use Rattle.q_nodes.specs.Lines.{ComesTo, Has, IsStoreOf, IsTold}
 use Rattle.q_nodes.specs.declared.script.ClusterLine.{ClusterLine}
 use Rattle.q_nodes.specs.declared.outcome.Outcome.TheVariants as outcome
-use Rattle.q_nodes.proofs.Finding.{store_lost}
+use Rattle.q_nodes.specs.declared.report.Report.TheVariants as report
+use Rattle.q_nodes.proofs.Finding.{stored_there, store_lost}
 use Rattle.q_nodes.proofs.found.find_store.Goals as goal
+
+pub returns-in-Some : goal.returns-in-Some
+returns-in-Some c = λ nodes came.
+    let op = c.in-Some.op.now in
+    let store = subst (λ (bytes : List ℕ). IsStoreOf c.args.cluster.now c.in-Store.node c.args.tag bytes op) c.as_slice.ensures.value c.in-Some.ensures in
+    subst (λ (l : ClusterLine). ComesTo nodes l (outcome.Stored c.args.tag) → IsTold nodes c.args.cluster.now l (report.Stored c.args.tag c.is_some.result)) (sym c.in-Store.is)
+    (λ so. (stored_there nodes c.in-Store.node c.args.tag (BeginsStore c.in-Store.node c.in-Store.value.items) so, (op, store, c.is_some.ensures))) came
 
 pub returns-in-None : goal.returns-in-None
 returns-in-None c = λ nodes came.
