@@ -4,7 +4,7 @@ use crate::Size;
 use crate::values::{USUAL, each, learn, view_of};
 use anyhow::{Result, anyhow};
 use sc_members::Config;
-use sc_msg::{Body, Message};
+use sc_msg::{Body, Message, Store};
 use sc_node::{Node, NodeFault};
 use sc_view::View;
 use std::alloc::Global;
@@ -18,7 +18,7 @@ fn refused(reason: NodeFault) -> anyhow::Error {
 fn store_of(view: View) -> Message {
     Message {
         from: 2,
-        body: Body::Store { tag: 0, view },
+        body: Body::Store(Store { tag: 0, view }),
     }
 }
 

@@ -19,7 +19,7 @@ use Rattle.bq_asm.specs.Line.{Statement, Complete, JumpTo, IsName, IsJump, IsSta
 use Rattle.bq_asm.specs.Operands.{register, operand, distance, memory, jump_insn, jump_mnemonic, jump_operands}
 use Rattle.bq_asm.specs.Reading.{◌>>=◌, strip, positive_at, negative_at, signed_at, signed_else, distance_at, distance_else, positive_of, negative_of, fits, register_at, operand_at, operand_else, place_of, place_else, place_at, memory_at, is_name, jump_bits, target_at, target_else, pair_at, trimmed, statement_at}
 use Rattle.bq_asm.proofs.Parts.{Lacks, cut_none, cut_at, strip_none}
-use Rattle.decimal.proofs.Numbers.{own, natural_decimal}
+use Rattle.spelling.proofs.Decimal.{own, natural_decimal}
 use Rattle.bq_asm.proofs.Spaces.{Starts, Ends, spaces_lack, lacks_append, starts_append, ends_append, trimmed_between}
 use Rattle.bq_asm.proofs.Clean.{Word, no_comma, clean_lacks, clean_ends, word_starts, register_word, operand_word, distance_word, decimal_word, memory_word, name_word, wider}
 

@@ -16,7 +16,7 @@ use Rattle.bq_asm.specs.Line.{IsName, is_letter, is_name_byte}
 use Rattle.bq_asm.specs.Operands.{register, operand, distance, memory}
 use Rattle.bq_asm.proofs.Parts.{Lacks}
 use Rattle.bq_asm.proofs.Spaces.{Starts, Ends}
-use Rattle.decimal.proofs.Numbers.{own}
+use Rattle.spelling.proofs.Decimal.{own}
 
 abbrev pub is_clean : ℕ → Bool
 is_clean c = not (eqb c 32) && (not (eqb c 35) && (not (eqb c 44) && (not (eqb c 58) && not (eqb c 10))))

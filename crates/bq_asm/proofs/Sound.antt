@@ -19,8 +19,8 @@ use Rattle.bq_asm.specs.declared.jump.Jump.TheVariants as jumps
 use Rattle.bq_asm.specs.Line.{Statement, Complete, IsName, IsJump, IsStatement, is_letter, is_name_byte, AreListed, AreSpaces, statement_operands, statement_mnemonic}
 use Rattle.bq_asm.specs.Operands.{register, operand, distance, memory, jump_insn, jump_mnemonic, jump_operands}
 use Rattle.bq_asm.specs.Reading.{◌>>=◌, strip, cut, positive_at, negative_at, signed_at, signed_else, distance_at, distance_else, positive_of, negative_of, fits, fitting, register_of, register_at, operand_at, operand_else, place_of, place_else, place_at, memory_at, is_name, jump_bits, jump_by, target_at, target_else, pair_at, trimmed, statement_at}
-use Rattle.decimal.specs.Natural.{natural_at}
-use Rattle.decimal.proofs.Numbers.{natural_sound}
+use Rattle.spelling.specs.Natural.{natural_at}
+use Rattle.spelling.proofs.Decimal.{natural_sound}
 use Rattle.bq_asm.proofs.Spaces.{spaces_append, trimmed_of, cut_parts}
 
 pub bind_some : {A B : Type 0} (o : Option A) (f : A → Option B) (y : B) → (o >>= f) ≡ Some y → (x : A) × (o ≡ Some x) × (f x ≡ Some y)

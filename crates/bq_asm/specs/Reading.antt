@@ -3,7 +3,7 @@
 -- `specs/Line.antt`, a relation apart from the reader, which the public contracts cite by `specs/Source.antt`.
 use Rattle.std.specs.Prelude.{◌≡◌, ℕ, ◌-◌, ◌^◌, ℤ, pos, negsuc, Bool, false, not, ◌&&◌, ◌==◌, nat_lt, if◌then◌else◌, List, [], ◌∷◌, length, Option, Some, None, option_map}
 use Rattle.std.specs.List.{list_all}
-use Rattle.decimal.specs.Natural.{natural_at}
+use Rattle.spelling.specs.Natural.{natural_at}
 use Rattle.bq_insn.specs.declared.insn.Operand.{Operand}
 use Rattle.bq_insn.specs.declared.insn.Operand.TheVariants as operands
 use Rattle.bq_insn.specs.declared.insn.Insn.TheVariants as insns

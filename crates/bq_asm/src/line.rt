@@ -12,7 +12,7 @@ use crate::statement::{Line, Statement};
 use crate::text::{cut, pair, trimmed};
 use bq_insn::{Extension, Insn, Size};
 use bq_word::{AluOp, Relation, SignBits, Width};
-use decimal::natural;
+use spelling::natural;
 
 fn is_name_byte(byte: u8) -> bool
     ensures { result ≡ is_name_byte byte }

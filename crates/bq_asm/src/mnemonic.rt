@@ -34,159 +34,92 @@ pub enum Mnemonic {
     Wide,
 }
 
-/// Every mnemonic.
-static MNEMONICS: [Mnemonic; 81] = [
-    Mnemonic::Alu(Width::W64, AluOp::Add),
-    Mnemonic::Alu(Width::W64, AluOp::Sub),
-    Mnemonic::Alu(Width::W64, AluOp::Mul),
-    Mnemonic::Alu(Width::W64, AluOp::Div),
-    Mnemonic::Alu(Width::W64, AluOp::SignedDiv),
-    Mnemonic::Alu(Width::W64, AluOp::Or),
-    Mnemonic::Alu(Width::W64, AluOp::And),
-    Mnemonic::Alu(Width::W64, AluOp::ShiftLeft),
-    Mnemonic::Alu(Width::W64, AluOp::ShiftRight),
-    Mnemonic::Alu(Width::W64, AluOp::Mod),
-    Mnemonic::Alu(Width::W64, AluOp::SignedMod),
-    Mnemonic::Alu(Width::W64, AluOp::Xor),
-    Mnemonic::Alu(Width::W64, AluOp::Mov),
-    Mnemonic::Alu(Width::W64, AluOp::ArithmeticShiftRight),
-    Mnemonic::Alu(Width::W32, AluOp::Add),
-    Mnemonic::Alu(Width::W32, AluOp::Sub),
-    Mnemonic::Alu(Width::W32, AluOp::Mul),
-    Mnemonic::Alu(Width::W32, AluOp::Div),
-    Mnemonic::Alu(Width::W32, AluOp::SignedDiv),
-    Mnemonic::Alu(Width::W32, AluOp::Or),
-    Mnemonic::Alu(Width::W32, AluOp::And),
-    Mnemonic::Alu(Width::W32, AluOp::ShiftLeft),
-    Mnemonic::Alu(Width::W32, AluOp::ShiftRight),
-    Mnemonic::Alu(Width::W32, AluOp::Mod),
-    Mnemonic::Alu(Width::W32, AluOp::SignedMod),
-    Mnemonic::Alu(Width::W32, AluOp::Xor),
-    Mnemonic::Alu(Width::W32, AluOp::Mov),
-    Mnemonic::Alu(Width::W32, AluOp::ArithmeticShiftRight),
-    Mnemonic::Negate(Width::W64),
-    Mnemonic::Negate(Width::W32),
-    Mnemonic::Extend(Extension::W32From8),
-    Mnemonic::Extend(Extension::W32From16),
-    Mnemonic::Extend(Extension::W64From8),
-    Mnemonic::Extend(Extension::W64From16),
-    Mnemonic::Extend(Extension::W64From32),
-    Mnemonic::Order(ByteOrder::Little, SwapBits::B16),
-    Mnemonic::Order(ByteOrder::Little, SwapBits::B32),
-    Mnemonic::Order(ByteOrder::Little, SwapBits::B64),
-    Mnemonic::Order(ByteOrder::Big, SwapBits::B16),
-    Mnemonic::Order(ByteOrder::Big, SwapBits::B32),
-    Mnemonic::Order(ByteOrder::Big, SwapBits::B64),
-    Mnemonic::Order(ByteOrder::Swapped, SwapBits::B16),
-    Mnemonic::Order(ByteOrder::Swapped, SwapBits::B32),
-    Mnemonic::Order(ByteOrder::Swapped, SwapBits::B64),
-    Mnemonic::Jump,
-    Mnemonic::JumpFar,
-    Mnemonic::Exit,
-    Mnemonic::Wide,
-    Mnemonic::Branch(Width::W64, Relation::Equal),
-    Mnemonic::Branch(Width::W64, Relation::Greater),
-    Mnemonic::Branch(Width::W64, Relation::GreaterOrEqual),
-    Mnemonic::Branch(Width::W64, Relation::CommonBit),
-    Mnemonic::Branch(Width::W64, Relation::NotEqual),
-    Mnemonic::Branch(Width::W64, Relation::SignedGreater),
-    Mnemonic::Branch(Width::W64, Relation::SignedGreaterOrEqual),
-    Mnemonic::Branch(Width::W64, Relation::Less),
-    Mnemonic::Branch(Width::W64, Relation::LessOrEqual),
-    Mnemonic::Branch(Width::W64, Relation::SignedLess),
-    Mnemonic::Branch(Width::W64, Relation::SignedLessOrEqual),
-    Mnemonic::Branch(Width::W32, Relation::Equal),
-    Mnemonic::Branch(Width::W32, Relation::Greater),
-    Mnemonic::Branch(Width::W32, Relation::GreaterOrEqual),
-    Mnemonic::Branch(Width::W32, Relation::CommonBit),
-    Mnemonic::Branch(Width::W32, Relation::NotEqual),
-    Mnemonic::Branch(Width::W32, Relation::SignedGreater),
-    Mnemonic::Branch(Width::W32, Relation::SignedGreaterOrEqual),
-    Mnemonic::Branch(Width::W32, Relation::Less),
-    Mnemonic::Branch(Width::W32, Relation::LessOrEqual),
-    Mnemonic::Branch(Width::W32, Relation::SignedLess),
-    Mnemonic::Branch(Width::W32, Relation::SignedLessOrEqual),
-    Mnemonic::Load(Size::B1),
-    Mnemonic::Load(Size::B2),
-    Mnemonic::Load(Size::B4),
-    Mnemonic::Load(Size::B8),
-    Mnemonic::LoadSigned(SignBits::B8),
-    Mnemonic::LoadSigned(SignBits::B16),
-    Mnemonic::LoadSigned(SignBits::B32),
-    Mnemonic::Store(Size::B1),
-    Mnemonic::Store(Size::B2),
-    Mnemonic::Store(Size::B4),
-    Mnemonic::Store(Size::B8),
-];
-
-fn alu64_name(op: AluOp) -> &'static str
-    ensures { result.now ≡ op_name op ++ width_name Width.W64 }
-{
-    match op {
-        AluOp::Add => "add64",
-        AluOp::Sub => "sub64",
-        AluOp::Mul => "mul64",
-        AluOp::Div => "div64",
-        AluOp::SignedDiv => "sdiv64",
-        AluOp::Or => "or64",
-        AluOp::And => "and64",
-        AluOp::ShiftLeft => "lsh64",
-        AluOp::ShiftRight => "rsh64",
-        AluOp::Mod => "mod64",
-        AluOp::SignedMod => "smod64",
-        AluOp::Xor => "xor64",
-        AluOp::Mov => "mov64",
-        AluOp::ArithmeticShiftRight => "arsh64",
-    }
+// Every mnemonic, of these operations, orders, relations and sizes.
+macro_rules! mnemonics {
+    ($($op:ident)*; $($order:ident)*; $($relation:ident)*; $($size:ident)*) => {
+        [
+            $(Mnemonic::Alu(Width::W64, AluOp::$op),)*
+            $(Mnemonic::Alu(Width::W32, AluOp::$op),)*
+            Mnemonic::Negate(Width::W64),
+            Mnemonic::Negate(Width::W32),
+            Mnemonic::Extend(Extension::W32From8),
+            Mnemonic::Extend(Extension::W32From16),
+            Mnemonic::Extend(Extension::W64From8),
+            Mnemonic::Extend(Extension::W64From16),
+            Mnemonic::Extend(Extension::W64From32),
+            $(
+                Mnemonic::Order(ByteOrder::$order, SwapBits::B16),
+                Mnemonic::Order(ByteOrder::$order, SwapBits::B32),
+                Mnemonic::Order(ByteOrder::$order, SwapBits::B64),
+            )*
+            Mnemonic::Jump,
+            Mnemonic::JumpFar,
+            Mnemonic::Exit,
+            Mnemonic::Wide,
+            $(Mnemonic::Branch(Width::W64, Relation::$relation),)*
+            $(Mnemonic::Branch(Width::W32, Relation::$relation),)*
+            $(Mnemonic::Load(Size::$size),)*
+            Mnemonic::LoadSigned(SignBits::B8),
+            Mnemonic::LoadSigned(SignBits::B16),
+            Mnemonic::LoadSigned(SignBits::B32),
+            $(Mnemonic::Store(Size::$size),)*
+        ]
+    };
 }
 
-fn alu32_name(op: AluOp) -> &'static str
-    ensures { result.now ≡ op_name op ++ width_name Width.W32 }
+/// Every mnemonic.
+static MNEMONICS: [Mnemonic; 81] = mnemonics!(
+    Add Sub Mul Div SignedDiv Or And ShiftLeft ShiftRight Mod SignedMod Xor Mov ArithmeticShiftRight;
+    Little Big Swapped;
+    Equal Greater GreaterOrEqual CommonBit NotEqual SignedGreater SignedGreaterOrEqual Less LessOrEqual SignedLess
+        SignedLessOrEqual;
+    B1 B2 B4 B8
+);
+
+// The text of a mnemonic, by the variant of one of its parts, where it ends in the same letters for all of them.
+macro_rules! named {
+    ($part:ident, $type:ident, $end:literal: $($variant:ident $text:literal),*) => {
+        match $part {
+            $($type::$variant => concat!($text, $end),)*
+        }
+    };
+}
+
+macro_rules! op_named {
+    ($op:ident, $bits:literal) => {
+        named!(
+            $op, AluOp, $bits: Add "add", Sub "sub", Mul "mul", Div "div", SignedDiv "sdiv", Or "or", And "and",
+            ShiftLeft "lsh", ShiftRight "rsh", Mod "mod", SignedMod "smod", Xor "xor", Mov "mov",
+            ArithmeticShiftRight "arsh"
+        )
+    };
+}
+
+macro_rules! relation_named {
+    ($relation:ident, $bits:literal) => {
+        named!(
+            $relation, Relation, $bits: Equal "jeq", Greater "jgt", GreaterOrEqual "jge", CommonBit "jset",
+            NotEqual "jne", SignedGreater "jsgt", SignedGreaterOrEqual "jsge", Less "jlt", LessOrEqual "jle",
+            SignedLess "jslt", SignedLessOrEqual "jsle"
+        )
+    };
+}
+
+fn alu_name(width: Width, op: AluOp) -> &'static str
+    ensures { result.now ≡ op_name op ++ width_name width }
 {
-    match op {
-        AluOp::Add => "add32",
-        AluOp::Sub => "sub32",
-        AluOp::Mul => "mul32",
-        AluOp::Div => "div32",
-        AluOp::SignedDiv => "sdiv32",
-        AluOp::Or => "or32",
-        AluOp::And => "and32",
-        AluOp::ShiftLeft => "lsh32",
-        AluOp::ShiftRight => "rsh32",
-        AluOp::Mod => "mod32",
-        AluOp::SignedMod => "smod32",
-        AluOp::Xor => "xor32",
-        AluOp::Mov => "mov32",
-        AluOp::ArithmeticShiftRight => "arsh32",
+    match width {
+        Width::W64 => op_named!(op, "64"),
+        Width::W32 => op_named!(op, "32"),
     }
 }
 
 fn branch_name(width: Width, relation: Relation) -> &'static str
     ensures { result.now ≡ relation_name relation ++ width_name width }
 {
-    match (width, relation) {
-        (Width::W64, Relation::Equal) => "jeq64",
-        (Width::W64, Relation::Greater) => "jgt64",
-        (Width::W64, Relation::GreaterOrEqual) => "jge64",
-        (Width::W64, Relation::CommonBit) => "jset64",
-        (Width::W64, Relation::NotEqual) => "jne64",
-        (Width::W64, Relation::SignedGreater) => "jsgt64",
-        (Width::W64, Relation::SignedGreaterOrEqual) => "jsge64",
-        (Width::W64, Relation::Less) => "jlt64",
-        (Width::W64, Relation::LessOrEqual) => "jle64",
-        (Width::W64, Relation::SignedLess) => "jslt64",
-        (Width::W64, Relation::SignedLessOrEqual) => "jsle64",
-        (Width::W32, Relation::Equal) => "jeq32",
-        (Width::W32, Relation::Greater) => "jgt32",
-        (Width::W32, Relation::GreaterOrEqual) => "jge32",
-        (Width::W32, Relation::CommonBit) => "jset32",
-        (Width::W32, Relation::NotEqual) => "jne32",
-        (Width::W32, Relation::SignedGreater) => "jsgt32",
-        (Width::W32, Relation::SignedGreaterOrEqual) => "jsge32",
-        (Width::W32, Relation::Less) => "jlt32",
-        (Width::W32, Relation::LessOrEqual) => "jle32",
-        (Width::W32, Relation::SignedLess) => "jslt32",
-        (Width::W32, Relation::SignedLessOrEqual) => "jsle32",
+    match width {
+        Width::W64 => relation_named!(relation, "64"),
+        Width::W32 => relation_named!(relation, "32"),
     }
 }
 
@@ -231,8 +164,7 @@ impl Mnemonic {
         ensures { result.now ≡ name self }
     {
         match self {
-            Mnemonic::Alu(Width::W64, op) => alu64_name(op),
-            Mnemonic::Alu(Width::W32, op) => alu32_name(op),
+            Mnemonic::Alu(width, op) => alu_name(width, op),
             Mnemonic::Negate(Width::W64) => "neg64",
             Mnemonic::Negate(Width::W32) => "neg32",
             Mnemonic::Extend(extension) => extension_name(extension),
@@ -241,17 +173,12 @@ impl Mnemonic {
             Mnemonic::JumpFar => "ja32",
             Mnemonic::Branch(width, relation) => branch_name(width, relation),
             Mnemonic::Exit => "exit",
-            Mnemonic::Load(Size::B1) => "load1",
-            Mnemonic::Load(Size::B2) => "load2",
-            Mnemonic::Load(Size::B4) => "load4",
-            Mnemonic::Load(Size::B8) => "load8",
-            Mnemonic::LoadSigned(SignBits::B8) => "loads1",
-            Mnemonic::LoadSigned(SignBits::B16) => "loads2",
-            Mnemonic::LoadSigned(SignBits::B32) => "loads4",
-            Mnemonic::Store(Size::B1) => "store1",
-            Mnemonic::Store(Size::B2) => "store2",
-            Mnemonic::Store(Size::B4) => "store4",
-            Mnemonic::Store(Size::B8) => "store8",
+            Mnemonic::Load(size) =>
+                named!(size, Size, "": B1 "load1", B2 "load2", B4 "load4", B8 "load8"),
+            Mnemonic::LoadSigned(bits) =>
+                named!(bits, SignBits, "": B8 "loads1", B16 "loads2", B32 "loads4"),
+            Mnemonic::Store(size) =>
+                named!(size, Size, "": B1 "store1", B2 "store2", B4 "store4", B8 "store8"),
             Mnemonic::Wide => "wide",
         }
     }

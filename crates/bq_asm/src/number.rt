@@ -2,7 +2,7 @@ ghost use Rattle.std.specs.Prelude.{◌≡◌, ◌<◌, ◌≤ℤ◌, ◌<ℤ◌
 ghost use Rattle.bq_asm.specs.Reading.{Gives, positive_at, negative_at, signed_at, distance_at};
 
 use crate::text::strip;
-use decimal::natural;
+use spelling::natural;
 
 /// The number below 2^63 that these digits stand for.
 #[tactic(auto, unfolding(crate::specs::Reading::positive_at))]

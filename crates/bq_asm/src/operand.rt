@@ -4,7 +4,7 @@ ghost use Rattle.bq_asm.specs.Reading.{Gives, register_at, operand_at, place_of,
 use crate::number::{distance, negative, positive, signed};
 use crate::text::{cut, strip};
 use bq_insn::{Operand, Register};
-use decimal::natural;
+use spelling::natural;
 
 /// A register, as `r7`.
 #[tactic(auto, unfolding(crate::specs::Reading::register_at))]

@@ -38,7 +38,7 @@ pub fn worked_lines()
 
 /// Operands as they are read: a number has 32 bits, an offset 16 and its sign, the number of
 /// `wide` 64, and `exit` has no operand.
-#[tactic(auto, unfolding(decimal::specs::Natural::natural_at, decimal::specs::Natural::is_decimal, crate::specs::Reading::operand_at, crate::specs::Reading::signed_at, crate::specs::Reading::negative_at, crate::specs::Reading::positive_at, crate::specs::Reading::register_at, crate::specs::Reading::place_at, crate::specs::Reading::statement_at, crate::specs::Reading::line_at, crate::specs::Reading::trimmed))]
+#[tactic(auto, unfolding(spelling::specs::Natural::natural_at, spelling::specs::Natural::is_decimal, crate::specs::Reading::operand_at, crate::specs::Reading::signed_at, crate::specs::Reading::negative_at, crate::specs::Reading::positive_at, crate::specs::Reading::register_at, crate::specs::Reading::place_at, crate::specs::Reading::statement_at, crate::specs::Reading::line_at, crate::specs::Reading::trimmed))]
 pub fn worked_operands()
     ensures least { operand_at (codes "-2147483648") ≡ Some (operand.Number (negsuc 2147483647)) }
     ensures wide { operand_at (codes "2147483648") ≡ None }

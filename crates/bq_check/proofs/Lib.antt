@@ -1,5 +1,4 @@
 pub mod Alike
-pub mod Codes
 pub mod Fields
 pub mod Checked
 pub mod Once

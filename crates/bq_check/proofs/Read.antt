@@ -1,11 +1,15 @@
 -- What was read, and bytes that are refused.
-use Rattle.std.proofs.Common.{◌≡◌, ℕ, ◌+◌, ◌<◌, ◌≤◌, ◌^◌, ℤ, pos, negsuc, ◌≤ℤ◌, List, [], ◌∷◌, ◌++◌, length, take, set, Option, Some, None, IfNone, SomeIff, Result, Ok, Err, refl, sym, ap, subst, ◌∙◌, arith, append_assoc, length-append}
+use Rattle.std.proofs.Common.{◌≡◌, ℕ, ◌+◌, ◌<◌, ◌≤◌, ◌^◌, ℤ, pos, negsuc, List, [], ◌∷◌, ◌++◌, length, take, set, Option, Some, None, IfNone, SomeIff, Result, Ok, Err, refl, sym, ap, subst, ◌∙◌, arith, append_assoc}
 use Rattle.std.specs.Prelude.{IfOk, IfErr, MatchResult}
 use Rattle.std.proofs.lemmas.List.{append-nil, take_more_set, take_all, length-take}
 use Rattle.std.proofs.lemmas.Int.{ints}
 use Rattle.std.specs.List.{flat_map, AllByRecursion}
 use Rattle.std.specs.Int.{w32, cast_unsigned}
 use mir.Val.{to_z, of_z}
+use Rattle.spelling.specs.Numbers.{number_bytes}
+use Rattle.spelling.specs.Codes.{BeginsNone}
+use Rattle.spelling.proofs.Codes.{one_byte, number_front, flat_map_push, all_push, stops, AreCounted, ReadSome, read_none, read_more, read_all, too_few, no_first, no_second, no_both}
+use Rattle.spelling.proofs.Codes as counts
 use Rattle.bq_range.specs.Interval.{Interval, IsInterval, between}
 use Rattle.bq_state.specs.Offsets.{Span, IsSpan}
 use Rattle.bq_state.specs.declared.kind.Kind.{Kind}
@@ -16,9 +20,8 @@ use Rattle.bq_check.specs.declared.fault.NotesFault.{NotesFault}
 use Rattle.bq_check.specs.declared.fault.NotesFault.TheVariants.{NoteForm, OutOfMemory}
 use Rattle.bq_check.specs.declared.form.NotesForm.{NotesForm}
 use Rattle.bq_check.specs.declared.form.NotesForm.TheVariants.{Second}
-use Rattle.bq_check.specs.Spelling.{short_bytes, long_bytes, range_bytes, offset_bytes, span_bytes, kind_bytes, kinds_bytes, lengths_bytes, state_bytes, note_bytes, notes_bytes, TellsLengths, IsKind, IsKinds, HasLengths, IsState, IsNote, IsNotes, BeginsNone}
-use Rattle.bq_check.proofs.Codes.{flat_map_push, all_push, stops}
-use Rattle.bq_check.proofs.Fields.{length-short, length-long, short_front, long_front, kind_is_code, lengths_are_code, note_is_code, notes_are_code, one_byte, counted, headed, AreLimited, are_limited, offset_small}
+use Rattle.bq_check.specs.Spelling.{range_bytes, span_bytes, kind_bytes, kinds_bytes, lengths_bytes, state_bytes, note_bytes, notes_bytes, TellsLengths, IsKind, IsKinds, HasLengths, IsState, IsNote, IsNotes}
+use Rattle.bq_check.proofs.Fields.{IsOffset, are_offsets, byte_bytes, IsAny, lengths_parts, state_parts, kind_is_code, note_is_code, are_counted, notes_are_code}
 
 pub if_none : {A P : Type 0} (o : Option A) → P → IfNone o P
 if_none None p = p
@@ -28,80 +31,40 @@ pub if_not : {A P Q : Type 0} (o : Option A) (v : A) → SomeIff o P v → ((P �
 if_not None v h f = f h
 if_not (Some a) v h f = tt
 
--- ---- ranges and offsets
-
-pub no_range_short : (bytes : List ℕ) → length bytes < 16 → BeginsNone range_bytes IsInterval bytes
-no_range_short bytes short = record {
-  none = λ a more l e. omega (arith, short, ap length e, length-append (range_bytes a) more, length-append (long_bytes a.lo) (long_bytes a.hi), length-long a.lo, length-long a.hi);
-}
-
-pub no_range_cut : (bytes rest : List ℕ) (lo : ℕ) → bytes ≡ long_bytes lo ++ rest → length rest < 8 → BeginsNone range_bytes IsInterval bytes
-no_range_cut bytes rest lo parts short = no_range_short bytes (omega (arith, short, ap length parts, length-append (long_bytes lo) rest, length-long lo))
-
-pub no_range_order : (bytes middle rest : List ℕ) (lo hi : ℕ) → lo < 2 ^ 64 → hi < 2 ^ 64 → bytes ≡ long_bytes lo ++ middle → middle ≡ long_bytes hi ++ rest → (lo ≤ hi → ⊥) → BeginsNone range_bytes IsInterval bytes
-no_range_order bytes middle rest lo hi l h first second apart = record { none = λ a more is e. none a more is e }
-  where
-    none : (a : Interval) (more : List ℕ) → IsInterval a → bytes ≡ range_bytes a ++ more → ⊥
-    none a more is e =
-        let s = long_front lo a.lo middle (long_bytes a.hi ++ more) l (omega (arith, is.ordered, is.words)) (sym first ∙ e ∙ append_assoc (long_bytes a.lo) (long_bytes a.hi) more) in
-        let t = long_front hi a.hi rest more h is.words (sym second ∙ s.1) in
-        apart (omega (arith, is.ordered, s.0, t.0))
-
-pub no_span_short : (bytes : List ℕ) → length bytes < 8 → BeginsNone span_bytes IsSpan bytes
-no_span_short bytes short = record {
-  none = λ a more l e. omega (arith, short, ap length e, length-append (span_bytes a) more, length-append (offset_bytes a.lo) (offset_bytes a.hi), length-short (cast_unsigned w32 a.lo), length-short (cast_unsigned w32 a.hi));
-}
-
-pub no_span_cut : (bytes rest : List ℕ) (lo : ℕ) → bytes ≡ short_bytes lo ++ rest → length rest < 4 → BeginsNone span_bytes IsSpan bytes
-no_span_cut bytes rest lo parts short = no_span_short bytes (omega (arith, short, ap length parts, length-append (short_bytes lo) rest, length-short lo))
+-- ---- offsets
 
 -- a number that was read, cast to a signed one
-same_offset : (a : ℤ) → negsuc 65535 ≤ℤ a → a ≤ℤ pos 65536 → to_z w32 (cast_unsigned w32 a) ≡ a
-same_offset (pos k) low high = omega (arith, ints, high)
-same_offset (negsuc k) low high = omega (arith, ints, low)
+same_offset : (a : ℤ) → IsOffset a → to_z w32 (cast_unsigned w32 a) ≡ a
+same_offset (pos k) h = omega (arith, ints, h.1)
+same_offset (negsuc k) h = omega (arith, ints, h.0)
 
-read_offset : (a x : ℤ) (m : ℕ) → negsuc 65535 ≤ℤ a → a ≤ℤ pos 65536 → x ≡ to_z w32 m → m ≡ cast_unsigned w32 a → to_z w32 (of_z w32 x) ≡ a
-read_offset a x m low high is e =
-    let x_is : x ≡ a = is ∙ ap (to_z w32) e ∙ same_offset a low high in
-    ap (λ z. to_z w32 (of_z w32 z)) x_is ∙ same_offset a low high
+read_offset : (a x : ℤ) (m : ℕ) → IsOffset a → x ≡ to_z w32 m → cast_unsigned w32 a ≡ m → to_z w32 (of_z w32 x) ≡ a
+read_offset a x m h is e = ap (λ z. to_z w32 (of_z w32 z)) (is ∙ ap (to_z w32) (sym e) ∙ same_offset a h) ∙ same_offset a h
 
-pub no_span_order : (bytes middle rest : List ℕ) (m n : ℕ) (x y : ℤ) → m < 2 ^ 32 → n < 2 ^ 32 → bytes ≡ short_bytes m ++ middle → middle ≡ short_bytes n ++ rest → x ≡ to_z w32 m → y ≡ to_z w32 n → (IsSpan (record { lo = to_z w32 (of_z w32 x); hi = to_z w32 (of_z w32 y) }) → ⊥) → BeginsNone span_bytes IsSpan bytes
-no_span_order bytes middle rest m n x y l h first second lo hi apart = record { none = λ a more is e. none a more is (are_limited a is) e }
-  where
-    none : (a : Span) (more : List ℕ) → IsSpan a → AreLimited a → bytes ≡ span_bytes a ++ more → ⊥
-    none a more is limited e =
-        let s = short_front m (cast_unsigned w32 a.lo) middle (offset_bytes a.hi ++ more) l (offset_small a.lo limited.lo_low limited.lo_high) (sym first ∙ e ∙ append_assoc (offset_bytes a.lo) (offset_bytes a.hi) more) in
-        let t = short_front n (cast_unsigned w32 a.hi) rest more h (offset_small a.hi limited.hi_low limited.hi_high) (sym second ∙ s.1) in
-        let lo_is = read_offset a.lo x m limited.lo_low limited.lo_high lo s.0 in
-        let hi_is = read_offset a.hi y n limited.hi_low limited.hi_high hi t.0 in
-        let low : negsuc 65535 ≤ℤ to_z w32 (of_z w32 x) = rw lo_is is.low in
-        let ordered : to_z w32 (of_z w32 x) ≤ℤ to_z w32 (of_z w32 y) = rw (lo_is, hi_is) is.ordered in
-        let high : to_z w32 (of_z w32 y) ≤ℤ pos 65536 = rw hi_is is.high in
-        apart (record { low = low; ordered = ordered; high = high })
+-- two numbers that were read as offsets, and are those of no span
+pub no_span : (x y : ℤ) (m n : ℕ) → x ≡ to_z w32 m → y ≡ to_z w32 n → (IsSpan (record { lo = to_z w32 (of_z w32 x); hi = to_z w32 (of_z w32 y) }) → ⊥) → (a : Span) → IsSpan a → cast_unsigned w32 a.lo ≡ m → cast_unsigned w32 a.hi ≡ n → ⊥
+no_span x y m n lo hi apart a is lo_is hi_is =
+    let offsets = are_offsets a is in
+    let same_lo = sym (read_offset a.lo x m offsets.0 lo lo_is) in
+    let same_hi = sym (read_offset a.hi y n offsets.1 hi hi_is) in
+    let read : Span = record { lo = to_z w32 (of_z w32 x); hi = to_z w32 (of_z w32 y) } in
+    let same : a ≡ read = λ i. record { lo = same_lo i; hi = same_hi i } in
+    apart (subst IsSpan same is)
 
 -- ---- lengths
 
-pub no_lengths_left : (bytes : List ℕ) → bytes ≡ [] → BeginsNone (lengths_bytes Second) (HasLengths Second) bytes
-no_lengths_left bytes empty = record { none = λ l more is e. let bad : [] ≡ l.lo ∷ (l.hi ∷ more) = sym empty ∙ e in cc }
+no_byte : (bytes : List ℕ) → bytes ≡ [] → BeginsNone byte_bytes IsAny bytes
+no_byte bytes empty = record { none = λ b more p e. let bad : [] ≡ b ∷ more = sym empty ∙ e in cc }
 
-pub no_lengths_cut : (bytes rest : List ℕ) (least : ℕ) → bytes ≡ least ∷ rest → rest ≡ [] → BeginsNone (lengths_bytes Second) (HasLengths Second) bytes
-no_lengths_cut bytes rest least parts empty = record {
-  none = λ l more is e.
-      let t = one_byte least l.lo rest (l.hi ∷ more) (sym parts ∙ e) in
-      let bad : [] ≡ l.hi ∷ more = sym empty ∙ t.1 in cc;
-}
+pub no_least : (bytes : List ℕ) → bytes ≡ [] → BeginsNone (lengths_bytes Second) (HasLengths Second) bytes
+no_least bytes empty = no_first lengths_parts bytes (no_byte bytes empty)
+
+pub no_most : (bytes middle : List ℕ) (least : ℕ) → bytes ≡ least ∷ middle → middle ≡ [] → BeginsNone (lengths_bytes Second) (HasLengths Second) bytes
+no_most bytes middle least front empty = no_second lengths_parts least bytes middle tt front (no_byte middle empty)
 
 pub no_lengths : (bytes middle rest : List ℕ) (least most : ℕ) → bytes ≡ least ∷ middle → middle ≡ most ∷ rest → (AreLengths (between least most) → ⊥) → BeginsNone (lengths_bytes Second) (HasLengths Second) bytes
-no_lengths bytes middle rest least most first second apart = record { none = λ l more is e. none l more is e }
-  where
-    none : (l : Interval) (more : List ℕ) → AreLengths l → bytes ≡ l.lo ∷ (l.hi ∷ more) → ⊥
-    none l more is e =
-        let s = one_byte least l.lo middle (l.hi ∷ more) (sym first ∙ e) in
-        let t = one_byte most l.hi rest more (sym second ∙ s.1) in
-        let low = is.least in
-        let ordered = is.ordered in
-        let high = is.most in
-        apart (record { least = omega (arith, s.0, low); ordered = omega (arith, s.0, t.0, ordered); most = omega (arith, t.0, high) })
+no_lengths bytes middle rest least most front behind apart =
+    no_both lengths_parts least most bytes middle rest tt tt front behind (λ l is lo_is hi_is. apart (subst AreLengths (λ i. between (lo_is i) (hi_is i)) is))
 
 module _ (form : NotesForm) where
   -- ---- kinds
@@ -163,17 +126,13 @@ module _ (form : NotesForm) where
 
   -- bytes that begin with no lengths, and bytes whose lengths are followed by no kinds
   pub no_state_left : (bytes : List ℕ) → BeginsNone (lengths_bytes form) (HasLengths form) bytes → BeginsNone (state_bytes form) (IsState form) bytes
-  no_state_left bytes left = record { none = λ s more is e. left.none s.lengths (kinds_bytes s.kinds ++ more) is.lengths (e ∙ headed form s more) }
+  no_state_left bytes left = no_first (state_parts form) bytes left
 
-  pub no_state : (bytes rest : List ℕ) (l : Interval) → HasLengths form l → bytes ≡ lengths_bytes form l ++ rest → BeginsNone kinds_bytes (IsKinds form) rest → BeginsNone (state_bytes form) (IsState form) bytes
-  no_state bytes rest l legal parts left = record {
-    none = λ s more is e.
-        let t = (lengths_are_code form).one l s.lengths rest (kinds_bytes s.kinds ++ more) legal is.lengths (sym parts ∙ e ∙ headed form s more) in
-        left.none s.kinds more is.kinds t.1;
-  }
+  pub no_state : (bytes middle : List ℕ) (l : Interval) → HasLengths form l → bytes ≡ lengths_bytes form l ++ middle → BeginsNone kinds_bytes (IsKinds form) middle → BeginsNone (state_bytes form) (IsState form) bytes
+  no_state bytes middle l legal front left = no_second (state_parts form) l bytes middle legal front left
 
   pub state_read : (bytes middle rest : List ℕ) (s : StateKinds) → bytes ≡ lengths_bytes form s.lengths ++ middle → middle ≡ kinds_bytes s.kinds ++ rest → bytes ≡ state_bytes form s ++ rest
-  state_read bytes middle rest s first second = first ∙ ap (λ l. lengths_bytes form s.lengths ++ l) second ∙ sym (headed form s rest)
+  state_read bytes middle rest s front behind = front ∙ ap (λ l. lengths_bytes form s.lengths ++ l) behind ∙ sym (append_assoc (lengths_bytes form s.lengths) (kinds_bytes s.kinds) rest)
 
   -- ---- notes
 
@@ -194,40 +153,34 @@ module _ (form : NotesForm) where
           (first t.0).none s more l t.1
 
   -- some of so many notes were read, and rest is what is left of the bytes
-  pub record ReadNotes (bytes : List ℕ) (count : ℕ) (notes : List (Option StateKinds)) (rest : List ℕ) : Type 0 where
-    pub legal : AllByRecursion (IsNote form) notes
-    pub parts : bytes ≡ short_bytes count ++ (flat_map (note_bytes form) notes ++ rest)
+  abbrev pub ReadNotes : List ℕ → ℕ → List (Option StateKinds) → List ℕ → Type 0
+  ReadNotes = ReadSome (note_bytes form) (IsNote form) (note_is_code form) 4
 
-  pub notes_none : (bytes : List ℕ) (count : ℕ) (rest : List ℕ) → bytes ≡ short_bytes count ++ rest → ReadNotes bytes count [] rest
-  notes_none bytes count rest parts = record { legal = tt; parts = parts }
+  pub notes_none : (bytes : List ℕ) (count : ℕ) (rest : List ℕ) → bytes ≡ number_bytes 4 count ++ rest → ReadNotes bytes count [] rest
+  notes_none = read_none (note_bytes form) (IsNote form) (note_is_code form) 4
 
   pub notes_more : (bytes : List ℕ) (count : ℕ) (notes : List (Option StateKinds)) (rest after : List ℕ) (o : Option StateKinds) → ReadNotes bytes count notes rest → IsNote form o → rest ≡ note_bytes form o ++ after → ReadNotes bytes count (notes ++ o ∷ []) after
-  notes_more bytes count notes rest after o read is parts = record {
-    legal = all_push (IsNote form) notes o read.legal is;
-    parts = read.parts ∙ ap (λ l. short_bytes count ++ l) (ap (λ l. flat_map (note_bytes form) notes ++ l) parts ∙ sym (append_assoc (flat_map (note_bytes form) notes) (note_bytes form o) after) ∙ ap (λ l. l ++ after) (sym (flat_map_push (note_bytes form) notes o)));
-  }
+  notes_more = read_more (note_bytes form) (IsNote form) (note_is_code form) 4
 
   pub notes_all : (bytes : List ℕ) (count : ℕ) (notes : List (Option StateKinds)) (rest : List ℕ) → ReadNotes bytes count notes rest → length notes ≡ count → bytes ≡ notes_bytes form notes ++ rest
-  notes_all bytes count notes rest read all = read.parts ∙ ap (λ n. short_bytes n ++ (flat_map (note_bytes form) notes ++ rest)) (sym all) ∙ sym (counted form notes rest)
+  notes_all = read_all (note_bytes form) (IsNote form) (note_is_code form) 4
+
+  unread : (bytes : List ℕ) → BeginsNone (notes_bytes form) (AreCounted (note_bytes form) (IsNote form) (note_is_code form) 4) bytes → BeginsNone (notes_bytes form) (IsNotes form) bytes
+  unread bytes left = record { none = λ n more is e. left.none n more (are_counted form n is) e }
 
   pub no_count : (bytes : List ℕ) → length bytes < 4 → BeginsNone (notes_bytes form) (IsNotes form) bytes
-  no_count bytes short = record { none = λ n more is e. omega (arith, short, ap length (e ∙ counted form n more), length-append (short_bytes (length n)) (flat_map (note_bytes form) n ++ more), length-short (length n)) }
+  no_count bytes short = unread bytes (counts.no_count (note_bytes form) (IsNote form) (note_is_code form) 4 bytes short)
 
-  pub many : (bytes rest : List ℕ) (count : ℕ) → count < 2 ^ 32 → bytes ≡ short_bytes count ++ rest → 4096 < count → BeginsNone (notes_bytes form) (IsNotes form) bytes
+  pub many : (bytes rest : List ℕ) (count : ℕ) → count < 2 ^ 32 → bytes ≡ number_bytes 4 count ++ rest → 4096 < count → BeginsNone (notes_bytes form) (IsNotes form) bytes
   many bytes rest count fits parts above = record { none = λ n more is e. none n more is e }
     where
       none : (n : List (Option StateKinds)) (more : List ℕ) → IsNotes form n → bytes ≡ notes_bytes form n ++ more → ⊥
       none n more is e =
-          let s = short_front count (length n) rest (flat_map (note_bytes form) n ++ more) fits (omega (arith, is.few)) (sym parts ∙ e ∙ counted form n more) in
+          let s = number_front 4 count (length n) rest (flat_map (note_bytes form) n ++ more) fits (omega (arith, is.few)) (sym parts ∙ e ∙ append_assoc (number_bytes 4 (length n)) (flat_map (note_bytes form) n) more) in
           omega (arith, s.0, is.few, above)
 
   pub no_notes : (bytes : List ℕ) (count : ℕ) (notes : List (Option StateKinds)) (rest : List ℕ) → count < 2 ^ 32 → ReadNotes bytes count notes rest → length notes < count → BeginsNone (note_bytes form) (IsNote form) rest → BeginsNone (notes_bytes form) (IsNotes form) bytes
-  no_notes bytes count notes rest fits read lt left = record { none = λ n more is e. none n more is e }
-    where
-      none : (n : List (Option StateKinds)) (more : List ℕ) → IsNotes form n → bytes ≡ notes_bytes form n ++ more → ⊥
-      none n more is e =
-          let s = short_front count (length n) (flat_map (note_bytes form) notes ++ rest) (flat_map (note_bytes form) n ++ more) fits (omega (arith, is.few)) (sym read.parts ∙ e ∙ counted form n more) in
-          stops (note_bytes form) (IsNote form) (note_is_code form) notes n rest more left read.legal is.each (omega (arith, lt, s.0)) s.1
+  no_notes bytes count notes rest fits read lt left = unread bytes (too_few (note_bytes form) (IsNote form) (note_is_code form) 4 bytes count notes rest fits read lt left)
 
   -- ---- whole bytes
 

@@ -2,7 +2,7 @@
 use Rattle.std.proofs.Common.{◌≡◌, ℕ, ◌+◌, ◌<◌, ◌≤◌, List, [], ◌∷◌, ◌++◌, length, take, get_or, sym, ap, subst, ◌∙◌}
 use Rattle.std.specs.List.{AllByRecursion}
 use Rattle.std.proofs.lemmas.List.{take_more, take_all}
-use Rattle.bq_check.proofs.Codes.{all_push}
+use Rattle.spelling.proofs.Codes.{all_push}
 
 -- it is known of the first n values
 pub record Seen {A : Type 0} (P : A → Type 0) (xs : List A) (n : ℕ) : Type 0 where

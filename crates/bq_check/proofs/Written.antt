@@ -2,7 +2,7 @@
 use Rattle.std.proofs.Common.{◌≡◌, ℕ, ◌+◌, ◌<◌, ◌≤◌, List, [], ◌∷◌, ◌++◌, length, take, get_or, sym, ap, ◌∙◌, append_assoc}
 use Rattle.std.specs.List.{flat_map}
 use Rattle.std.proofs.lemmas.List.{append-nil, take_more, take_all}
-use Rattle.bq_check.proofs.Codes.{flat_map_push}
+use Rattle.spelling.proofs.Codes.{flat_map_push}
 
 -- the first n of the values were written behind what stood there
 pub record Written {A : Type 0} (bytes_of : A → List ℕ) (before : List ℕ) (xs : List A) (n : ℕ) (out : List ℕ) : Type 0 where

@@ -1,5 +1,4 @@
 -- What is true of each certificate that the checker gives.
-use Rattle.std.specs.Prelude.{List}
 use Rattle.bq_insn.specs.Slots.{IsText}
 use Rattle.bq_flow.specs.Paths.{IsLongest}
 use Rattle.bq_state.specs.Kinds.{AreLengths}

@@ -2,7 +2,8 @@
 -- second form behind the lengths that records may have. The first form is for records of 64 bytes alone.
 use Rattle.std.specs.Prelude.{◌≡◌, ℕ, ◌≤◌, ℤ, List, [], ◌∷◌, ◌++◌, length, Option, Some, None}
 use Rattle.std.specs.List.{flat_map, AllByRecursion}
-use Rattle.std.specs.Int.{w32, w64, cast_unsigned, to_le_bytes}
+use Rattle.std.specs.Int.{w32, cast_unsigned}
+use Rattle.spelling.specs.Numbers.{number_bytes}
 use Rattle.bq_range.specs.Interval.{Interval, IsInterval}
 use Rattle.bq_state.specs.Offsets.{Span, IsSpan}
 use Rattle.bq_state.specs.declared.kind.Kind.{Kind}
@@ -15,18 +16,12 @@ use Rattle.bq_check.specs.declared.form.NotesForm.TheVariants.{First, Second}
 
 -- ---- the bytes, those of a number from the lowest
 
-unfoldable pub short_bytes : ℕ → List ℕ
-short_bytes n = to_le_bytes w32 n
-
-unfoldable pub long_bytes : ℕ → List ℕ
-long_bytes n = to_le_bytes w64 n
-
 abbrev pub range_bytes : Interval → List ℕ
-range_bytes a = long_bytes a.lo ++ long_bytes a.hi
+range_bytes a = number_bytes 8 a.lo ++ number_bytes 8 a.hi
 
 -- offsets in two's complement
 abbrev pub offset_bytes : ℤ → List ℕ
-offset_bytes z = short_bytes (cast_unsigned w32 z)
+offset_bytes z = number_bytes 4 (cast_unsigned w32 z)
 
 abbrev pub span_bytes : Span → List ℕ
 span_bytes s = offset_bytes s.lo ++ offset_bytes s.hi
@@ -57,7 +52,7 @@ note_bytes form None = 0 ∷ []
 note_bytes form (Some state) = 1 ∷ state_bytes form state
 
 abbrev pub notes_bytes : NotesForm → List (Option StateKinds) → List ℕ
-notes_bytes form notes = short_bytes (length notes) ++ flat_map (note_bytes form) notes
+notes_bytes form notes = number_bytes 4 (length notes) ++ flat_map (note_bytes form) notes
 
 -- ---- the notes that have bytes
 
@@ -93,9 +88,3 @@ IsNote form (Some state) = IsState form state
 pub record IsNotes (form : NotesForm) (notes : List (Option StateKinds)) : Type 0 where
   pub few : length notes ≤ 4096
   pub each : AllByRecursion (IsNote form) notes
-
--- ---- bytes that are no notes
-
--- the bytes do not begin with those of a value
-pub record BeginsNone {A : Type 0} (bytes_of : A → List ℕ) (Legal : A → Type 0) (bytes : List ℕ) : Type 0 where
-  pub none : (a : A) (more : List ℕ) → Legal a → bytes ≡ bytes_of a ++ more → ⊥

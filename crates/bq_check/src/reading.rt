@@ -1,11 +1,12 @@
 //! Bytes to notes.
 
-ghost use Rattle.std.specs.Prelude.{◌≡◌, ◌<◌, ◌^◌, ◌++◌, ◌∷◌, [], List, Option, length, IfSome, IfNone, IfOk, IfErr, MatchResult};
+ghost use Rattle.std.specs.Prelude.{◌≡◌, ◌++◌, List, Option, IfSome, IfNone, IfOk, IfErr, MatchResult};
 ghost use Rattle.bq_range.specs.Interval.{IsInterval};
 ghost use Rattle.bq_state.specs.Offsets.{IsSpan};
 ghost use Rattle.bq_state.specs.declared.kind.Kind.{Kind};
 ghost use Rattle.bq_state.specs.Kinds.{StateKinds};
-ghost use Rattle.bq_check.specs.Spelling.{short_bytes, long_bytes, range_bytes, span_bytes, kind_bytes, kinds_bytes, lengths_bytes, note_bytes, state_bytes, notes_bytes, IsKind, IsKinds, HasLengths, IsState, IsNote, IsNotes, BeginsNone};
+ghost use Rattle.spelling.specs.Codes.{BeginsNone};
+ghost use Rattle.bq_check.specs.Spelling.{range_bytes, span_bytes, kind_bytes, kinds_bytes, lengths_bytes, note_bytes, state_bytes, notes_bytes, IsKind, IsKinds, HasLengths, IsState, IsNote, IsNotes};
 
 use crate::fault::NotesFault;
 use crate::form::NotesForm;
@@ -13,6 +14,7 @@ use crate::notes::Notes;
 use bq_insn::MOST_UNITS;
 use bq_range::Range;
 use bq_state::{Bounds, Kind, Offsets, Region, State};
+use spelling::{take_byte, take_u32, take_u64};
 use std::alloc::Global;
 
 /// What is left of the bytes of notes. After a refusal it is not used again.
@@ -22,52 +24,13 @@ struct Reader<'a> {
 }
 
 impl<'a> Reader<'a> {
-    fn byte(&mut self) -> Option<u8>
-        ensures parts { IfSome result (λ b. self.old.rest.now ≡ b ∷ self.new.rest.now) }
-        ensures none { IfNone result (self.old.rest.now ≡ []) }
-    {
-        let [byte, rest @ ..] = self.rest else {
-            return None;
-        };
-        self.rest = rest;
-        Some(*byte)
-    }
-
-    /// A number of four bytes.
-    #[tactic(auto, unfolding(crate::specs::Spelling::short_bytes))]
-    fn short_number(&mut self) -> Option<u32>
-        ensures fits { IfSome result (λ n. n < 2 ^ 32) }
-        ensures parts { IfSome result (λ n. self.old.rest.now ≡ short_bytes n ++ self.new.rest.now) }
-        ensures none { IfNone result (length self.old.rest.now < 4) }
-    {
-        let [a, b, c, d, rest @ ..] = self.rest else {
-            return None;
-        };
-        self.rest = rest;
-        Some(u32::from_le_bytes([*a, *b, *c, *d]))
-    }
-
-    /// A number of eight bytes.
-    #[tactic(auto, unfolding(crate::specs::Spelling::long_bytes))]
-    fn long_number(&mut self) -> Option<u64>
-        ensures fits { IfSome result (λ n. n < 2 ^ 64) }
-        ensures parts { IfSome result (λ n. self.old.rest.now ≡ long_bytes n ++ self.new.rest.now) }
-        ensures none { IfNone result (length self.old.rest.now < 8) }
-    {
-        let [a, b, c, d, e, f, g, h, rest @ ..] = self.rest else {
-            return None;
-        };
-        self.rest = rest;
-        Some(u64::from_le_bytes([*a, *b, *c, *d, *e, *f, *g, *h]))
-    }
-
     fn range(&mut self) -> Option<Range>
         ensures legal { IfSome result IsInterval }
         ensures parts { IfSome result (λ r. self.old.rest.now ≡ range_bytes r ++ self.new.rest.now) }
         ensures none { IfNone result (BeginsNone range_bytes IsInterval self.old.rest.now) }
     {
-        let lo = self.long_number()?;
-        let hi = self.long_number()?;
+        let lo = take_u64(&mut self.rest)?;
+        let hi = take_u64(&mut self.rest)?;
         Range::new(lo, hi)
     }
 
@@ -76,8 +39,8 @@ impl<'a> Reader<'a> {
         ensures parts { IfSome result (λ s. self.old.rest.now ≡ span_bytes s ++ self.new.rest.now) }
         ensures none { IfNone result (BeginsNone span_bytes IsSpan self.old.rest.now) }
     {
-        let lo = self.short_number()?.cast_signed();
-        let hi = self.short_number()?.cast_signed();
+        let lo = take_u32(&mut self.rest)?.cast_signed();
+        let hi = take_u32(&mut self.rest)?.cast_signed();
         Offsets::new(lo, hi)
     }
 
@@ -86,7 +49,7 @@ impl<'a> Reader<'a> {
         ensures parts { IfSome result (λ k. self.old.rest.now ≡ kind_bytes k ++ self.new.rest.now) }
         ensures none { IfNone result (BeginsNone kind_bytes (IsKind form) self.old.rest.now) }
     {
-        match self.byte()? {
+        match take_byte(&mut self.rest)? {
             0 => Some(Kind::Unset),
             1 => Some(Kind::Number(self.range()?)),
             2 => Some(Kind::Pointer(Region::Frame, self.offsets()?)),
@@ -124,8 +87,8 @@ impl<'a> Reader<'a> {
         match form {
             NotesForm::First => Some(Bounds::of_views()),
             NotesForm::Second => {
-                let least = self.byte()?;
-                let most = self.byte()?;
+                let least = take_byte(&mut self.rest)?;
+                let most = take_byte(&mut self.rest)?;
                 Bounds::new(least, most)
             }
         }
@@ -147,7 +110,7 @@ impl<'a> Reader<'a> {
         ensures parts { IfSome result (λ s. self.old.rest.now ≡ note_bytes form s ++ self.new.rest.now) }
         ensures none { IfNone result (BeginsNone (note_bytes form) (IsNote form) self.old.rest.now) }
     {
-        match self.byte()? {
+        match take_byte(&mut self.rest)? {
             0 => Some(None),
             1 => Some(Some(self.state(form)?)),
             _ => None,
@@ -159,7 +122,7 @@ impl<'a> Reader<'a> {
         ensures parts { IfOk result (λ n. self.old.rest.now ≡ notes_bytes form n ++ self.new.rest.now) }
         ensures fault { IfErr result (λ e. e ≡ NotesFault.NoteForm → BeginsNone (notes_bytes form) (IsNotes form) self.old.rest.now) }
     {
-        let Some(count) = self.short_number() else {
+        let Some(count) = take_u32(&mut self.rest) else {
             return Err(NotesFault::NoteForm);
         };
         if count as usize > MOST_UNITS {

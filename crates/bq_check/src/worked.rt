@@ -16,10 +16,11 @@ ghost use Rattle.bq_check.specs.declared.fault.CheckFault.TheVariants as fault;
 ghost use Rattle.bq_check.specs.declared.fault.NotesFault.TheVariants as notes;
 ghost use Rattle.bq_check.specs.declared.form.NotesForm.TheVariants.{First, Second};
 ghost use Rattle.bq_check.specs.Reasons.{reason, fault_unit, flow_refusal, notes_reason};
-ghost use Rattle.bq_check.specs.Spelling.{short_bytes, long_bytes, kind_bytes, note_bytes, notes_bytes};
+ghost use Rattle.spelling.specs.Numbers.{number_bytes};
+ghost use Rattle.bq_check.specs.Spelling.{kind_bytes, note_bytes, notes_bytes};
 
 /// What the definitions say at telling operands.
-#[tactic(auto, unfolding(crate::specs::Spelling::short_bytes, crate::specs::Spelling::long_bytes))]
+#[tactic(auto, unfolding(spelling::specs::Numbers::number_bytes))]
 pub fn worked()
     // The numbers of the faults, and the units that they name.
     ensures count { table.number (reason fault.WrongCount) ≡ 21 }
@@ -46,8 +47,8 @@ pub fn worked()
     ensures no_codes { IsLowered (insn.Exit ∷ []) [] → ⊥ }
 
     // The bytes of notes, those of a number from the lowest.
-    ensures short { short_bytes 258 ≡ 2 ∷ 1 ∷ 0 ∷ 0 ∷ [] }
-    ensures long { long_bytes 258 ≡ 2 ∷ 1 ∷ 0 ∷ 0 ∷ 0 ∷ 0 ∷ 0 ∷ 0 ∷ [] }
+    ensures short { number_bytes 4 258 ≡ 2 ∷ 1 ∷ 0 ∷ 0 ∷ [] }
+    ensures long { number_bytes 8 258 ≡ 2 ∷ 1 ∷ 0 ∷ 0 ∷ 0 ∷ 0 ∷ 0 ∷ 0 ∷ [] }
     ensures unset { kind_bytes kind.Unset ≡ 0 ∷ [] }
     ensures number { kind_bytes (kind.Number (between 5 258)) ≡ 1 ∷ 5 ∷ 0 ∷ 0 ∷ 0 ∷ 0 ∷ 0 ∷ 0 ∷ 0 ∷ 2 ∷ 1 ∷ 0 ∷ 0 ∷ 0 ∷ 0 ∷ 0 ∷ 0 ∷ [] }
     ensures frame { kind_bytes (kind.Pointer region.Frame (record { lo = negsuc 1; hi = pos 512 })) ≡ 2 ∷ 254 ∷ 255 ∷ 255 ∷ 255 ∷ 0 ∷ 2 ∷ 0 ∷ 0 ∷ [] }

@@ -3,43 +3,30 @@
 ghost use Rattle.std.specs.Prelude.{◌≡◌, ◌↔◌, ◌<◌, ◌^◌, ◌++◌, Err, IfOk, OnOk};
 ghost use Rattle.bq_state.specs.Kinds.{view_lengths};
 ghost use Rattle.bq_sound.specs.Passes.{AreSuited};
-ghost use Rattle.bq_check.specs.Spelling.{short_bytes, long_bytes, range_bytes, span_bytes, region_byte, kind_bytes, lengths_bytes, note_bytes, state_bytes, notes_bytes, IsNotes};
+ghost use Rattle.bq_check.specs.Spelling.{range_bytes, span_bytes, region_byte, kind_bytes, lengths_bytes, note_bytes, state_bytes, notes_bytes, IsNotes};
 
 use crate::fault::NotesFault;
 use crate::form::NotesForm;
 use crate::notes::Notes;
 use bq_range::Range;
 use bq_state::{Bounds, Kind, Offsets, Region, State};
+use spelling::{put_u32, put_u64};
 use std::alloc::{AllocError, Global};
 
 // After an error the vector may hold a part of what was to be written.
 
-#[tactic(auto, unfolding(crate::specs::Spelling::short_bytes))]
-fn push_short(out: &mut Vec<u8>, number: u32) -> Result<(), AllocError>
-    ensures { OnOk result (out.new.items ≡ out.old.items ++ short_bytes number) }
-{
-    out.extend_from_slice(&number.to_le_bytes())
-}
-
-#[tactic(auto, unfolding(crate::specs::Spelling::long_bytes))]
-fn push_long(out: &mut Vec<u8>, number: u64) -> Result<(), AllocError>
-    ensures { OnOk result (out.new.items ≡ out.old.items ++ long_bytes number) }
-{
-    out.extend_from_slice(&number.to_le_bytes())
-}
-
 fn push_range(out: &mut Vec<u8>, range: Range) -> Result<(), AllocError>
     ensures { OnOk result (out.new.items ≡ out.old.items ++ range_bytes range) }
 {
-    push_long(out, range.lo())?;
-    push_long(out, range.hi())
+    put_u64(out, range.lo())?;
+    put_u64(out, range.hi())
 }
 
 fn push_offsets(out: &mut Vec<u8>, offsets: Offsets) -> Result<(), AllocError>
     ensures { OnOk result (out.new.items ≡ out.old.items ++ span_bytes offsets) }
 {
-    push_short(out, offsets.lo().cast_unsigned())?;
-    push_short(out, offsets.hi().cast_unsigned())
+    put_u32(out, offsets.lo().cast_unsigned())?;
+    put_u32(out, offsets.hi().cast_unsigned())
 }
 
 fn region_byte(region: Region) -> u8
@@ -108,7 +95,7 @@ impl Notes {
         ensures { IfOk result (λ bytes. bytes.items ≡ notes_bytes form self.now) }
     {
         let mut out = Vec::new(alloc);
-        push_short(&mut out, self.states.len() as u32)?;
+        put_u32(&mut out, self.states.len() as u32)?;
         for note in &self.states {
             push_note(&mut out, form, note)?;
         }

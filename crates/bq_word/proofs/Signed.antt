@@ -17,18 +17,6 @@ chosen : (t : Bool) (x y z : ℤ) → y ≡ z → cond t x y ≡ sel t x z
 chosen true x y z e = refl
 chosen false x y z e = e
 
-signed_is64 : (a : ℕ) → a < 2 ^ 64 → signed 64 a ≡ cast_signed w64 a
-signed_is64 a h =
-    let m : a % 2 ^ 64 ≡ a = mod-eq_of_lt h in
-    let e : 2 ^ 64 - 1 - a ≡ 2 ^ 64 - suc a = omega arith in
-    rw m (chosen (ltb a (2 ^ 63)) (pos a) (negsuc (2 ^ 64 - 1 - a)) (negsuc (2 ^ 64 - suc a)) (ap negsuc e))
-
-signed_is32 : (a : ℕ) → a < 2 ^ 32 → signed 32 a ≡ cast_signed w32 a
-signed_is32 a h =
-    let m : a % 2 ^ 32 ≡ a = mod-eq_of_lt h in
-    let e : 2 ^ 32 - 1 - a ≡ 2 ^ 32 - suc a = omega arith in
-    rw m (chosen (ltb a (2 ^ 31)) (pos a) (negsuc (2 ^ 32 - 1 - a)) (negsuc (2 ^ 32 - suc a)) (ap negsuc e))
-
 -- a number is its own bits where it is not far from 0
 wrapped : (w : Width) (z : ℤ) → mag z < 2 ^ bits w → cast_unsigned w z ≡ modulo (bits w) z
 wrapped w (pos n) h = sym (mod-eq_of_lt h)
@@ -47,39 +35,6 @@ mag_quotient (pos a) (negsuc b) m h = omega (arith, div-le_self a (suc b), mag_n
 mag_quotient (negsuc a) (pos b) m h = omega (arith, div-le_self (suc a) b, mag_negative (suc a / b))
 mag_quotient (negsuc a) (negsuc b) m h = omega (arith, div-le_self (suc a) (suc b))
 
--- the quotient of two numbers, the first of which fits half of a width, computed and as it is defined
-quotient : (w : Width) (x y : ℤ) → 2 ^ hbits w < 2 ^ bits w → mag x < 2 ^ hbits w → cast_unsigned w (cast_signed w (cast_unsigned w (int_div x y))) ≡ modulo (bits w) (int_div x y)
-quotient w x y h l =
-    let e = wrapped w (int_div x y) (omega (arith, mag_quotient x y (2 ^ hbits w) l)) in
-    of_z-to_z w (cast_unsigned w (int_div x y)) (subst (λ n. n < 2 ^ bits w) (sym e) (modulo_bound (bits w) (int_div x y))) ∙ e
-
-remainder : (w : Width) (x y : ℤ) → 2 ^ hbits w < 2 ^ bits w → mag x < 2 ^ hbits w → cast_unsigned w (int_rem x y) ≡ modulo (bits w) (int_rem x y)
-remainder w x y h l = wrapped w (int_rem x y) (omega (arith, mag_rem x y))
-
-quotient_of_bits64 : (a b : ℕ) → Fits w64 a → Fits w64 b → (b ≡ 0 → ⊥)
-    → cast_unsigned w64 (cast_signed w64 (cast_unsigned w64 (int_div (cast_signed w64 a) (cast_signed w64 b)))) ≡ cond (eqb (low 64 b) 0) 0 (modulo 64 (int_div (signed 64 a) (signed 64 b)))
-quotient_of_bits64 a b f g n =
-    rw (signed_is64 a f.fits, signed_is64 b g.fits)
-    (quotient w64 (cast_signed w64 a) (cast_signed w64 b) (omega arith) (sfits_to_z f).sfits ∙ sym (cond-false (eqb (low 64 b) 0) 0 _ (ap (λ (k : ℕ). eqb k 0) (mod-eq_of_lt g.fits) ∙ ne_eqb b 0 n)))
-
-quotient_of_bits32 : (a b : ℕ) → Fits w32 a → Fits w32 b → (b ≡ 0 → ⊥)
-    → cast_unsigned w32 (cast_signed w32 (cast_unsigned w32 (int_div (cast_signed w32 a) (cast_signed w32 b)))) ≡ cond (eqb (low 32 b) 0) 0 (modulo 32 (int_div (signed 32 a) (signed 32 b)))
-quotient_of_bits32 a b f g n =
-    rw (signed_is32 a f.fits, signed_is32 b g.fits)
-    (quotient w32 (cast_signed w32 a) (cast_signed w32 b) (omega arith) (sfits_to_z f).sfits ∙ sym (cond-false (eqb (low 32 b) 0) 0 _ (ap (λ (k : ℕ). eqb k 0) (mod-eq_of_lt g.fits) ∙ ne_eqb b 0 n)))
-
-remainder_of_bits64 : (a b : ℕ) → Fits w64 a → Fits w64 b → (b ≡ 0 → ⊥)
-    → cast_unsigned w64 (int_rem (cast_signed w64 a) (cast_signed w64 b)) ≡ cond (eqb (low 64 b) 0) (low 64 a) (modulo 64 (int_rem (signed 64 a) (signed 64 b)))
-remainder_of_bits64 a b f g n =
-    rw (signed_is64 a f.fits, signed_is64 b g.fits)
-    (remainder w64 (cast_signed w64 a) (cast_signed w64 b) (omega arith) (sfits_to_z f).sfits ∙ sym (cond-false (eqb (low 64 b) 0) _ _ (ap (λ (k : ℕ). eqb k 0) (mod-eq_of_lt g.fits) ∙ ne_eqb b 0 n)))
-
-remainder_of_bits32 : (a b : ℕ) → Fits w32 a → Fits w32 b → (b ≡ 0 → ⊥)
-    → cast_unsigned w32 (int_rem (cast_signed w32 a) (cast_signed w32 b)) ≡ cond (eqb (low 32 b) 0) (low 32 a) (modulo 32 (int_rem (signed 32 a) (signed 32 b)))
-remainder_of_bits32 a b f g n =
-    rw (signed_is32 a f.fits, signed_is32 b g.fits)
-    (remainder w32 (cast_signed w32 a) (cast_signed w32 b) (omega arith) (sfits_to_z f).sfits ∙ sym (cond-false (eqb (low 32 b) 0) _ _ (ap (λ (k : ℕ). eqb k 0) (mod-eq_of_lt g.fits) ∙ ne_eqb b 0 n)))
-
 -- numbers are passed by their bits
 abbrev passed : Width → ℤ → ℤ
 passed w z = cast_signed w (cast_unsigned w z)
@@ -90,32 +45,57 @@ passed_is w a x f e = ap (passed w) e ∙ ap (cast_signed w) (of_z-to_z w a f.fi
 returned : (w : Width) (q : ℤ) (r n : ℕ) → n < 2 ^ bits w → cast_unsigned w q ≡ n → r ≡ cast_unsigned w (passed w q) → r ≡ n
 returned w q r n h e is = is ∙ of_z-to_z w (cast_unsigned w q) (subst (λ k. k < 2 ^ bits w) (sym e) h) ∙ e
 
--- of the numbers x and y, which are those of the bits a and b
-pub quotient64 : (a b r : ℕ) (x y q : ℤ) → Fits w64 a → Fits w64 b → (b ≡ 0 → ⊥) → x ≡ cast_signed w64 a → y ≡ cast_signed w64 b
-    → q ≡ cast_signed w64 (cast_unsigned w64 (int_div (passed w64 x) (passed w64 y))) → r ≡ cast_unsigned w64 (passed w64 q) → r ≡ operation 64 SignedDiv a b
-quotient64 a b r x y q f g n ex ey eq er =
-    returned w64 q r (operation 64 SignedDiv a b) (operation_bound 64 SignedDiv a b)
-    (ap (cast_unsigned w64) eq ∙ ap (λ u. cast_unsigned w64 (cast_signed w64 (cast_unsigned w64 (int_div u (passed w64 y))))) (passed_is w64 a x f ex)
-    ∙ ap (λ v. cast_unsigned w64 (cast_signed w64 (cast_unsigned w64 (int_div (cast_signed w64 a) v)))) (passed_is w64 b y g ey) ∙ quotient_of_bits64 a b f g n) er
+-- r is what an operation leaves of a and b, where x and y are the numbers of these bits, and q what is computed of them
+abbrev pub IsQuotient : Width → Type 0
+IsQuotient w = (a b r : ℕ) (x y q : ℤ) → Fits w a → Fits w b → (b ≡ 0 → ⊥) → x ≡ cast_signed w a → y ≡ cast_signed w b
+    → q ≡ cast_signed w (cast_unsigned w (int_div (passed w x) (passed w y))) → r ≡ cast_unsigned w (passed w q) → r ≡ operation (bits w) SignedDiv a b
 
-pub remainder64 : (a b r : ℕ) (x y q : ℤ) → Fits w64 a → Fits w64 b → (b ≡ 0 → ⊥) → x ≡ cast_signed w64 a → y ≡ cast_signed w64 b
-    → q ≡ int_rem (passed w64 x) (passed w64 y) → r ≡ cast_unsigned w64 (passed w64 q) → r ≡ operation 64 SignedMod a b
-remainder64 a b r x y q f g n ex ey eq er =
-    returned w64 q r (operation 64 SignedMod a b) (operation_bound 64 SignedMod a b)
-    (ap (cast_unsigned w64) eq ∙ ap (λ u. cast_unsigned w64 (int_rem u (passed w64 y))) (passed_is w64 a x f ex)
-    ∙ ap (λ v. cast_unsigned w64 (int_rem (cast_signed w64 a) v)) (passed_is w64 b y g ey) ∙ remainder_of_bits64 a b f g n) er
+abbrev pub IsRemainder : Width → Type 0
+IsRemainder w = (a b r : ℕ) (x y q : ℤ) → Fits w a → Fits w b → (b ≡ 0 → ⊥) → x ≡ cast_signed w a → y ≡ cast_signed w b
+    → q ≡ int_rem (passed w x) (passed w y) → r ≡ cast_unsigned w (passed w q) → r ≡ operation (bits w) SignedMod a b
 
--- of the numbers x and y, which are those of the bits a and b
-pub quotient32 : (a b r : ℕ) (x y q : ℤ) → Fits w32 a → Fits w32 b → (b ≡ 0 → ⊥) → x ≡ cast_signed w32 a → y ≡ cast_signed w32 b
-    → q ≡ cast_signed w32 (cast_unsigned w32 (int_div (passed w32 x) (passed w32 y))) → r ≡ cast_unsigned w32 (passed w32 q) → r ≡ operation 32 SignedDiv a b
-quotient32 a b r x y q f g n ex ey eq er =
-    returned w32 q r (operation 32 SignedDiv a b) (operation_bound 32 SignedDiv a b)
-    (ap (cast_unsigned w32) eq ∙ ap (λ u. cast_unsigned w32 (cast_signed w32 (cast_unsigned w32 (int_div u (passed w32 y))))) (passed_is w32 a x f ex)
-    ∙ ap (λ v. cast_unsigned w32 (cast_signed w32 (cast_unsigned w32 (int_div (cast_signed w32 a) v)))) (passed_is w32 b y g ey) ∙ quotient_of_bits32 a b f g n) er
+module _ (w : Width) (half : bits w - 1 ≡ hbits w) (more : 2 ^ hbits w < 2 ^ bits w) where
+  signed_is : (a : ℕ) → a < 2 ^ bits w → signed (bits w) a ≡ cast_signed w a
+  signed_is a h =
+      let m : a % 2 ^ bits w ≡ a = mod-eq_of_lt h in
+      let e : 2 ^ bits w - 1 - a ≡ 2 ^ bits w - suc a = omega arith in
+      rw (m, half) (chosen (ltb a (2 ^ hbits w)) (pos a) (negsuc (2 ^ bits w - 1 - a)) (negsuc (2 ^ bits w - suc a)) (ap negsuc e))
 
-pub remainder32 : (a b r : ℕ) (x y q : ℤ) → Fits w32 a → Fits w32 b → (b ≡ 0 → ⊥) → x ≡ cast_signed w32 a → y ≡ cast_signed w32 b
-    → q ≡ int_rem (passed w32 x) (passed w32 y) → r ≡ cast_unsigned w32 (passed w32 q) → r ≡ operation 32 SignedMod a b
-remainder32 a b r x y q f g n ex ey eq er =
-    returned w32 q r (operation 32 SignedMod a b) (operation_bound 32 SignedMod a b)
-    (ap (cast_unsigned w32) eq ∙ ap (λ u. cast_unsigned w32 (int_rem u (passed w32 y))) (passed_is w32 a x f ex)
-    ∙ ap (λ v. cast_unsigned w32 (int_rem (cast_signed w32 a) v)) (passed_is w32 b y g ey) ∙ remainder_of_bits32 a b f g n) er
+  -- the quotient of two numbers, the first of which fits half of the width, computed and as it is defined
+  quotient : (x y : ℤ) → mag x < 2 ^ hbits w → cast_unsigned w (cast_signed w (cast_unsigned w (int_div x y))) ≡ modulo (bits w) (int_div x y)
+  quotient x y l =
+      let e = wrapped w (int_div x y) (omega (arith, more, mag_quotient x y (2 ^ hbits w) l)) in
+      of_z-to_z w (cast_unsigned w (int_div x y)) (subst (λ n. n < 2 ^ bits w) (sym e) (modulo_bound (bits w) (int_div x y))) ∙ e
+
+  remainder : (x y : ℤ) → mag x < 2 ^ hbits w → cast_unsigned w (int_rem x y) ≡ modulo (bits w) (int_rem x y)
+  remainder x y l = wrapped w (int_rem x y) (omega (arith, more, mag_rem x y))
+
+  -- a divisor that is not 0
+  some : (b k n : ℕ) → Fits w b → (b ≡ 0 → ⊥) → n ≡ cond (eqb (low (bits w) b) 0) k n
+  some b k n g not = sym (cond-false (eqb (low (bits w) b) 0) k n (ap (λ (m : ℕ). eqb m 0) (mod-eq_of_lt g.fits) ∙ ne_eqb b 0 not))
+
+  quotient_is : IsQuotient w
+  quotient_is a b r x y q f g n ex ey eq er =
+      returned w q r (operation (bits w) SignedDiv a b) (operation_bound (bits w) SignedDiv a b)
+      (ap (cast_unsigned w) eq ∙ ap (λ u. cast_unsigned w (cast_signed w (cast_unsigned w (int_div u (passed w y))))) (passed_is w a x f ex)
+      ∙ ap (λ v. cast_unsigned w (cast_signed w (cast_unsigned w (int_div (cast_signed w a) v)))) (passed_is w b y g ey)
+      ∙ rw (signed_is a f.fits, signed_is b g.fits) (quotient (cast_signed w a) (cast_signed w b) (sfits_to_z f).sfits ∙ some b 0 _ g n)) er
+
+  remainder_is : IsRemainder w
+  remainder_is a b r x y q f g n ex ey eq er =
+      returned w q r (operation (bits w) SignedMod a b) (operation_bound (bits w) SignedMod a b)
+      (ap (cast_unsigned w) eq ∙ ap (λ u. cast_unsigned w (int_rem u (passed w y))) (passed_is w a x f ex)
+      ∙ ap (λ v. cast_unsigned w (int_rem (cast_signed w a) v)) (passed_is w b y g ey)
+      ∙ rw (signed_is a f.fits, signed_is b g.fits) (remainder (cast_signed w a) (cast_signed w b) (sfits_to_z f).sfits ∙ some b (low (bits w) a) _ g n)) er
+
+pub quotient64 : IsQuotient w64
+quotient64 = quotient_is w64 refl (omega arith)
+
+pub remainder64 : IsRemainder w64
+remainder64 = remainder_is w64 refl (omega arith)
+
+pub quotient32 : IsQuotient w32
+quotient32 = quotient_is w32 refl (omega arith)
+
+pub remainder32 : IsRemainder w32
+remainder32 = remainder_is w32 refl (omega arith)

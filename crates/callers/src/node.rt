@@ -4,7 +4,7 @@ ghost use Rattle.std.specs.Prelude.{◌≡◌, [], ◌∷◌, IfOk};
 ghost use Rattle.std.specs.FinMap as fin;
 ghost use Rattle.sc_view.specs.Views.{put};
 ghost use Rattle.sc_msg.specs.declared.message.Body.TheVariants.{Store};
-ghost use Rattle.sc_node.specs.Nodes.{message_from};
+ghost use Rattle.sc_node.specs.Nodes.{message_from, store_under};
 
 use sc_members::Config;
 use sc_node::{Begun, Node, NodeFault};
@@ -19,7 +19,7 @@ pub fn first_store(
     value: &Value,
 ) -> Result<(Node, Begun), NodeFault>
     ensures view { IfOk result (λ r. r.0.view ≡ put fin.empty id (record { number = 1; value = value.now })) }
-    ensures sent { IfOk result (λ r. r.1.outs ≡ message_from id (Store 0 r.0.view) ∷ []) }
+    ensures sent { IfOk result (λ r. r.1.outs ≡ message_from id (Store (store_under 0 r.0.view)) ∷ []) }
 {
     let mut node = Node::founder(alloc, config, id, &[id])?;
     let begun = node.begin_store(value)?;

@@ -7,8 +7,9 @@ use Rattle.std.proofs.lemmas.Bool.{eq-eqb}
 use Rattle.reasons.specs.Table.{number}
 use Rattle.reasons.specs.declared.Reason.{Reason}
 use Rattle.reasons.specs.declared.Reason.TheVariants as reasons
-use Rattle.bq_check.specs.Spelling.{short_bytes, long_bytes}
-use Rattle.bq_check.proofs.Fields.{length-short, length-long, one_byte, short_front, long_front}
+use Rattle.spelling.specs.Numbers.{number_bytes}
+use Rattle.spelling.proofs.Numbers.{length-number_bytes}
+use Rattle.spelling.proofs.Codes.{one_byte, number_front}
 use Rattle.q_net.specs.Replies.{reply_bytes}
 use Rattle.q_net.specs.declared.replies.Reply.{Reply}
 use Rattle.q_net.specs.declared.replies.Reply.TheVariants.{Program, Number, Open, Answer, Refused}
@@ -69,7 +70,7 @@ cut kind front few long a b part p less end = none_begins kind front a (λ bytes
 
 program_long : (said : Reply) (bytes rest : List ℕ) → CanBe kind.Program said → 0 ∷ bytes ≡ reply_bytes said ++ rest → 4 ≤ length bytes
 program_long (Refused n) bytes rest can e = absurd (not_zero n can cc)
-program_long (Program n) bytes rest can e = let t : bytes ≡ short_bytes n ++ rest = cc in omega (arith, ap length t, length-append (short_bytes n) rest, length-short n)
+program_long (Program n) bytes rest can e = let t : bytes ≡ number_bytes 4 n ++ rest = cc in omega (arith, ap length t, length-append (number_bytes 4 n) rest, length-number_bytes 4 n)
 program_long said bytes rest can e = absurd can
 
 pub program_cut : (a b : Option (List ℕ)) (part : List ℕ) → Consumes a b part → length part < 4 → IsAtEnd b → BeginsNone kind.Program (0 ∷ []) a
@@ -79,7 +80,7 @@ program_cut = cut kind.Program (0 ∷ []) 4 program_long
 
 number_long : (said : Reply) (bytes rest : List ℕ) → CanBe kind.Number said → 0 ∷ bytes ≡ reply_bytes said ++ rest → 8 ≤ length bytes
 number_long (Refused n) bytes rest can e = absurd (not_zero n can cc)
-number_long (Number n) bytes rest can e = let t : bytes ≡ long_bytes n ++ rest = cc in omega (arith, ap length t, length-append (long_bytes n) rest, length-long n)
+number_long (Number n) bytes rest can e = let t : bytes ≡ number_bytes 8 n ++ rest = cc in omega (arith, ap length t, length-append (number_bytes 8 n) rest, length-number_bytes 8 n)
 number_long said bytes rest can e = absurd can
 
 pub number_cut : (a b : Option (List ℕ)) (part : List ℕ) → Consumes a b part → length part < 8 → IsAtEnd b → BeginsNone kind.Number (0 ∷ []) a
@@ -91,8 +92,8 @@ answer_long : (said : Reply) (bytes rest : List ℕ) → CanBe kind.Answer said 
 answer_long (Refused n) bytes rest can e = absurd (not_zero n can cc)
 answer_long Open bytes rest can e = inl cc
 answer_long (Answer acc steps) bytes rest can e =
-    let t : bytes ≡ 1 ∷ ((long_bytes acc ++ long_bytes steps) ++ rest) = cc in
-    inr ((long_bytes acc ++ long_bytes steps) ++ rest, t, omega (arith, length-append (long_bytes acc ++ long_bytes steps) rest, length-append (long_bytes acc) (long_bytes steps), length-long acc, length-long steps))
+    let t : bytes ≡ 1 ∷ ((number_bytes 8 acc ++ number_bytes 8 steps) ++ rest) = cc in
+    inr ((number_bytes 8 acc ++ number_bytes 8 steps) ++ rest, t, omega (arith, length-append (number_bytes 8 acc ++ number_bytes 8 steps) rest, length-append (number_bytes 8 acc) (number_bytes 8 steps), length-number_bytes 8 acc, length-number_bytes 8 steps))
 answer_long said bytes rest can e = absurd can
 
 -- the input ended behind a 0
@@ -144,17 +145,17 @@ first_heard E kind n a b (Some said) other p h = (subst (CanBe kind) (sym h.1) h
 
 -- ---- one reply stands there
 
-two_longs : (a b c d : ℕ) (r s : List ℕ) → a < 2 ^ 64 → b < 2 ^ 64 → c < 2 ^ 64 → d < 2 ^ 64 → (long_bytes a ++ long_bytes b) ++ r ≡ (long_bytes c ++ long_bytes d) ++ s → (a ≡ c) × (b ≡ d)
+two_longs : (a b c d : ℕ) (r s : List ℕ) → a < 2 ^ 64 → b < 2 ^ 64 → c < 2 ^ 64 → d < 2 ^ 64 → (number_bytes 8 a ++ number_bytes 8 b) ++ r ≡ (number_bytes 8 c ++ number_bytes 8 d) ++ s → (a ≡ c) × (b ≡ d)
 two_longs a b c d r s fa fb fc fd e =
-    let first = long_front a c (long_bytes b ++ r) (long_bytes d ++ s) fa fc (sym (append_assoc (long_bytes a) (long_bytes b) r) ∙ e ∙ append_assoc (long_bytes c) (long_bytes d) s) in
-    (first.0, (long_front b d r s fb fd first.1).0)
+    let first = number_front 8 a c (number_bytes 8 b ++ r) (number_bytes 8 d ++ s) fa fc (sym (append_assoc (number_bytes 8 a) (number_bytes 8 b) r) ∙ e ∙ append_assoc (number_bytes 8 c) (number_bytes 8 d) s) in
+    (first.0, (number_front 8 b d r s fb fd first.1).0)
 
 pub one_reply : (kind : ReplyKind) (x y : Reply) (r s : List ℕ) → CanBe kind x → CanBe kind y → reply_bytes x ++ r ≡ reply_bytes y ++ s → x ≡ y
 one_reply kind (Refused m) y r s cx cy e = sym (first_byte y m r s (not_zero m cx) e)
 one_reply kind x (Refused n) r s cx cy e = first_byte x n s r (not_zero n cy) (sym e)
-one_reply kind.Program (Program p) (Program q) r s cx cy e = ap Program (short_front p q r s cx cy (one_byte 0 0 _ _ e).1).0
+one_reply kind.Program (Program p) (Program q) r s cx cy e = ap Program (number_front 4 p q r s cx cy (one_byte 0 0 _ _ e).1).0
 one_reply kind.Program (Program p) y r s cx cy e = absurd cy
-one_reply kind.Number (Number p) (Number q) r s cx cy e = ap Number (long_front p q r s cx cy (one_byte 0 0 _ _ e).1).0
+one_reply kind.Number (Number p) (Number q) r s cx cy e = ap Number (number_front 8 p q r s cx cy (one_byte 0 0 _ _ e).1).0
 one_reply kind.Number (Number p) y r s cx cy e = absurd cy
 one_reply kind.Answer Open Open r s cx cy e = refl
 one_reply kind.Answer Open (Answer acc steps) r s cx cy e = cc

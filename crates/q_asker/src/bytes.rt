@@ -1,36 +1,23 @@
 //! Requests to bytes.
 
 ghost use Rattle.std.specs.Prelude.{◌≡◌, ◌∷◌, ◌++◌, length, IfOk, OnOk};
-ghost use Rattle.bq_check.specs.Spelling.{short_bytes, long_bytes};
+ghost use Rattle.spelling.specs.Numbers.{number_bytes};
 ghost use Rattle.q_net.specs.Requests.{spelling};
 
 use q_net::Request;
+use spelling::{put_u32, put_u64};
 use std::alloc::{AllocError, Global};
 
 // After an error the vector may hold a part of what was to be written.
 
-#[tactic(auto, unfolding(bq_check::specs::Spelling::short_bytes))]
-fn push_short(out: &mut Vec<u8>, number: u32) -> Result<(), AllocError>
-    ensures { OnOk result (out.new.items ≡ out.old.items ++ short_bytes number) }
-{
-    out.extend_from_slice(&number.to_le_bytes())
-}
-
-#[tactic(auto, unfolding(bq_check::specs::Spelling::long_bytes))]
-fn push_long(out: &mut Vec<u8>, number: u64) -> Result<(), AllocError>
-    ensures { OnOk result (out.new.items ≡ out.old.items ++ long_bytes number) }
-{
-    out.extend_from_slice(&number.to_le_bytes())
-}
-
 /// The length of a text or of notes in four bytes, and its bytes.
 fn push_blob(out: &mut Vec<u8>, bytes: &[u8]) -> Result<(), AllocError>
-    ensures { OnOk result (out.new.items ≡ out.old.items ++ (short_bytes (length bytes.now) ++ bytes.now)) }
+    ensures { OnOk result (out.new.items ≡ out.old.items ++ (number_bytes 4 (length bytes.now) ++ bytes.now)) }
 {
     let Ok(len) = u32::try_from(bytes.len()) else {
         return Err(AllocError);
     };
-    push_short(out, len)?;
+    put_u32(out, len)?;
     out.extend_from_slice(bytes)
 }
 
@@ -44,7 +31,7 @@ fn push_behind(out: &mut Vec<u8>, kind: u8, bytes: &[u8]) -> Result<(), AllocErr
 
 fn push_register(out: &mut Vec<u8>, text: &[u8], notes: &[u8]) -> Result<(), AllocError>
     ensures { OnOk result (out.new.items ≡ out.old.items
-        ++ (1 ∷ short_bytes (length text.now) ++ (text.now ++ (short_bytes (length notes.now) ++ notes.now)))) }
+        ++ (1 ∷ number_bytes 4 (length text.now) ++ (text.now ++ (number_bytes 4 (length notes.now) ++ notes.now)))) }
 {
     out.push(1)?;
     push_blob(out, text)?;
@@ -52,18 +39,18 @@ fn push_register(out: &mut Vec<u8>, text: &[u8], notes: &[u8]) -> Result<(), All
 }
 
 fn push_ask(out: &mut Vec<u8>, program: u32, start: u64) -> Result<(), AllocError>
-    ensures { OnOk result (out.new.items ≡ out.old.items ++ (2 ∷ short_bytes program ++ long_bytes start)) }
+    ensures { OnOk result (out.new.items ≡ out.old.items ++ (2 ∷ number_bytes 4 program ++ number_bytes 8 start)) }
 {
     out.push(2)?;
-    push_short(out, program)?;
-    push_long(out, start)
+    put_u32(out, program)?;
+    put_u64(out, start)
 }
 
 fn push_answer(out: &mut Vec<u8>, query: u64) -> Result<(), AllocError>
-    ensures { OnOk result (out.new.items ≡ out.old.items ++ (4 ∷ long_bytes query)) }
+    ensures { OnOk result (out.new.items ≡ out.old.items ++ (4 ∷ number_bytes 8 query)) }
 {
     out.push(4)?;
-    push_long(out, query)
+    put_u64(out, query)
 }
 
 fn push_store_of(out: &mut Vec<u8>, value: &[u8]) -> Result<(), AllocError>

@@ -27,7 +27,7 @@ use Rattle.q_book.specs.State.{BookState}
 use Rattle.q_book.specs.Books.{present, asking, storing, taking, by_desk, by_node, with_desk, asks, asks_node, asked, stores, stores_node, stored, delivers, delivers_node, delivered, leaves, leaves_node, left, record_lengths}
 use Rattle.q_book.specs.Replays.{IsBook}
 use Rattle.q_desk.proofs.Accepted.{same_answer, no_refusal}
-use Rattle.q_desk.proofs.Moves.{handed_out-ok}
+use Rattle.q_desk.proofs.Changes.{handed_after}
 use Rattle.q_book.proofs.Parts.{noted_is}
 use Rattle.q_book.proofs.Replays.{with, book_next}
 
@@ -51,7 +51,7 @@ registered_book b program id d hold h r =
     (id, tested_pass (present b) (by_desk (with_desk b) (desk.registered b.desk program)) hold ∙ ap (by_desk (with_desk b)) h)
 
 pub handed_book : (b : BookState) (o : Option Job) (d : DeskState) → AllHold (present b) → desk.handed_out b.desk b.id ≡ Ok (o, d) → IsBook b → IsBook (with b b.node d)
-handed_book b None d hold h r = same_book b b.node d refl (sym (handed_out-ok b.desk b.id (None, d) h)) r
+handed_book b None d hold h r = same_book b b.node d refl (sym (handed_after b.desk b.id (None, d) h)) r
 handed_book b (Some j) d hold h r =
     book_next b (with b b.node d) entry.HandOut r
     (j, tested_pass (present b) (by_desk (with_desk b) (desk.handed_out b.desk b.id)) hold ∙ ap (by_desk (with_desk b)) h)

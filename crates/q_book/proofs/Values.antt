@@ -17,11 +17,11 @@ use Rattle.sc_node.proofs.Kept.{founder_kept, entered_kept, store_kept, collect_
 use Rattle.q_session.specs.Records.{HasRecordsWithin, records_of}
 use Rattle.q_desk.specs.Keeping.{CompletesWithin, EndsWithin}
 use Rattle.q_desk.specs.declared.journal.Entry.{Entry}
-use Rattle.q_desk.specs.declared.journal.Entry.TheVariants as entry
 use Rattle.q_book.specs.State.{BookState}
 use Rattle.q_book.specs.Replays.{Follows, Replays, IsFirst, IsReplay, EntryFits}
 use Rattle.q_book.specs.Sends.{sends}
-use Rattle.q_book.proofs.Followed.{NodeDid, IsAccepted, follows-accepted}
+use Rattle.q_desk.proofs.Changes.{Told}
+use Rattle.q_book.proofs.Followed.{Deed, Leaves, Collects, Stores, Delivers, Idles, deed, NodeDid, IsAccepted, follows-accepted}
 
 -- no call changes the version
 pub same_version : (b : BookState) (e : Entry) (c : BookState) → Follows b e c → c.version ≡ b.version
@@ -44,33 +44,34 @@ abbrev Fits : BookState → Type 0
 Fits b = NodeHasValuesWithin (value_lengths b.version) b.node
 
 -- what the node does keeps this, and the values that it sends have such lengths
-did_fit : (b : BookState) (e : Entry) (outs : List Message) (n : NodeState) → NodeDid b e outs n → EntryFits b.version e → Fits b
-    → NodeHasValuesWithin (value_lengths b.version) n × All (message.Fits b.version) outs
-did_fit b entry.Leave outs n d entry fits =
-    let kept = leave_kept (value_lengths b.version) b.node n d.0 fits d.1 in
-    (kept.0, subst (All (message.Fits b.version)) d.2 kept.1)
-did_fit b (entry.Ask program start) outs n d entry fits =
-    let kept = collect_kept (value_lengths b.version) b.node n d.0 fits d.1 in
-    (kept.0, subst (All (message.Fits b.version)) d.2 kept.1.outs)
-did_fit b (entry.Store value) outs n d entry fits =
-    let kept = store_kept (value_lengths b.version) b.node n value d.0 fits entry d.1 in
-    (kept.0, subst (All (message.Fits b.version)) d.2 kept.1.outs)
-did_fit b (entry.Deliver m) outs n d entry fits =
-    let kept = delivery_kept (value_lengths b.version) b.node n m d.0 fits entry d.1 in
-    (kept.0, subst (All (message.Fits b.version)) d.2 kept.1.outs)
-did_fit b e outs n d entry fits = (
-  subst (NodeHasValuesWithin (value_lengths b.version)) (sym d.0) fits,
-  subst (All (message.Fits b.version)) (sym d.1) (All-from_recursion (message.Fits b.version) [] tt),
-)
+module _ (b : BookState) where
+  abbrev l : Lengths
+  l = value_lengths b.version
 
-pub accepted_fit : (b : BookState) (e : Entry) (c : BookState) → IsAccepted b e c → Fits b → Fits c × All (message.Fits b.version) (sends b e)
-accepted_fit b e c a fits =
-    let kept = did_fit b e (sends b e) c.node a.node a.fits fits in
-    (subst Fits a.same kept.0, kept.1)
+  -- of what the call told
+  abbrev Kept : NodeState → List Message → Type 0
+  Kept n outs = NodeHasValuesWithin l n × All (message.Fits b.version) outs
+
+  did_fit : (x : Deed) (t : Told) (n : NodeState) → NodeDid b x t n → Fits b → Kept n t.outs
+  did_fit Leaves t n d fits = subst (λ (y : Told). Kept n y.outs) d.2 (leave_kept l b.node n d.0 fits d.1)
+  did_fit Collects t n d fits = let k = collect_kept l b.node n d.0 fits d.1 in subst (λ (y : Told). Kept n y.outs) d.2 (k.0, k.1.outs)
+  did_fit (Stores value) t n d fits =
+      let k = store_kept l b.node n value d.0 fits d.3 d.1 in
+      subst (λ (y : Told). Kept n y.outs) d.2 (k.0, k.1.outs)
+  did_fit (Delivers m) t n d fits =
+      let k = delivery_kept l b.node n m d.0 fits d.3 d.1 in
+      subst (λ (y : Told). Kept n y.outs) d.2 (k.0, k.1.outs)
+  did_fit Idles t n d fits =
+      subst (λ (y : Told). Kept n y.outs) d.1 (subst (NodeHasValuesWithin l) d.0 fits, All-from_recursion (message.Fits b.version) [] tt)
+
+pub accepted_fit : (b : BookState) (e : Entry) (t : Told) (c : BookState) → IsAccepted b e t c → Fits b → Fits c × All (message.Fits b.version) (sends b e)
+accepted_fit b e t c a fits =
+    let kept = did_fit b (deed e) t c.node a.node fits in
+    (subst Fits a.same kept.0, subst (All (message.Fits b.version)) a.sent kept.1)
 
 replays_keep : (es : List Entry) (b c : BookState) → Replays b es c → Fits b → Fits c
 replays_keep [] b c h fits = subst (λ (x : BookState). Fits x) (sym h) fits
-replays_keep (e ∷ es) b c h fits = replays_keep es h.0 c h.2 (accepted_fit b e h.0 (follows-accepted b e h.0 h.1) fits).0
+replays_keep (e ∷ es) b c h fits = replays_keep es h.0 c h.2 (accepted_fit b e _ h.0 (follows-accepted b e h.0 h.1) fits).0
 
 first_fits : (l : Lengths) (b : BookState) (n : NodeState) (o : Option (List ℕ)) → IsFirst b n o → NodeHasValuesWithin l n
 first_fits l b n (Some ids) h = founder_kept l b.config b.id ids n h

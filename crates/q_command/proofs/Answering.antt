@@ -1,19 +1,22 @@
 -- The lines of answers, by the numbers of their queries.
-use Rattle.std.proofs.Common.{◌≡◌, ℕ, ◌+◌, suc, List, [], ◌∷◌, ◌++◌, length, ap, ◌∙◌, sym, arith, append_assoc, append-nil}
-use Rattle.q_session.specs.declared.query.Query.{Query}
-use Rattle.q_command.specs.GatheredLines.{answer_line, answer_lines}
+use Rattle.std.proofs.Common.{◌≡◌, ℕ, ◌+◌, suc, List, [], ◌∷◌, ◌++◌, length, take, ap, ◌∙◌, sym, arith, append_assoc, append-nil}
 
-one_more : (node : ℕ) (qs : List Query) (first : ℕ) (q : Query) → answer_lines node first (qs ++ q ∷ []) ≡ answer_lines node first qs ++ answer_line node (first + length qs) q.phase
-one_more node [] first q = append-nil (answer_line node first q.phase) ∙ ap (λ n. answer_line node n q.phase) (let e : first ≡ first + 0 = omega arith in e)
-one_more node (p ∷ qs) first q =
-    ap (λ t. answer_line node first p.phase ++ t) (one_more node qs (suc first) q)
-    ∙ sym (append_assoc (answer_line node first p.phase) (answer_lines node (suc first) qs) (answer_line node (suc first + length qs) q.phase))
-    ∙ ap (λ n. answer_lines node first (p ∷ qs) ++ answer_line node n q.phase) (let e : suc first + length qs ≡ first + suc (length qs) = omega arith in e)
+-- of what each query has its line under its own number
+module _ {X : Type 0} (line : ℕ → X → List ℕ) (lines : ℕ → List X → List ℕ) (none : (first : ℕ) → lines first [] ≡ []) (some : (first : ℕ) (x : X) (xs : List X) → lines first (x ∷ xs) ≡ line first x ++ lines (suc first) xs) where
+  one_more : (xs : List X) (first : ℕ) (x : X) → lines first (xs ++ x ∷ []) ≡ lines first xs ++ line (first + length xs) x
+  one_more [] first x =
+      some first x [] ∙ ap (λ t. line first x ++ t) (none (suc first)) ∙ append-nil (line first x)
+      ∙ ap (λ n. line n x) (let e : first ≡ first + 0 = omega arith in e) ∙ ap (λ t. t ++ line (first + 0) x) (sym (none first))
+  one_more (y ∷ xs) first x =
+      some first y (xs ++ x ∷ []) ∙ ap (λ t. line first y ++ t) (one_more xs (suc first) x)
+      ∙ sym (append_assoc (line first y) (lines (suc first) xs) (line (suc first + length xs) x))
+      ∙ ap (λ n. (line first y ++ lines (suc first) xs) ++ line n x) (let e : suc first + length xs ≡ first + suc (length xs) = omega arith in e)
+      ∙ ap (λ t. t ++ line (first + suc (length xs)) x) (sym (some first y xs))
 
--- the answers so far, and one more
-pub more_answers : (node : ℕ) (qs more : List Query) (number : ℕ) (q : Query) (text before after : List ℕ) → more ≡ qs ++ q ∷ [] → length qs ≡ number → before ≡ text ++ answer_lines node 0 qs
-    → after ≡ before ++ answer_line node number q.phase → after ≡ text ++ answer_lines node 0 more
-more_answers node qs more number q text before after one count so_far grown =
-    grown ∙ ap (λ t. t ++ answer_line node number q.phase) so_far ∙ append_assoc text (answer_lines node 0 qs) (answer_line node number q.phase)
-    ∙ ap (λ n. text ++ (answer_lines node 0 qs ++ answer_line node n q.phase)) (let e : number ≡ 0 + length qs = omega (arith, count) in e)
-    ∙ ap (λ t. text ++ t) (sym (one_more node qs 0 q) ∙ ap (answer_lines node 0) (sym one))
+  -- the answers of the first queries, and of one more
+  pub more_answers : (xs : List X) (number : ℕ) (x : X) (text before after : List ℕ) → take (number + 1) xs ≡ take number xs ++ x ∷ [] → length (take number xs) ≡ number → before ≡ text ++ lines 0 (take number xs)
+      → after ≡ before ++ line number x → after ≡ text ++ lines 0 (take (number + 1) xs)
+  more_answers xs number x text before after one count so_far grown =
+      grown ∙ ap (λ t. t ++ line number x) so_far ∙ append_assoc text (lines 0 (take number xs)) (line number x)
+      ∙ ap (λ n. text ++ (lines 0 (take number xs) ++ line n x)) (let e : number ≡ 0 + length (take number xs) = omega (arith, count) in e)
+      ∙ ap (λ t. text ++ t) (sym (one_more (take number xs) 0 x) ∙ ap (lines 0) (sym one))

@@ -1,5 +1,5 @@
 -- The command that the words name.
-use Rattle.std.proofs.Common.{◌≡◌, ◌<◌, ◌≤◌, ℕ, ◌∙◌, Bool, true, false, List, [], ◌∷◌, Option, Some, None, MatchOption, ap, ap₂, refl, sym, codes, Bor, option_map, unwrap_or, IsSomeAnd, is_some, map, cond, ◌⊎◌, inl, inr, subst, true≢false, arith}
+use Rattle.std.proofs.Common.{◌≡◌, ◌<◌, ◌≤◌, ℕ, ◌∙◌, Bool, true, false, List, [], ◌∷◌, Option, Some, None, MatchOption, ap, ap₂, refl, sym, codes, Bor, option_map, unwrap_or, IsSomeAnd, map, cond, ◌⊎◌, inl, inr, subst, arith}
 use Rattle.std.specs.Prelude.{Box, find, Result, Ok, Err, IfOk, IsErrAnd, MatchResult, ◌||◌}
 use Rattle.std.specs.Box.{box_value}
 use Rattle.std.specs.Option.{SomeIff}
@@ -7,7 +7,7 @@ use Rattle.std.proofs.lemmas.Fmt.{decimal_injective}
 use Rattle.bq_range.specs.Interval.{Interval, between}
 use Rattle.bq_state.specs.Kinds.{AreLengths}
 use Rattle.q_script.specs.Words as words
-use Rattle.clap.specs.Words.{App, HasKind, HasMatchesOf, IsAmong, kind_of, fault_of, subcommand_name_of, subcommand_of, Row, Shape, Text, found_of, is_simple, is_simple_and_free, rows_of, subcommand_rows, subcommand_rows_of}
+use Rattle.clap.specs.Words.{App, HasKind, HasMatchesOf, IsAmong, kind_of, fault_of, subcommand_name_of, subcommand_of, Row, Shape, Text, is_simple, is_simple_and_free, subcommand_rows, subcommand_rows_of}
 use Rattle.clap.specs.Simple.{argument_words, built, entered, label_of, names_of, rows_at}
 use Rattle.clap.specs.Walk.{answers_to, stop_after}
 use Rattle.clap.specs.Words.{Rule, app_of, rule_of, with_rule, with_subcommand}
@@ -23,7 +23,7 @@ use Rattle.clap.proofs.OnLiterals.{clap_on_literals}
 use Rattle.q_command.specs.declared.words.Wanted.{Wanted}
 use Rattle.q_command.specs.declared.words.WordsFault.{WordsFault}
 use Rattle.q_command.specs.declared.words.WordsFault.TheVariants.{Help, Wrong, BadStart, BadLengths, NotesOverProgram, BadId, BadRunners, NotUtf8, OutOfMemory}
-use Rattle.q_command.specs.Words.{Has, bqview, operand_of, AreBad, AreGiven, AreGivenFor, IsAskedFor, IsMet, HasFault, HasLineFault, IsRunners, Reads, Tells}
+use Rattle.q_command.specs.Words.{Has, bqview, commands, operand_of, AreBad, AreGiven, AreGivenFor, IsAskedFor, IsMet, IsOneOf, HasFault, HasLineFault, IsRunners, Reads, Tells}
 
 simple : is_simple bqview ≡ true
 unfolding clap_on_literals
@@ -68,15 +68,11 @@ texts_missing o given items e is same =
 pub found_said : {a : App} (m : ArgMatches) (words : List Text) → a ≡ bqview → HasMatchesOf a words m → subcommand_rows_of m ≡ subcommand_of bqview words
 found_said m words is matches = (matches (ap is_simple is ∙ simple)).1 ∙ ap (λ (x : App). subcommand_of x words) is
 
--- what was said was met
-was_met : (P : Text × List Row → Type 0) (said : Option (Text × List Row)) (met : Text × List Row) → said ≡ Some met → P met → IsSomeAnd said P
-was_met P said met e h = subst (λ o. IsSomeAnd o P) (sym e) h
+-- what holds of what was met holds of what was said
+said_so : (P : Text × List Row → Type 0) (said : Option (Text × List Row)) (met : Text × List Row) → said ≡ Some met → P met → IsSomeAnd said P
+said_so P said met e h = subst (λ o. IsSomeAnd o P) (sym e) h
 
 -- ---- which commands there are
-
-abbrev In : Text → List Text → Type 0
-In n [] = ⊥
-In n (m ∷ ms) = (n ≡ m) ⊎ In n ms
 
 abbrev names : List Shape → List Text
 names ss = map (λ s. s.name) ss
@@ -87,42 +83,26 @@ same_name p q e = ap (λ o. (unwrap_or o p).0) (sym e)
 not_some : (p : Text × List Row) → None ≡ Some p → ⊥
 not_some p e = absurd (no_some e)
 
-found_in : (b : Bool) (s : Shape) (rest : Option Shape) (words : List Text) (ss : List Shape) (p : Text × List Row) → (option_map (λ t. rows_at t words) rest ≡ Some p → In p.0 (names ss))
-    → option_map (λ t. rows_at t words) (cond b (Some s) rest) ≡ Some p → In p.0 (s.name ∷ names ss)
+found_in : (b : Bool) (s : Shape) (rest : Option Shape) (words : List Text) (ss : List Shape) (p : Text × List Row) → (option_map (λ t. rows_at t words) rest ≡ Some p → IsOneOf p.0 (names ss))
+    → option_map (λ t. rows_at t words) (cond b (Some s) rest) ≡ Some p → IsOneOf p.0 (s.name ∷ names ss)
 found_in true s rest words ss p f e = inl (same_name (rows_at s words) p e)
 found_in false s rest words ss p f e = inr (f e)
 
-find_in : (test : Shape → Bool) (ss : List Shape) (words : List Text) (p : Text × List Row) → option_map (λ t. rows_at t words) (find test ss) ≡ Some p → In p.0 (names ss)
+find_in : (test : Shape → Bool) (ss : List Shape) (words : List Text) (p : Text × List Row) → option_map (λ t. rows_at t words) (find test ss) ≡ Some p → IsOneOf p.0 (names ss)
 find_in test [] words p e = not_some p e
 find_in test (s ∷ ss) words p e = found_in (test s) s (find test ss) words ss p (find_in test ss words p) e
 
-entered_in : (a : App) (stop : Option (Text × List Text)) (p : Text × List Row) → entered a stop ≡ Some p → In p.0 (names a.subs)
+entered_in : (a : App) (stop : Option (Text × List Text)) (p : Text × List Row) → entered a stop ≡ Some p → IsOneOf p.0 (names a.subs)
 entered_in a None p e = absurd (not_some p e)
 entered_in a (Some q) p e = find_in (λ s. answers_to q.0 (label_of s)) a.subs q.1 p e
-
-abbrev commands : List Text
-commands = codes "asm" ∷ codes "dis" ∷ codes "check" ∷ codes "run" ∷ codes "sim" ∷ codes "cluster" ∷ codes "audit" ∷ codes "gather" ∷ codes "node" ∷ codes "client" ∷ []
 
 all_names : names (built bqview).subs ≡ commands
 all_names = refl
 
--- the name of what was met is none of these
-abbrev MetNone : Option Text → List Text → Type 0
-MetNone met [] = Unit {0}
-MetNone met (name ∷ others) = (met ≡ Some name → ⊥) × MetNone met others
-
-none_of : (n : Text) (ns : List Text) → In n ns → MetNone (Some n) ns → ⊥
-none_of n [] h k = h
-none_of n (m ∷ ms) h k = elim h [ inl e ↦ k.0 (ap (λ t. Some t) e) | inr h ↦ none_of n ms h k.1 ]
-
 -- a command was met, so its name is one of those
-pub other_command : {Z : Type 0} (o : Option (Box SubCommand Z)) (words : List Text) → is_some o ≡ true → subcommand_rows o ≡ subcommand_of bqview words
-    → MetNone (option_map (λ b. (out-SubCommand (box_value b)).name.now) o) commands → ⊥
-other_command None words s e none = true≢false (sym s)
-other_command (Some x) words s e none =
-    let n : Text = (out-SubCommand (box_value x)).name.now in
-    let known = entered_in (built bqview) (stop_after (built bqview).top.rules (names_of (built bqview)) (argument_words bqview words)) (n, rows_of (found_of (out-SubCommand (box_value x)).matches)) (sym e) in
-    none_of n commands (subst (In n) all_names known) none
+pub known_command : (words : List Text) (met : Text × List Row) → subcommand_of bqview words ≡ Some met → IsOneOf met.0 commands
+known_command words met said =
+    subst (IsOneOf met.0) all_names (entered_in (built bqview) (stop_after (built bqview).top.rules (names_of (built bqview)) (argument_words bqview words)) met said)
 
 -- ---- how commands are put together
 
@@ -146,14 +126,14 @@ below_one_more old below (Ok c) app under h has low = (
 below_one_more old below (Err e) app under h has low = tt
 
 -- what is read where this command was met
-read_so : (words : List Text) (r : Result Wanted WordsFault) (met : Text × List Row) → fault_of bqview words ≡ [] → subcommand_of bqview words ≡ Some met
+pub read_so : (words : List Text) (r : Result Wanted WordsFault) (met : Text × List Row) → fault_of bqview words ≡ [] → subcommand_of bqview words ≡ Some met
     → MatchResult r (λ asked. IsMet asked met) (λ e. HasLineFault e met) → Reads words r
-read_so words (Ok asked) met n s h = (n, was_met (IsMet asked) _ met s h)
-read_so words (Err (BadStart start)) met n s h = (n, was_met (HasLineFault (BadStart start)) _ met s h)
-read_so words (Err (BadLengths command least most)) met n s h = (n, was_met (HasLineFault (BadLengths command least most)) _ met s h)
-read_so words (Err (NotesOverProgram notes)) met n s h = (n, was_met (HasLineFault (NotesOverProgram notes)) _ met s h)
-read_so words (Err (BadId id)) met n s h = (n, was_met (HasLineFault (BadId id)) _ met s h)
-read_so words (Err (BadRunners runners)) met n s h = (n, was_met (HasLineFault (BadRunners runners)) _ met s h)
+read_so words (Ok asked) met n s h = (n, said_so (IsMet asked) _ met s h)
+read_so words (Err (BadStart start)) met n s h = (n, said_so (HasLineFault (BadStart start)) _ met s h)
+read_so words (Err (BadLengths command least most)) met n s h = (n, said_so (HasLineFault (BadLengths command least most)) _ met s h)
+read_so words (Err (NotesOverProgram notes)) met n s h = (n, said_so (HasLineFault (NotesOverProgram notes)) _ met s h)
+read_so words (Err (BadId id)) met n s h = (n, said_so (HasLineFault (BadId id)) _ met s h)
+read_so words (Err (BadRunners runners)) met n s h = (n, said_so (HasLineFault (BadRunners runners)) _ met s h)
 read_so words (Err (Help e)) met n s h = absurd h
 read_so words (Err (Wrong e)) met n s h = absurd h
 read_so words (Err NotUtf8) met n s h = absurd h
@@ -177,6 +157,10 @@ faulty_so words error (BadId id) h t = absurd t
 faulty_so words error (BadRunners runners) h t = absurd t
 faulty_so words error NotUtf8 h t = absurd t
 
+-- the parser found no fault
+pub no_fault : {a : App} (words : List Text) → a ≡ bqview → (is_simple_and_free a ≡ true → fault_of a words ≡ []) → fault_of bqview words ≡ []
+no_fault words is kinds = subst (λ (x : App). fault_of x words ≡ []) is (kinds (ap is_simple_and_free is ∙ free))
+
 -- the parser fails
 pub failed_so : {a : App} (words : List Text) (error : Error) (r : Result Wanted WordsFault) → a ≡ bqview → (is_simple_and_free a ≡ true → HasKind (fault_of a words) error) → IsErrAnd r (Tells error) → Reads words r
 failed_so words error (Ok asked) is kinds h = absurd h
@@ -184,12 +168,10 @@ failed_so words error (Err e) is kinds h =
     faulty_so words error e (subst (λ (x : App). HasKind (fault_of x words) error) is (kinds (ap is_simple_and_free is ∙ free))) h
 
 -- the parser met the command of this name
-pub was_named : {a : App} (m : ArgMatches) (words : List Text) → a ≡ bqview → (is_simple_and_free a ≡ true → fault_of a words ≡ []) → HasMatchesOf a words m
-    → (name : Text) (rows : List Row) → subcommand_name_of m ≡ Some name → option_map (λ p. p.1) (subcommand_rows_of m) ≡ Some rows
-    → (r : Result Wanted WordsFault) → MatchResult r (λ asked. IsMet asked (name, rows)) (λ e. HasLineFault e (name, rows)) → Reads words r
-was_named m words is kinds matches name rows named found r h =
-    read_so words r (name, rows) (subst (λ (x : App). fault_of x words ≡ []) is (kinds (ap is_simple_and_free is ∙ free)))
-    (sym (found_said m words is matches) ∙ met_rows (out-ArgMatches m).subcommand name rows named found) h
+pub was_met : {a : App} (m : ArgMatches) (words : List Text) → a ≡ bqview → HasMatchesOf a words m → (name : Text) (rows : List Row)
+    → subcommand_name_of m ≡ Some name → option_map (λ p. p.1) (subcommand_rows_of m) ≡ Some rows → subcommand_of bqview words ≡ Some (name, rows)
+was_met m words is matches name rows named found =
+    sym (found_said m words is matches) ∙ met_rows (out-ArgMatches m).subcommand name rows named found
 
 -- ---- lengths of records
 

@@ -2,7 +2,7 @@
 use Rattle.std.proofs.Common.{◌≡◌, ℕ, zero, suc, ◌<◌, ◌≤◌, ◌-◌, inl, inr, List, [], ◌∷◌, ◌++◌, length, take, refl, sym, ap, ◌∙◌, subst, append_assoc, append-nil, length-append, flat_map, arith}
 use Rattle.std.proofs.lemmas.List.{take_at}
 use Rattle.std.specs.List.{AllByRecursion}
-use Rattle.sc_msg.specs.Numbers.{number_bytes}
+use Rattle.spelling.specs.Numbers.{number_bytes}
 use Rattle.sc_msg.specs.declared.version.Version.{Version}
 use Rattle.q_book.specs.State.{BookState}
 use Rattle.q_replay.specs.Head.{Head}
@@ -14,7 +14,7 @@ use Rattle.q_replay.specs.Replayed.{Leads, IsUnspelled, IsUntaken, IsUnbegun, Is
 use Rattle.q_replay.specs.declared.fault.ReplayFault.{ReplayFault}
 use Rattle.q_replay.specs.declared.fault.ReplayFault.TheVariants.{Form, Mismatch, OutOfMemory}
 use Rattle.q_command.specs.Beginning.{IsBeginning, IsAfter, IsCut, IsRefused}
-use Rattle.q_command.proofs.Heading.{leads-version}
+use Rattle.q_replay.proofs.Leading.{leads-version}
 use Rattle.q_command.proofs.Splitting.{OneHead, OneEvent, NoEvent, AreWithin, leads_after, journal_after, entries_events, both}
 
 -- a law of the crate of replays

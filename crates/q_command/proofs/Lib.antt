@@ -2,10 +2,8 @@
 -- what is printed of journals is told, and that it is true.
 mod Alone
 mod Answering
-mod Auditing
 mod Commands
 mod Cutting
-mod Heading
 mod Lines
 mod Lists
 mod Outcomes

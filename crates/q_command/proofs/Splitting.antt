@@ -3,7 +3,8 @@ use Rattle.std.proofs.Common.{◌≡◌, ℕ, suc, ◌+◌, ◌≤◌, List, [],
 use Rattle.std.specs.List.{AllByRecursion}
 use Rattle.std.proofs.lemmas.List.{flat_map_more, length_push}
 use Rattle.std.proofs.lemmas.List.Folds.{flat_map-map}
-use Rattle.bq_check.specs.Spelling.{BeginsNone}
+use Rattle.spelling.specs.Codes.{BeginsNone}
+use Rattle.spelling.proofs.Codes.{all_push}
 use Rattle.sc_msg.specs.declared.version.Version.{Version}
 use Rattle.q_desk.specs.declared.journal.Entry.{Entry}
 use Rattle.q_book.specs.State.{BookState}
@@ -129,10 +130,6 @@ after_more version bytes n rest w more b legal is = record {
       ∙ ap (λ (x : List ℕ). x ++ more) (flat_map_more (event_bytes version) [] b.events w));
   many = omega (arith, b.many, length_push b.events w);
 }
-  where
-    all_push : {X : Type 0} (P : X → Type 0) (xs : List X) (x : X) → AllByRecursion P xs → P x → AllByRecursion P (xs ++ x ∷ [])
-    all_push P [] x a h = (h, tt)
-    all_push P (y ∷ xs) x a h = (a.0, all_push P xs x a.1 h)
 
 pub after-within : (version : Version) (bytes : List ℕ) (n : ℕ) (rest : List ℕ) → IsAfter version bytes n rest → length rest ≤ length bytes
 after-within version bytes n rest b =

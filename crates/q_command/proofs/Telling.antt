@@ -1,24 +1,17 @@
 -- That what is told of a history is true.
 use Rattle.std.proofs.Common.{◌≡◌, ℕ, Bool, cond, List, [], ◌++◌, codes, Option, Some, None, ap, ◌∙◌, subst, append_assoc}
-use Rattle.sc_members.specs.Members.{Config}
-use Rattle.sc_msg.specs.declared.version.Version.{Version}
 use Rattle.sc_operations.specs.Sessions.{kind_of, stored}
 use Rattle.sc_operations.specs.declared.session.OperationKind.{OperationKind}
 use Rattle.sc_operations.specs.declared.session.OperationKind.TheVariants as kind
 use Rattle.sc_view.specs.Views.{ViewMap}
-use Rattle.sc_world.specs.State.{WorldState}
-use Rattle.sc_world.specs.Worlds as worlds
-use Rattle.sc_world.specs.Regular.{IsRegular}
 use Rattle.sc_world.specs.Operations.{returned_by}
-use Rattle.sc_world.specs.declared.event.WorldEvent.{WorldEvent}
 use Rattle.sc_world.specs.declared.op.Op.{Op}
+use Rattle.sc_world.proofs.EveryHistory.{lawful_regular}
 use Rattle.q_book.specs.State.{BookState}
-use Rattle.q_history.specs.declared.event.ClusterEvent.{ClusterEvent}
-use Rattle.q_history.specs.Calls.{Reaches}
-use Rattle.q_history.specs.Clusters.{start}
-use Rattle.q_history.specs.Headline as headline
 use Rattle.q_history.specs.Headline.{ClusterState}
 use Rattle.q_history.specs.World.{world}
+use Rattle.q_history.proofs.EveryHistory.{kept_true}
+use Rattle.q_history.proofs.Histories.{history_kept}
 use Rattle.q_history.proofs.Lists.{no_some}
 use Rattle.q_gather.specs.Gather.{GathersBooks}
 use Rattle.q_sim.specs.Printing.{TellsPairs, AddsPairs, ended_pairs_of}
@@ -26,36 +19,26 @@ use Rattle.q_command.specs.GatheredLines.{answers_of}
 use Rattle.q_command.specs.Tells.{Tells}
 use Rattle.q_command.specs.Truth.{AnswersAreTrue}
 
--- laws of the crates below
-abbrev pub EveryAnswer : Type 0
-EveryAnswer = (version : Version) (config : Config) (founders : List ℕ) (events : List ClusterEvent) (c : ClusterState) → Reaches (start version config founders) events c → headline.AnswersAreTrue c
-
-abbrev pub EveryWorld : Type 0
-EveryWorld = (version : Version) (config : Config) (founders : List ℕ) (events : List ClusterEvent) (c : ClusterState) → Reaches (start version config founders) events c → worlds.IsHistory (world c)
-
-abbrev pub EveryRegular : Type 0
-EveryRegular = (c : Config) (founders : List ℕ) (events : List WorldEvent) (w : WorldState) → worlds.Reaches (worlds.start c founders) events w → IsRegular w
-
 -- the view that a collect returned is what it stored back
 view_stored : (k : OperationKind) (end : Option ℕ) (v : Option ViewMap) (view : ViewMap) → returned_by k end v ≡ Some view → v ≡ Some view
 view_stored (kind.Store e) end v view is = absurd (no_some view is)
 view_stored kind.Collect (Some place) v view is = is
 view_stored kind.Collect None v view is = absurd (no_some view is)
 
-pub all_true : EveryAnswer → EveryWorld → EveryRegular → (books : List BookState) (c : ClusterState) → GathersBooks books c → AnswersAreTrue c books
-all_true answers histories regular books c gathers place query b q view ran at numbered recorded =
-    let history = gathers.gathered.history in
+pub all_true : (books : List BookState) (c : ClusterState) → GathersBooks books c → AnswersAreTrue c books
+all_true books c gathers place query b q view ran at numbered recorded =
+    let kept = history_kept c gathers.gathered.history in
     let there = gathers.gathered.each place b at in
-    let true_one = answers c.version c.past.config c.past.founders history.0 c history.1 b.id query b q view ran there numbered recorded in
+    let true_one = kept_true c kept b.id query b q view ran there numbered recorded in
     let collect : Op = true_one.returned.collect in
-    let lawful = regular c.past.config c.past.founders c.past.events (world c) (histories c.version c.past.config c.past.founders history.0 c history.1) in
     record {
       book = b;
       at = there;
       numbered = numbered;
       recorded = recorded;
       is_true = true_one;
-      genuine = λ end ended. lawful.genuine collect view end true_one.returned.among (view_stored (kind_of collect.session) collect.end (stored collect.session) view true_one.returned.returned) ended;
+      genuine = λ end ended. (lawful_regular (world c) kept.world).genuine collect view end true_one.returned.among
+          (view_stored (kind_of collect.session) collect.end (stored collect.session) view true_one.returned.returned) ended;
     }
 
 -- what is printed of books that gather

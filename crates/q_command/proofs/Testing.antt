@@ -1,9 +1,9 @@
 -- That the test for bytes that are too few for an event is right.
 use Rattle.std.proofs.Common.{◌≡◌, ℕ, ◌<◌, ◌^◌, Bool, true, false, inl, inr, List, ◌∷◌, ◌++◌, length, refl, sym, ap, ◌∙◌, length-append, nat_lt, MatchBool, arith}
 use Rattle.std.proofs.lemmas.Bool.{ltb-true, ltb-false}
-use Rattle.sc_msg.specs.Numbers.{number_bytes}
-use Rattle.sc_msg.proofs.Numbers.{length-number_bytes}
-use Rattle.sc_msg.proofs.Entries.{number_front}
+use Rattle.spelling.specs.Numbers.{number_bytes}
+use Rattle.spelling.proofs.Numbers.{length-number_bytes}
+use Rattle.spelling.proofs.Codes.{number_front}
 use Rattle.q_command.specs.Beginning.{IsCut}
 
 told_by : (b : Bool) (P Q : Type 0) → (b ≡ true → P) → (b ≡ false → Q) → MatchBool b P Q

@@ -1,6 +1,6 @@
 -- The longest beginning of bytes that is a journal, and why bytes begin with none.
 use Rattle.std.specs.Prelude.{◌≡◌, ◌⊎◌, ℕ, ◌<◌, ◌≤◌, ◌^◌, List, ◌∷◌, ◌++◌, length}
-use Rattle.sc_msg.specs.Numbers.{number_bytes}
+use Rattle.spelling.specs.Numbers.{number_bytes}
 use Rattle.q_book.specs.State.{BookState}
 use Rattle.q_replay.specs.Head.{Head}
 use Rattle.q_replay.specs.Spelling.{head_bytes, event_bytes, IsHead, IsWritten}

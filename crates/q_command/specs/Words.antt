@@ -125,6 +125,15 @@ bqview =
     let journals = with_subcommand (with_subcommand scripts audit_app.top) gather_app.top in
     with_subcommand (with_subcommand journals node_app.top) client_app.top
 
+-- the commands of the program
+abbrev pub commands : List Text
+commands = codes "asm" ∷ codes "dis" ∷ codes "check" ∷ codes "run" ∷ codes "sim" ∷ codes "cluster" ∷ codes "audit" ∷ codes "gather" ∷ codes "node" ∷ codes "client" ∷ []
+
+-- Inner words, of the private functions that read a command: its name is one of these.
+abbrev pub IsOneOf : Text → List Text → Type 0
+IsOneOf name [] = ⊥
+IsOneOf name (known ∷ others) = (name ≡ known) ⊎ IsOneOf name others
+
 -- Inner words, of the private functions that put the commands together: the command is this one, with no option for the
 -- commands below it; or memory ran out.
 abbrev pub Has : {E : Type 0} → Result Command E → App → Type 0

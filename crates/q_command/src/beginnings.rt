@@ -1,7 +1,7 @@
 //! The longest beginning of bytes that is a journal.
 
 ghost use Rattle.std.specs.Prelude.{◌≡◌, ◌<◌, ◌≤◌, ◌-◌, ◌^◌, ◌∷◌, ◌++◌, [], ℕ, List, length, take, IfOk, IfErr, IfSome, IfNone, MatchBool, MatchOption};
-ghost use Rattle.sc_msg.specs.Numbers.{number_bytes};
+ghost use Rattle.spelling.specs.Numbers.{number_bytes};
 ghost use Rattle.q_replay.specs.Spelling.{event_bytes, IsWritten};
 ghost use Rattle.q_replay.specs.declared.raw_entry.RawEntry.{RawEntry};
 ghost use Rattle.q_replay.specs.Replayed.{IsFault};
@@ -164,7 +164,7 @@ fn byte(bytes: &[u8]) -> Option<(u8, &[u8])>
 }
 
 /// A number of four bytes, and what stands after it; none where the bytes are fewer.
-#[tactic(auto, unfolding(sc_msg::specs::Numbers::number_bytes))]
+#[tactic(auto, unfolding(spelling::specs::Numbers::number_bytes))]
 fn word(bytes: &[u8]) -> Option<(u32, &[u8])>
     ensures told { IfSome result (λ r. bytes.now ≡ number_bytes 4 r.0 ++ r.1.now) }
     ensures fits { IfSome result (λ r. r.0 < 2 ^ 32) }

@@ -31,13 +31,21 @@ pub(crate) fn note_journal<N: Write>(notes: &mut N, name: &str, fault: ReplayFau
     };
 }
 
+/// The place of the first book of the node with this id, from a place on.
+fn book_of(books: &[Book], id: u64, from: usize) -> Option<usize> {
+    for (place, book) in books.iter().enumerate().skip(from) {
+        if book.id() == id {
+            return Some(place);
+        }
+    }
+    None
+}
+
 /// The place of the first book of which a later book is of the same node, and the place of that.
 fn twice(books: &[Book]) -> Option<(usize, usize)> {
     for (place, book) in books.iter().enumerate() {
-        for (later, other) in books.iter().enumerate().skip(place + 1) {
-            if other.id() == book.id() {
-                return Some((place, later));
-            }
+        if let Some(later) = book_of(books, book.id(), place + 1) {
+            return Some((place, later));
         }
     }
     None
@@ -75,6 +83,26 @@ fn named_founders(books: &[Book]) -> Option<(usize, &[u64])> {
     None
 }
 
+/// The place of the first book whose head names other founders than these.
+fn other_founders(books: &[Book], founders: &[u64]) -> Option<usize> {
+    for (place, book) in books.iter().enumerate() {
+        if book.founders().is_some_and(|others| others != founders) {
+            return Some(place);
+        }
+    }
+    None
+}
+
+/// The first of these founders that has no book.
+fn missing_founder(books: &[Book], founders: &[u64]) -> Option<u64> {
+    for founder in founders {
+        if book_of(books, *founder, 0).is_none() {
+            return Some(*founder);
+        }
+    }
+    None
+}
+
 /// Says which head names other founders than the first that names some, or of which founder there is no journal.
 fn note_founders<N: Write>(notes: &mut N, names: &[&str], books: &[Book]) {
     let Some((place, founders)) = named_founders(books) else {
@@ -82,21 +110,14 @@ fn note_founders<N: Write>(notes: &mut N, names: &[&str], books: &[Book]) {
         return;
     };
     let first = name_at(names, place);
-    for (place, book) in books.iter().enumerate() {
-        if book.founders().is_some_and(|others| others != founders) {
-            let name = name_at(names, place);
-            let _ = writeln!(notes, "{name}: It names other founders than {first}.");
-            return;
-        }
-    }
-    for founder in founders {
-        if !books.iter().any(|book| book.id() == *founder) {
-            let _ = writeln!(
-                notes,
-                "{first}: It names a founder, node {founder}, whose journal is missing."
-            );
-            return;
-        }
+    if let Some(place) = other_founders(books, founders) {
+        let name = name_at(names, place);
+        let _ = writeln!(notes, "{name}: It names other founders than {first}.");
+    } else if let Some(founder) = missing_founder(books, founders) {
+        let _ = writeln!(
+            notes,
+            "{first}: It names a founder, node {founder}, whose journal is missing."
+        );
     }
 }
 

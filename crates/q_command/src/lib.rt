@@ -48,6 +48,7 @@ mod denied;
 mod gathered_answers;
 mod gathered_ending;
 mod gathered_teller;
+mod help;
 mod journal_files;
 mod journal_notes;
 mod journal_sources;

@@ -8,8 +8,10 @@ ghost use Rattle.bq_state.specs.Kinds.{AreLengths};
 ghost use Rattle.clap.specs.Words.{App, Rule, app_of, first_of, found_of, new_app, rows_of, with_rule, with_subcommand};
 ghost use Rattle.clap.specs.declared.builder.command.Command.TheViews.{out-Command};
 ghost use Rattle.q_command.specs.declared.words.WordsFault.TheVariants.{OutOfMemory};
-ghost use Rattle.q_command.specs.Words.{Has, IsRule, asm_app, dis_app, check_app, run_app, sim_app, cluster_app, audit_app, gather_app, node_app, client_app, bare_app, bqview, flag, operand, operands, option, optional, demanded, with_bytes, with_lengths, form_of, operand_of, operands_of, is_given, is_strict, AreBadRunners, AreGiven, AreBad, AreRunners, HasLengths, HasLineFault, IsMet, IsRunners, Reads, Tells, TellsUngiven, exit_status};
+ghost use Rattle.q_command.specs.Words.{Has, IsRule, check_app, run_app, script_app, gather_app, node_app, client_app, bare_app, bqview, commands, flag, operand, operands, option, optional, demanded, with_bytes, with_lengths, form_of, operand_of, operands_of, is_given, is_strict, AreBadRunners, AreGiven, AreBad, AreRunners, HasLengths, HasLineFault, IsMet, IsOneOf, IsRunners, Reads, Tells, TellsUngiven, exit_status};
 
+use crate::help;
+use crate::help::About;
 use bq_state::Bounds;
 use clap::error::ErrorKind;
 use clap::{Arg, ArgAction, ArgMatches, Command, Error};
@@ -253,21 +255,13 @@ impl From<AllocError> for WordsFault<'_> {
 /// The version of the program, which `bqview --version` prints.
 pub const VERSION: &str = "0.1.0";
 
-/// What FILE names.
-const ASSEMBLER: &str =
-    "A file of assembler text, one instruction a line; `-` is the standard input";
-
-/// What FILE names where it may hold bytes.
-const PROGRAM: &str =
-    "A file of assembler text, or with --bytes of the program's bytes; `-` is the standard input";
-
 /// A command of this name, with nothing below it yet.
-fn new_command<'a>(alloc: Global, name: &'a str, about: &'a str, after_help: &'a str) -> Command<'a>
+fn new_command<'a>(alloc: Global, name: &'a str, told: About) -> Command<'a>
     ensures { (app_of result ≡ new_app name.entry.now) × ((out-Command result).has_globals ≡ false) }
 {
     Command::new(alloc, name)
-        .about(about)
-        .after_help(after_help)
+        .about(told.about)
+        .after_help(told.after_help)
 }
 
 /// An operand, which must be there.
@@ -284,11 +278,7 @@ fn operand<'a>(alloc: Global, name: &'a str, help: &'a str) -> Arg<'a>
 fn operands<'a>(alloc: Global, name: &'a str, help: &'a str) -> Arg<'a>
     ensures { IsRule result (operands name.entry.now) }
 {
-    Arg::new(alloc, name)
-        .help(help)
-        .required(true)
-        .num_args(1..)
-        .action(ArgAction::Set)
+    operand(alloc, name, help).num_args(1..)
 }
 
 /// An option, which may be left out.
@@ -352,26 +342,8 @@ fn with_lengths<'a>(
 ) -> Result<Command<'a>, AllocError>
     ensures { (app : App) → Has command.entry app → Has result (with_lengths app) }
 {
-    let least = with_argument(
-        command,
-        option(
-            alloc,
-            "least",
-            "The fewest bytes of a record, from 16",
-            "BYTES",
-            "16",
-        ),
-    );
-    with_argument(
-        least,
-        option(
-            alloc,
-            "most",
-            "The most bytes of a record, to 128",
-            "BYTES",
-            "128",
-        ),
-    )
+    let least = with_argument(command, option(alloc, "least", help::LEAST, "BYTES", "16"));
+    with_argument(least, option(alloc, "most", help::MOST, "BYTES", "128"))
 }
 
 /// The command, if there is one, with the flag `--bytes`.
@@ -381,78 +353,45 @@ fn with_bytes<'a>(
 ) -> Result<Command<'a>, AllocError>
     ensures { (app : App) → Has command.entry app → Has result (with_bytes app) }
 {
-    with_argument(
-        command,
-        flag(
-            alloc,
-            "bytes",
-            "FILE holds the program's bytes, as `llvm-objcopy -O binary --only-section=.text` leaves them",
-        ),
-    )
+    with_argument(command, flag(alloc, "bytes", help::AS_BYTES))
 }
 
-/// The command `asm`.
-fn asm_command<'a>(alloc: Global) -> Result<Command<'a>, AllocError>
-    ensures { Has result asm_app }
+/// A command with one operand, the name of a file.
+fn file_command<'a>(
+    alloc: Global,
+    name: &'a str,
+    told: About,
+    file: &'a str,
+    help: &'a str,
+) -> Result<Command<'a>, AllocError>
+    ensures { Has result (with_rule (new_app name.entry.now) (operand file.entry.now)) }
 {
-    let command = new_command(
-        alloc,
-        "asm",
-        "Prints each unit of a program as 16 hexadecimal digits, one a line",
-        "All is printed at the end. What explains a refusal goes to the standard error.\nExit status: 0; 1 after a refusal, or where the output fails; 2 for a wrong command line.\nExample: bqview asm examples/count.bpf\nFormats: docs/FORMATS.md, \"Assembler text\"",
-    );
-    with_argument(Ok(command), operand(alloc, "FILE", ASSEMBLER))
+    let command = new_command(alloc, name, told);
+    with_argument(Ok(command), operand(alloc, file, help))
 }
 
-/// The command `dis`.
-fn dis_command<'a>(alloc: Global) -> Result<Command<'a>, AllocError>
-    ensures { Has result dis_app }
+/// A command `NAME SCRIPT`, with the flag `--strict`.
+fn script_command<'a>(
+    alloc: Global,
+    name: &'a str,
+    told: About,
+    script: &'a str,
+    strict: &'a str,
+) -> Result<Command<'a>, AllocError>
+    ensures { Has result (script_app name.entry.now) }
 {
-    let command = new_command(
-        alloc,
-        "dis",
-        "Prints the assembler text of a program's bytes, one instruction a line",
-        "All is printed at the end. What explains a refusal goes to the standard error.\nExit status: 0; 1 after a refusal, or where the output fails; 2 for a wrong command line.\nExample: bqview dis examples/c/any.bin\nFormats: docs/FORMATS.md, \"Assembler text\"",
-    );
-    with_argument(
-        Ok(command),
-        operand(
-            alloc,
-            "FILE",
-            "A file of a program's bytes, eight a unit; `-` is the standard input",
-        ),
-    )
+    let file = file_command(alloc, name, told, "SCRIPT", script);
+    with_argument(file, flag(alloc, "strict", strict))
 }
 
 /// The command `check`.
 fn check_command<'a>(alloc: Global) -> Result<Command<'a>, AllocError>
     ensures { Has result check_app }
 {
-    let command = new_command(
-        alloc,
-        "check",
-        "Proves that a program never faults, and prints its most steps",
-        "All is printed at the end. What explains a refusal goes to the standard error.\nExit status: 0; 1 after a refusal, or where OUT or the output fails; 2 for a wrong command line.\nExample: bqview check --states examples/count.bpf\nFormats: docs/FORMATS.md, \"Assembler text\" and \"Notes\"",
-    );
-    let file = with_argument(Ok(command), operand(alloc, "FILE", PROGRAM));
+    let file = file_command(alloc, "check", help::CHECK, "FILE", help::PROGRAM);
     let form = with_bytes(alloc, file);
-    let states = with_argument(
-        form,
-        flag(
-            alloc,
-            "states",
-            "Prints for each unit what is known of the registers there",
-        ),
-    );
-    let notes = with_argument(
-        states,
-        optional(
-            alloc,
-            "notes",
-            "Writes the program's notes to this file, for a client to send",
-            "OUT",
-        ),
-    );
+    let states = with_argument(form, flag(alloc, "states", help::STATES));
+    let notes = with_argument(states, optional(alloc, "notes", help::NOTES, "OUT"));
     with_lengths(alloc, notes)
 }
 
@@ -460,231 +399,41 @@ fn check_command<'a>(alloc: Global) -> Result<Command<'a>, AllocError>
 fn run_command<'a>(alloc: Global) -> Result<Command<'a>, AllocError>
     ensures { Has result run_app }
 {
-    let command = new_command(
-        alloc,
-        "run",
-        "Runs a program over records, and prints the answer and the steps",
-        "All is printed at the end. What explains a refusal goes to the standard error.\nExit status: 0; 1 after a refusal, or where the output fails; 2 for a wrong command line.\nExample: bqview run --least 64 examples/sum.bpf 0 examples/three.records\nFormats: docs/FORMATS.md, \"Assembler text\" and \"Lists of records\"",
-    );
-    let file = with_argument(Ok(command), operand(alloc, "FILE", PROGRAM));
-    let start = with_argument(
-        file,
-        operand(
-            alloc,
-            "START",
-            "The accumulator to begin with, a number below 2^64 in decimal",
-        ),
-    );
-    let records = with_argument(
-        start,
-        operand(
-            alloc,
-            "RECORDS",
-            "A file of lines `ID SEQ VALUE`, one for each record, by rising ids; `-` is the standard input",
-        ),
-    );
+    let file = file_command(alloc, "run", help::RUN, "FILE", help::PROGRAM);
+    let start = with_argument(file, operand(alloc, "START", help::START));
+    let records = with_argument(start, operand(alloc, "RECORDS", help::RECORDS));
     let form = with_bytes(alloc, records);
     with_lengths(alloc, form)
-}
-
-/// The command `sim`.
-fn sim_command<'a>(alloc: Global) -> Result<Command<'a>, AllocError>
-    ensures { Has result sim_app }
-{
-    let command = new_command(
-        alloc,
-        "sim",
-        "Runs a script over a cluster in memory, and prints what events tell",
-        "All is printed at the end. What explains refused lines goes to the standard error.\nExit status: 0; 1 after a refusal of the script, where a journal or the output fails, or as --strict says; 2 for a wrong command line.\nExample: bqview sim examples/count.sim\nFormats: docs/FORMATS.md, \"Scripts\"",
-    );
-    let script = with_argument(
-        Ok(command),
-        operand(
-            alloc,
-            "SCRIPT",
-            "A file of events, one a line, of which the first founds the cluster; `-` is the standard input",
-        ),
-    );
-    with_argument(
-        script,
-        flag(
-            alloc,
-            "strict",
-            "Ends with status 1 where a line was refused",
-        ),
-    )
-}
-
-/// The command `cluster`.
-fn cluster_command<'a>(alloc: Global) -> Result<Command<'a>, AllocError>
-    ensures { Has result cluster_app }
-{
-    let command = new_command(
-        alloc,
-        "cluster",
-        "Runs a script over nodes with sockets, and prints what its lines tell",
-        "All is printed at the end. What explains refusals goes to the standard error.\nExit status: 0; 1 where a refusal ends the run or the output fails, or as --strict says; 2 for a wrong command line.\nExample: bqview cluster examples/three.cluster\nFormats: docs/FORMATS.md, \"Scripts of nodes with sockets\"",
-    );
-    let script = with_argument(
-        Ok(command),
-        operand(
-            alloc,
-            "SCRIPT",
-            "A file of `nodes`, programs, stores and queries, one a line; `-` is the standard input",
-        ),
-    );
-    with_argument(
-        script,
-        flag(
-            alloc,
-            "strict",
-            "Ends with status 1 where a line was refused or unanswered",
-        ),
-    )
-}
-
-/// The command `audit`.
-fn audit_command<'a>(alloc: Global) -> Result<Command<'a>, AllocError>
-    ensures { Has result audit_app }
-{
-    let command = new_command(
-        alloc,
-        "audit",
-        "Replays a node's journal, and prints the answers that it recorded",
-        "All is printed at the end. What explains a refusal goes to the standard error.\nExit status: 0; 1 after a refusal, or where the output fails; 2 for a wrong command line.\nExample: bqview audit node.journal\nFormats: docs/FORMATS.md, \"Journals\"",
-    );
-    with_argument(
-        Ok(command),
-        operand(
-            alloc,
-            "JOURNAL",
-            "A file that the line `journal NODE FILE` of a script wrote; `-` is the standard input",
-        ),
-    )
 }
 
 /// The command `gather`.
 fn gather_command<'a>(alloc: Global) -> Result<Command<'a>, AllocError>
     ensures { Has result gather_app }
 {
-    let command = new_command(
-        alloc,
-        "gather",
-        "Gathers the journals of all nodes of a run, and prints its answers with their views",
-        "Prints a line for each journal: its node, its events, and the bytes of a last event that is not whole; then each recorded answer with the view that it saw, and `journals ok`: the journals fit together as those of one run, and each answer is its program's meaning over that view. It says so from the bytes of the journals alone.\nAll is printed at the end. What explains a refusal goes to the standard error.\nExit status: 0; 1 after a refusal, or where the output fails; 2 for a wrong command line.\nExample: bqview gather one.journal two.journal three.journal\nFormats: docs/FORMATS.md, \"Journals that are gathered\"",
-    );
-    let journals = with_argument(
-        Ok(command),
-        operands(
-            alloc,
-            "JOURNAL",
-            "Files of journals, one for each node that ever was in the cluster",
-        ),
-    );
-    with_argument(
-        journals,
-        flag(
-            alloc,
-            "pairs",
-            "Prints for each ended store and each collect that began later the least node where they meet",
-        ),
-    )
+    let command = new_command(alloc, "gather", help::GATHER);
+    let journals = with_argument(Ok(command), operands(alloc, "JOURNAL", help::GATHERED));
+    with_argument(journals, flag(alloc, "pairs", help::PAIRS))
 }
 
 /// The command `node`.
 fn node_command<'a>(alloc: Global) -> Result<Command<'a>, AllocError>
     ensures { Has result node_app }
 {
-    let command = new_command(
-        alloc,
-        "node",
-        "Runs a node of a cluster as a process of its own",
-        "There is no authentication and no encryption. An address that is not loopback is open to all who reach it. A Unix socket's file mode decides who may connect.\nThe standard input is the node's console, one command a line: `status` tells how it is, `leave` leaves the cluster for good, and `end` ends the node, as the end of the input does.\nWhat explains a refusal goes to the standard error.\nExit status: 0; 1 after a refusal, or where the journal or the output fails; 2 for a wrong command line.\nExample: bqview node examples/apart/three.nodes 1 --clients 127.0.0.1:8001 --journal one.journal\nFormats: docs/FORMATS.md, \"Clusters of nodes apart\"",
-    );
-    let file = with_argument(
-        Ok(command),
-        operand(
-            alloc,
-            "FILE",
-            "The file of the cluster, one for all machines",
-        ),
-    );
-    let id = with_argument(
-        file,
-        operand(alloc, "ID", "The node's id, a number below 2^64 in decimal"),
-    );
-    let clients = with_argument(
-        id,
-        demanded(
-            alloc,
-            "clients",
-            "Where clients connect: an address, as 10.88.0.1:8000, or the path of a Unix socket, which has a slash",
-            "ADDR",
-        ),
-    );
-    let journal = with_argument(
-        clients,
-        demanded(
-            alloc,
-            "journal",
-            "Writes the node's journal to this file, which must not be there yet",
-            "FILE",
-        ),
-    );
-    let runners = with_argument(
-        journal,
-        option(
-            alloc,
-            "runners",
-            "How many threads run programs, from 1 to 64",
-            "R",
-            "2",
-        ),
-    );
-    with_argument(
-        runners,
-        flag(
-            alloc,
-            "sync",
-            "Asks the system to keep each part of the journal on the disk before anything is sent",
-        ),
-    )
+    let file = file_command(alloc, "node", help::NODE, "FILE", help::NODES);
+    let id = with_argument(file, operand(alloc, "ID", help::ID));
+    let clients = with_argument(id, demanded(alloc, "clients", help::CLIENTS, "ADDR"));
+    let journal = with_argument(clients, demanded(alloc, "journal", help::JOURNAL, "FILE"));
+    let runners = with_argument(journal, option(alloc, "runners", help::RUNNERS, "R", "2"));
+    with_argument(runners, flag(alloc, "sync", help::SYNC))
 }
 
 /// The command `client`.
 fn client_command<'a>(alloc: Global) -> Result<Command<'a>, AllocError>
     ensures { Has result client_app }
 {
-    let command = new_command(
-        alloc,
-        "client",
-        "Runs a client's script over a connection with a node, and prints what its lines tell",
-        "What a line tells is printed once its reply came. What explains refused lines goes to the standard error. There is no authentication and no encryption.\nExit status: 0; 1 after a refusal of the script, where the connection or the output fails, or as --strict says; 2 for a wrong command line.\nExample: bqview client 127.0.0.1:8001 examples/apart/count.client\nFormats: docs/FORMATS.md, \"Scripts of clients\"",
-    );
-    let place = with_argument(
-        Ok(command),
-        operand(
-            alloc,
-            "ADDR",
-            "Where the node's clients connect: an address, as 10.88.0.1:8000, or the path of a Unix socket, which has a slash",
-        ),
-    );
-    let script = with_argument(
-        place,
-        operand(
-            alloc,
-            "SCRIPT",
-            "A file of programs, stores and queries, one a line; `-` is the standard input",
-        ),
-    );
-    with_argument(
-        script,
-        flag(
-            alloc,
-            "strict",
-            "Ends with status 1 where a line was refused or unanswered",
-        ),
-    )
+    let place = file_command(alloc, "client", help::CLIENT, "ADDR", help::ADDRESS);
+    let script = with_argument(place, operand(alloc, "SCRIPT", help::REQUESTS));
+    with_argument(script, flag(alloc, "strict", help::UNANSWERED))
 }
 
 /// The command with one more command below it, if there are both.
@@ -707,12 +456,8 @@ fn with_command<'a>(
 fn bare_program<'a>(alloc: Global) -> Command<'a>
     ensures { (app_of result ≡ bare_app) × ((out-Command result).has_globals ≡ false) }
 {
-    Command::new(alloc, "bqview")
-        .about("Programs of RFC 9669 over store-collect views")
+    new_command(alloc, "bqview", help::BQVIEW)
         .version(VERSION)
-        .after_help(
-            "A file named `-` is the standard input. `bqview COMMAND --help` tells of a command.\nExit status: 0; 1 after a refusal, or where a file or the output fails; 2 for a wrong command line.\nExample: bqview sim examples/count.sim\nFormats: docs/FORMATS.md, refusals: docs/REFUSALS.md",
-        )
         .subcommand_required(true)
         .disable_help_subcommand(true)
 }
@@ -721,16 +466,27 @@ fn bare_program<'a>(alloc: Global) -> Command<'a>
 fn program<'a>(alloc: Global) -> Result<Command<'a>, AllocError>
     ensures { Has result bqview }
 {
-    let asm = with_command(Ok(bare_program(alloc)), asm_command(alloc));
-    let dis = with_command(asm, dis_command(alloc));
-    let check = with_command(dis, check_command(alloc));
-    let run = with_command(check, run_command(alloc));
-    let sim = with_command(run, sim_command(alloc));
-    let cluster = with_command(sim, cluster_command(alloc));
-    let audit = with_command(cluster, audit_command(alloc));
-    let gather = with_command(audit, gather_command(alloc));
-    let node = with_command(gather, node_command(alloc));
-    with_command(node, client_command(alloc))
+    let asm = file_command(alloc, "asm", help::ASM, "FILE", help::ASSEMBLER);
+    let dis = file_command(alloc, "dis", help::DIS, "FILE", help::BYTES);
+    let sim = script_command(alloc, "sim", help::SIM, help::EVENTS, help::REFUSED);
+    let cluster = script_command(
+        alloc,
+        "cluster",
+        help::CLUSTER,
+        help::CALLS,
+        help::UNANSWERED,
+    );
+    let audit = file_command(alloc, "audit", help::AUDIT, "JOURNAL", help::AUDITED);
+    let with_asm = with_command(Ok(bare_program(alloc)), asm);
+    let with_dis = with_command(with_asm, dis);
+    let with_check = with_command(with_dis, check_command(alloc));
+    let with_run = with_command(with_check, run_command(alloc));
+    let with_sim = with_command(with_run, sim);
+    let with_cluster = with_command(with_sim, cluster);
+    let with_audit = with_command(with_cluster, audit);
+    let with_gather = with_command(with_audit, gather_command(alloc));
+    let with_node = with_command(with_gather, node_command(alloc));
+    with_command(with_node, client_command(alloc))
 }
 
 /// The text of an operand.
@@ -952,43 +708,43 @@ pub fn given_words(
     Ok(given?.collect(alloc)?)
 }
 
+/// The command of this name with what was found for its operands and options.
+fn wanted_of<'a>(
+    alloc: Global,
+    name: &str,
+    found: &ArgMatches<'a>,
+) -> Result<Wanted<'a>, WordsFault<'a>>
+    requires { IsOneOf name.now commands }
+    ensures { MatchResult result (λ wanted. IsMet wanted (name.now, rows_of (found_of found.now))) (λ e. HasLineFault e (name.now, rows_of (found_of found.now))) }
+{
+    match name {
+        "asm" => Ok(Wanted::FileCommand(FileCommand::Asm {
+            file: operand_text(found, "FILE"),
+        })),
+        "dis" => Ok(Wanted::FileCommand(FileCommand::Dis {
+            file: operand_text(found, "FILE"),
+        })),
+        "check" => check_line(found),
+        "run" => run_line(found),
+        "sim" => Ok(sim_line(found)),
+        "cluster" => Ok(cluster_line(found)),
+        "audit" => Ok(Wanted::FileCommand(FileCommand::Audit {
+            journal: operand_text(found, "JOURNAL"),
+        })),
+        "gather" => gather_line(alloc, found),
+        "node" => node_line(found),
+        "client" => Ok(client_line(found)),
+        _ => unreachable!(),
+    }
+}
+
 /// Reads the words of the command line, of which the first is the program's name.
 pub fn read_words<'a, S: AsStr>(alloc: Global, words: &'a [S]) -> Result<Wanted<'a>, WordsFault<'a>>
     ensures { Reads (map S.text words.entry.now) result }
 {
     let matches = program(alloc)?.try_get_matches_from(words)?;
-    if let Some(found) = matches.subcommand_matches("asm") {
-        let file = operand_text(found, "FILE");
-        return Ok(Wanted::FileCommand(FileCommand::Asm { file }));
-    }
-    if let Some(found) = matches.subcommand_matches("dis") {
-        let file = operand_text(found, "FILE");
-        return Ok(Wanted::FileCommand(FileCommand::Dis { file }));
-    }
-    if let Some(found) = matches.subcommand_matches("check") {
-        return check_line(found);
-    }
-    if let Some(found) = matches.subcommand_matches("run") {
-        return run_line(found);
-    }
-    if let Some(found) = matches.subcommand_matches("sim") {
-        return Ok(sim_line(found));
-    }
-    if let Some(found) = matches.subcommand_matches("cluster") {
-        return Ok(cluster_line(found));
-    }
-    if let Some(found) = matches.subcommand_matches("audit") {
-        let journal = operand_text(found, "JOURNAL");
-        return Ok(Wanted::FileCommand(FileCommand::Audit { journal }));
-    }
-    if let Some(found) = matches.subcommand_matches("gather") {
-        return gather_line(alloc, found);
-    }
-    if let Some(found) = matches.subcommand_matches("node") {
-        return node_line(found);
-    }
-    match matches.subcommand_matches("client") {
-        Some(found) => Ok(client_line(found)),
+    match matches.subcommand() {
+        Some((name, found)) => wanted_of(alloc, name, found),
         None => unreachable!(),
     }
 }

@@ -8,6 +8,9 @@ pub use Rattle.forms.proofs.Calls.{same_answer, no_refusal, passed, tested_ok}
 use Rattle.forms.proofs.Calls.{and_then_ok}
 use Rattle.bq_range.specs.Interval.{Interval}
 use Rattle.sc_view.specs.Views.{ViewMap}
+use Rattle.sc_node.specs.Nodes as node
+use Rattle.sc_node.specs.State.{NodeState}
+use Rattle.sc_node.specs.declared.answer.Begun.{Begun}
 use Rattle.bq_check.specs.Certificate.{Certificate}
 use Rattle.q_table.specs.Programs as table
 use Rattle.q_session.specs.declared.ran.Ran.{Ran}
@@ -61,18 +64,6 @@ keeps_on d e f a b = record {
   answers = λ k q view ran h is. b.answers k q view ran (a.answers k q view ran h is) is;
 }
 
-pub collecting_has_none : (p : Phase) → desk.is_collecting p ≡ true → HasNone p
-collecting_has_none Collecting h view ran is = absurd (cc)
-collecting_has_none (Ready v) h view ran is = absurd (cc)
-collecting_has_none (Running v) h view ran is = absurd (cc)
-collecting_has_none (Answered v a) h view ran is = absurd (cc)
-
-pub ready_has_none : (p : Phase) (v : ViewMap) → p ≡ Ready v → HasNone p
-ready_has_none p v is view ran answered = let h : Ready v ≡ Answered view ran = sym is ∙ answered in absurd (cc)
-
-pub running_has_none : (p : Phase) (v : ViewMap) → p ≡ Running v → HasNone p
-running_has_none p v is view ran answered = let h : Running v ≡ Answered view ran = sym is ∙ answered in absurd (cc)
-
 -- lengths that pass the test are the same
 pub same_lengths : (a b : Interval) → (a.lo == b.lo && a.hi == b.hi) ≡ true → a ≡ b
 same_lengths a b h =
@@ -92,6 +83,10 @@ registered_is d program y h =
     let fits = passed (desk.is_checked_for d.lengths program) reasons.WrongBounds _ y h in
     let z = and_then_ok (table.registered d.programs program) (desk.registers d program) y fits.1 in
     (z.0, z.1, same_answer _ y (tested_ok (desk.room d) _ y z.2).1)
+
+-- a collect has the tag that is the node's next
+pub collect_tag : (n later : NodeState) (a : Begun) → node.collect_begun n ≡ Ok (a, later) → a.tag ≡ n.operations
+collect_tag n later a h = sym (ap (λ (x : Begun × NodeState). x.0.tag) (same_answer _ (a, later) (tested_ok (node.opening n) _ (a, later) h).1))
 
 -- ---- the job that is handed out
 

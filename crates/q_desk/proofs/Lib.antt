@@ -6,7 +6,6 @@ mod Jobs
 mod Phases
 mod Running
 pub mod Accepted
-pub mod Moves
 pub mod Changes
 pub mod Own
 mod NextJobs

@@ -1,8 +1,9 @@
 -- Requests that were replied to, one after the other.
-use Rattle.std.proofs.Common.{◌≡◌, ℕ, List, [], ◌∷◌, ◌++◌, Option, sym, ap, ◌∙◌, append_assoc, append-nil, subst}
-use Rattle.std.specs.List.{AllByRecursion, AllZip, flat_map}
+use Rattle.std.proofs.Common.{◌≡◌, ℕ, List, [], ◌∷◌, ◌++◌, Option, sym, ◌∙◌, append-nil, subst}
+use Rattle.std.specs.List.{AllZip}
 use Rattle.std.specs.Io.KnownBytes.{Appends, Consumes}
 use Rattle.std.proofs.KnownBytes.{Appends-nil, Appends-trans, Consumes-nil, Consumes-trans}
+use Rattle.spelling.proofs.Codes.{all_push, flat_map_push}
 use Rattle.sc_msg.specs.declared.version.Version.{Version}
 use Rattle.q_net.specs.declared.request.Request.{Request}
 use Rattle.q_net.specs.declared.replies.Reply.{Reply}
@@ -22,16 +23,6 @@ exchanges_none version node gives input before = record {
 }
 
 -- one more at the end
-flat_map-more : {A : Type 0} (bytes_of : A → List ℕ) (xs : List A) (x : A)
-    → flat_map bytes_of (xs ++ x ∷ []) ≡ flat_map bytes_of xs ++ bytes_of x
-flat_map-more bytes_of [] x = append-nil (bytes_of x)
-flat_map-more bytes_of (y ∷ ys) x = ap (λ (l : List ℕ). bytes_of y ++ l) (flat_map-more bytes_of ys x) ∙ sym (append_assoc (bytes_of y) (flat_map bytes_of ys) (bytes_of x))
-
-legal_more : (version : Version) (rs : List Request) (r : Request) → AllByRecursion (IsRequest version) rs
-    → IsRequest version r → AllByRecursion (IsRequest version) (rs ++ r ∷ [])
-legal_more version [] r h p = (p, tt)
-legal_more version (q ∷ rs) r h p = (h.0, legal_more version rs r h.1 p)
-
 said_more : (node : ℕ) (gives : Giving) (rs : List Request) (bs : List Reply) (r : Request) (a : Reply) → AllZip (IsTold node gives) rs bs
     → IsTold node gives r a → AllZip (IsTold node gives) (rs ++ r ∷ []) (bs ++ a ∷ [])
 said_more node gives [] [] r a h p = (p, tt)
@@ -56,11 +47,11 @@ exchanges_more version node gives input mid left before between after r a e lega
     let wrote = Appends-trans before between after (replies_bytes e.replies) (reply_bytes a) (written_of version node gives input mid before between e) written in
     record {
       requests = e.requests ++ r ∷ [];
-      legal = legal_more version e.requests r e.legal legal;
-      consumed = subst (Consumes input left) (sym (append-nil (spellings (e.requests ++ r ∷ [])) ∙ flat_map-more spelling e.requests r)) read;
+      legal = all_push (IsRequest version) e.requests r e.legal legal;
+      consumed = subst (Consumes input left) (sym (append-nil (spellings (e.requests ++ r ∷ [])) ∙ flat_map_push spelling e.requests r)) read;
       replies = e.replies ++ a ∷ [];
       said = said_more node gives e.requests e.replies r a e.said said;
-      written = subst (Appends before after) (sym (append-nil (replies_bytes (e.replies ++ a ∷ [])) ∙ flat_map-more reply_bytes e.replies a)) wrote;
+      written = subst (Appends before after) (sym (append-nil (replies_bytes (e.replies ++ a ∷ [])) ∙ flat_map_push reply_bytes e.replies a)) wrote;
     }
 
 -- what was read and written behind them

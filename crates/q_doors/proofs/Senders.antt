@@ -3,10 +3,10 @@ use Rattle.std.proofs.Common.{◌≡◌, ℕ, ◌^◌, ◌<◌, ◌≤◌, List,
 use Rattle.std.specs.declared.net.socket_addr.SocketAddr.{SocketAddr}
 use Rattle.sc_msg.specs.declared.version.Version.{Version}
 use Rattle.sc_msg.specs.declared.message.Message.{Message}
-use Rattle.sc_msg.specs.Numbers.{number_bytes}
+use Rattle.spelling.specs.Numbers.{number_bytes}
 use Rattle.sc_msg.specs.Fields.{fields, fields_bytes}
 use Rattle.sc_msg.specs.Messages.{message_bytes}
-use Rattle.sc_msg.proofs.Numbers.{length-number_bytes, first_number-number_bytes}
+use Rattle.spelling.proofs.Numbers.{length-number_bytes, first_number-number_bytes}
 use Rattle.q_script.specs.declared.node_line.NodeLine.{NodeLine}
 use Rattle.q_doors.specs.Datagrams.{IsAdmitted, address_of, framed, sender_in}
 

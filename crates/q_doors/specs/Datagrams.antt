@@ -2,7 +2,7 @@
 use Rattle.std.specs.Prelude.{◌≡◌, ◌⊎◌, ℕ, ◌≤◌, ◌<◌, ◌==◌, List, ◌++◌, length, take, drop, find, option_map, Option, Some, IsSome}
 use Rattle.std.specs.Int.{w64, to_le_bytes}
 use Rattle.std.specs.declared.net.socket_addr.SocketAddr.{SocketAddr}
-use Rattle.sc_msg.specs.Numbers.{first_number}
+use Rattle.spelling.specs.Numbers.{first_number}
 use Rattle.q_script.specs.declared.node_line.NodeLine.{NodeLine}
 use Rattle.q_doors.specs.declared.post.Received.{Received}
 use Rattle.q_doors.specs.declared.post.Received.TheVariants.{Message, Stranger, Nothing}

@@ -1,5 +1,5 @@
 -- Texts that are written in parts.
-use Rattle.std.proofs.Common.{◌≡◌, ◌∙◌, ℕ, List, ◌++◌, ap, append_assoc}
+use Rattle.std.proofs.Common.{◌≡◌, ◌∙◌, ℕ, List, [], ◌∷◌, ◌++◌, ap, append_assoc, subst, sym}
 use Rattle.std.specs.Prelude.{Result, Ok, Err, OnOk, if◌then◌else◌}
 use Rattle.std.specs.Result.{is_ok}
 
@@ -12,3 +12,10 @@ both (Err e) before first rest between after h k = tt
 pub appended : {X E : Type 0} (r : Result X E) (after more same : List ℕ) → after ≡ (if is_ok r then more else same) → OnOk r (after ≡ more)
 appended (Ok x) after more same h = h
 appended (Err e) after more same h = tt
+
+-- a line is a label, words and its end, each of which was written after the one before
+pub lined : {X E : Type 0} (r : Result X E) (old label words labelled worded new line : List ℕ) → labelled ≡ old ++ label → worded ≡ labelled ++ words
+    → new ≡ (if is_ok r then worded ++ 10 ∷ [] else worded) → line ≡ label ++ (words ++ 10 ∷ []) → OnOk r (new ≡ old ++ line)
+lined r old label words labelled worded new line h k end is =
+    subst (λ (x : List ℕ). OnOk r (new ≡ old ++ x)) (sym is)
+    (both r old label (words ++ 10 ∷ []) labelled new h (both r labelled words (10 ∷ []) worded new k (appended r new (worded ++ 10 ∷ []) worded end)))

@@ -8,9 +8,7 @@ use Rattle.forms.specs.Calls.{tested}
 use Rattle.forms.proofs.Calls.{tested_pass}
 use Rattle.sc_view.specs.Views.{ViewMap}
 use Rattle.sc_msg.specs.declared.message.Message.{Message}
-use Rattle.sc_node.specs.declared.answer.Begun.{Begun}
 use Rattle.sc_world.specs.declared.event.WorldEvent.TheVariants as world_event
-use Rattle.sc_world.specs.State.{Past}
 use Rattle.sc_world.specs.Ledgers.{recorded}
 use Rattle.bq_meaning.proofs.Folding as folding
 use Rattle.bq_check.specs.Certificate.{Certificate}
@@ -31,26 +29,25 @@ use Rattle.reasons.specs.declared.Reason.TheVariants as reasons
 use Rattle.q_book.specs.State.{BookState}
 use Rattle.q_book.specs.Books as book
 use Rattle.q_book.specs.Replays.{Follows}
-use Rattle.q_book.specs.declared.answer.Asked.{Asked}
-use Rattle.q_book.specs.declared.answer.Taken.{Taken}
 use Rattle.q_history.specs.declared.event.ClusterEvent.{ClusterEvent}
 use Rattle.q_history.specs.declared.event.ClusterEvent.TheVariants as event
 use Rattle.q_history.specs.declared.event.ClusterStep.{ClusterStep}
 use Rattle.q_history.specs.Headline.{ClusterState}
-use Rattle.q_history.specs.Clusters.{lift, stepped, live_at, at as at_node, enters, entered, registers, opened, asks, stores, delivers, delivered_as, hands, posts, posted, finished, leaves}
+use Rattle.q_history.specs.Clusters.{lift, stepped, live_at, at as at_node, enters, entered, registers, asks, stores, delivers, delivered_as, hands, posts, posted, finished, leaves}
 use Rattle.q_history.specs.Calls.{Answers, AnswersTo, IsHistory}
 use Rattle.q_history.proofs.Lists.{same_some}
 use Rattle.q_desk.proofs.Accepted.{Keeps, keeps_itself, answered as with_answer, IsPosted}
 use Rattle.bq_insn.specs.Slots.{spelling}
 use Rattle.q_table.specs.Programs as table
 use Rattle.q_desk.proofs.Own.{job_by, and_both, same_bytes, same_number, own_fits}
-use Rattle.q_book.proofs.Followed.{is_posted}
+use Rattle.q_book.proofs.Followed.{deed, told, follows-accepted, is_posted}
+use Rattle.q_history.proofs.Accepted.{WasSent, event_for, outcome, ledger, ledger_sent, did_act}
 use Rattle.q_history.proofs.World.{at_live}
 use Rattle.q_history.proofs.Called.{With}
 use Rattle.q_history.proofs.Histories.{history_kept}
 use Rattle.q_cluster.specs.Acts.{book_at}
 use Rattle.q_gather.specs.Merging.{CanGo}
-use Rattle.q_book.specs.Sends.{seen, sends}
+use Rattle.q_book.specs.Sends.{sends}
 use Rattle.q_gather.specs.Traces.{step_of}
 use Rattle.q_gather.specs.Turns.{IsJobFor, IsEventOf, IsNext, IsTurn, Makes}
 use Rattle.q_gather.proofs.Lists.{get-same}
@@ -189,42 +186,41 @@ module _ (c : ClusterState) (h : IsHistory c) (id : ℕ) (b d : BookState) (up :
       (finish_makes c b d ran i it.job (ap (live_at c) it.by ∙ up) (((history_kept c h).headed id b stands).id ∙ sym it.by) (it.of ∙ sym of) posts
       ((history_jobs c h id b stands).each number it.job it.at it.by) right number it.at)
 
-  module _ (e : Entry) where
-    -- what the entry sends was recorded
-    noted_turn : (p : Past) (outs : List Message) → p.sent ≡ c.past.sent ++ outs → sends b e ≡ outs → IsTurn c id d (sends b e) (With c p c.jobs id d)
-    noted_turn p outs sent same = put_turn c p c.jobs id d (sends b e) (sent ∙ ap (λ (x : List Message). c.past.sent ++ x) (sym same))
+  -- the ledger has what the node did at the call of the entry, and there are these jobs
+  entry_turn : (e : Entry) (f : Follows b e d) (s : WasSent c.past.sent (deed e)) (jobs : List Job)
+      → (let r = outcome (told b e d f) d.node in IsTurn c id d (sends b e) (With c (ledger c.past id (event_for id c.past.sent (deed e) s) r) jobs id d))
+  entry_turn e f s jobs =
+      let a = follows-accepted b e d f in
+      let r = outcome (told b e d f) d.node in
+      let o = event_for id c.past.sent (deed e) s in
+      put_turn c (ledger c.past id o r) jobs id d (sends b e)
+      (ledger_sent c.past id o b.node r (did_act id c.past.sent b (deed e) s (told b e d f) d.node a.node) ∙ ap (λ (x : List Message). c.past.sent ++ x) a.sent)
 
-    -- the event by which the node takes the call of the entry, which runs no job
-    call_makes : {A : Type 0} (next : A → BookState → ClusterStep × ClusterState) (call : BookState → Result (A × BookState) Reason) (a : A) → call b ≡ Ok (a, d)
-        → (x ev : ClusterEvent) → ev ≡ x → AnswersTo c x nothing → ((r : Ran) → stepped r c x ≡ at_node c id (λ y. lift next (call y)))
-        → IsTurn c id d (sends b e) (next a d).1 → Makes c ev id d (sends b e)
-    call_makes next call a h x ev is right says turn =
-        subst (λ (y : ClusterEvent). Makes c y id d (sends b e)) (sym is)
-        (makes c x id d (sends b e) nothing (next a d) right (λ r _. says r ∙ call_says c id b d up next call a h) turn)
-
-  -- nothing was sent
-  quiet_turn : (jobs : List Job) → IsTurn c id d [] (With c c.past jobs id d)
-  quiet_turn jobs = put_turn c c.past jobs id d [] (sym (append-nil c.past.sent))
+  -- the event by which the node takes the call of the entry, which runs no job
+  call_makes : {A : Type 0} (e : Entry) (next : A → BookState → ClusterStep × ClusterState) (call : BookState → Result (A × BookState) Reason) (a : A) → call b ≡ Ok (a, d)
+      → (x ev : ClusterEvent) → ev ≡ x → AnswersTo c x nothing → ((r : Ran) → stepped r c x ≡ at_node c id (λ y. lift next (call y)))
+      → IsTurn c id d (sends b e) (next a d).1 → Makes c ev id d (sends b e)
+  call_makes e next call a h x ev is right says turn =
+      subst (λ (y : ClusterEvent). Makes c y id d (sends b e)) (sym is)
+      (makes c x id d (sends b e) nothing (next a d) right (λ r _. says r ∙ call_says c id b d up next call a h) turn)
 
   pub entry_makes : (e : Entry) (ev : ClusterEvent) → IsRightLater d.desk → Follows b e d → IsEventOf c id e ev → Makes c ev id d (sends b e)
   entry_makes entry.Leave ev right f is =
-      call_makes entry.Leave (leaves c id) book.left f.0 f.1 (event.Leave id) ev is tt (λ r. refl)
-      (noted_turn entry.Leave (recorded c.past (world_event.Leave id) id f.0 None None) f.0 refl (ap (seen (λ (x : List Message). x) []) f.1))
+      call_makes entry.Leave (leaves c id) book.left f.0 f.1 (event.Leave id) ev is tt (λ r. refl) (entry_turn entry.Leave f tt c.jobs)
   entry_makes (entry.Register program) ev right f is =
-      call_makes (entry.Register program) (registers c id) (λ x. book.registered x program) f.0 f.1 (event.Register id program) ev is tt (λ r. refl) (quiet_turn c.jobs)
+      call_makes (entry.Register program) (registers c id) (λ x. book.registered x program) f.0 f.1 (event.Register id program) ev is tt (λ r. refl)
+      (entry_turn (entry.Register program) f tt c.jobs)
   entry_makes (entry.Ask program start) ev right f is =
-      let begun = f.0.begun in
       call_makes (entry.Ask program start) (asks c id) (λ x. book.asked x program start) f.0 f.1 (event.Ask id program start) ev is tt (λ r. refl)
-      (noted_turn (entry.Ask program start) (recorded c.past (world_event.Collect id) id begun.outs None (opened begun)) begun.outs refl (ap (seen (λ (x : Asked). x.begun.outs) []) f.1))
+      (entry_turn (entry.Ask program start) f tt c.jobs)
   entry_makes (entry.Store value) ev right f is =
       call_makes (entry.Store value) (stores c id value) (λ x. book.stored x value) f.0 f.1 (event.Store id value) ev is tt (λ r. refl)
-      (noted_turn (entry.Store value) (recorded c.past (world_event.Store id value) id f.0.outs None (opened f.0)) f.0.outs refl (ap (seen (λ (x : Begun). x.outs) []) f.1))
+      (entry_turn (entry.Store value) f tt c.jobs)
   entry_makes (entry.Deliver m) ev right f is =
       call_makes (entry.Deliver m) (delivers c is.0 id) (λ x. book.delivered x m) f.0 f.1 (event.Deliver is.0 id) ev is.2 tt
-      (λ r. ap (λ (o : Option Message). at_node c id (λ x. delivered_as c is.0 id x o)) is.1)
-      (noted_turn (entry.Deliver m) (recorded c.past (world_event.Deliver is.0 id) id f.0.outs f.0.progress None) f.0.outs refl (ap (seen (λ (x : Taken). x.outs) []) f.1))
+      (λ r. ap (λ (o : Option Message). at_node c id (λ x. delivered_as c is.0 id x o)) is.1) (entry_turn (entry.Deliver m) f (is.0, is.1) c.jobs)
   entry_makes entry.HandOut ev right f is =
-      call_makes entry.HandOut (hands c id) book.handed_out (Some f.0) f.1 (event.HandOut id) ev is tt (λ r. refl) (quiet_turn (c.jobs ++ f.0 ∷ []))
+      call_makes entry.HandOut (hands c id) book.handed_out (Some f.0) f.1 (event.HandOut id) ev is tt (λ r. refl) (entry_turn entry.HandOut f tt (c.jobs ++ f.0 ∷ []))
   entry_makes (entry.Post query ran) ev right f is = subst (λ (x : ClusterEvent). Makes c x id d []) (sym is.2) (post_makes query ran f.0 is.0 right f.1 f.3 is.1)
 
   -- where what an entry wants was sent, there is such an event

@@ -11,7 +11,6 @@ use Rattle.q_desk.proofs.Changes.{Change}
 use Rattle.q_book.specs.State.{BookState}
 use Rattle.q_book.specs.Books as book
 use Rattle.q_book.specs.Sends.{handed}
-use Rattle.q_book.proofs.Followed.{follows-accepted}
 use Rattle.q_history.specs.declared.event.ClusterEvent.{ClusterEvent}
 use Rattle.q_history.specs.Headline.{BookMap, ClusterState}
 use Rattle.q_history.specs.Clusters.{with_job, start}
@@ -20,7 +19,7 @@ use Rattle.q_history.proofs.Lists.{same_some, no_some}
 use Rattle.q_history.proofs.Ops.{each_put}
 use Rattle.q_history.proofs.World.{at_live}
 use Rattle.q_history.proofs.Kept.{IsKept}
-use Rattle.q_history.proofs.Called.{IsCalled, IsMade, enters, crashes, rests, calls, event_is}
+use Rattle.q_history.proofs.Called.{IsCalled, tells, accepted, IsMade, enters, crashes, rests, calls, event_is}
 use Rattle.q_history.proofs.Founders.{every_founder}
 use Rattle.q_history.proofs.EveryHistory.{step_kept, start_kept}
 use Rattle.q_gather.proofs.HistoryJobs.{AreJobsOf, away_jobs, change_jobs}
@@ -46,10 +45,11 @@ module _ (c : ClusterState) (kept : IsKept c) (are : JobsAre c.books c.jobs) whe
       let b = k.book.desk in
       let e = k.later.desk in
       let o = handed k.book k.entry in
-      let a = follows-accepted k.book k.entry k.later k.follows in
-      let change : Change b k.id e o = subst (λ (n : ℕ). Change b n e o) (kept.headed k.id k.book at).id a.change in
+      let t = tells c d k in
+      let a = accepted c d k in
+      let change : Change b k.id t e o = subst (λ (n : ℕ). Change b n t e o) (kept.headed k.id k.book at).id a.change in
       subst (λ (x : ClusterState). JobsAre x.books x.jobs) k.is
-      (put_jobs c.books c.jobs (with_job c.jobs o) k.id k.later are (change_jobs c.jobs k.id b e o change a.keeps.programs (are k.id k.book at)) (away_jobs c.jobs k.id b e o change))
+      (put_jobs c.books c.jobs (with_job c.jobs o) k.id k.later are (change_jobs c.jobs k.id b e t o change a.keeps.programs (are k.id k.book at)) (away_jobs c.jobs k.id b e t o change))
 
   made_jobs : (d : ClusterState) → IsMade c d → JobsAre d.books d.jobs
   made_jobs d (enters id none is) =
@@ -61,7 +61,7 @@ module _ (c : ClusterState) (kept : IsKept c) (are : JobsAre c.books c.jobs) whe
         all = λ k q v at runs. absurd (no_some q at);
       })
       are)
-  made_jobs d (crashes id is) = subst (λ (x : ClusterState). JobsAre x.books x.jobs) is are
+  made_jobs d (crashes id b live is) = subst (λ (x : ClusterState). JobsAre x.books x.jobs) is are
   made_jobs d (rests id b live is) =
       subst (λ (x : ClusterState). JobsAre x.books x.jobs) is (each_put c.books id b (λ q x. AreJobsOf c.jobs q x.desk) (are id b (at_live c id b live)) are)
   made_jobs d (calls k) = called_jobs d k

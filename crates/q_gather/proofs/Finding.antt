@@ -6,7 +6,9 @@ use Rattle.std.specs.Prelude.{nat_eq}
 use Rattle.std.proofs.lemmas.Bool.{eqb-true, cases_eq}
 use Rattle.std.proofs.lemmas.List.Folds.{Any-from_list_any}
 use Rattle.std.proofs.lemmas.Option.{slice_get_within, slice_get_read}
+use Rattle.q_session.specs.declared.job.Job.{Job}
 use Rattle.q_history.proofs.Lists.{same_some}
+use Rattle.q_gather.specs.Turns.{IsJobFor}
 
 -- this holds of each element before a place
 abbrev pub Below : {X : Type 0} → (X → Type 0) → List X → ℕ → Type 0
@@ -40,3 +42,7 @@ pub place_of : (ids : List ℕ) (x : ℕ) → set.contains (set.from_list {R = n
 place_of ids x h =
     let a = Any-from_list_any (λ (y : ℕ). nat_eq y x) ids (sym (set.contains-from_list_nat ids x) ∙ h) in
     (a.0, slice_get_read ids (length ids) a.0 a.1 refl a.2 (sym a.3) ∙ ap (λ (y : ℕ). let o : Option ℕ = Some y in o) (eqb-true a.1 x a.4))
+
+-- a job that stands there and passes both tests
+pub job_for : {jobs : List Job} {id query number node of : ℕ} {job : Job} → Some job ≡ slice_get jobs number → node ≡ job.node → node ≡ id → of ≡ job.query → of ≡ query → IsJobFor jobs id query number
+job_for {job = job} at node own of its = record { job = job; at = sym at; by = sym node ∙ own; of = sym of ∙ its }

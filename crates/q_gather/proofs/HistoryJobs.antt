@@ -9,9 +9,10 @@ use Rattle.q_session.specs.declared.query.Phase.TheVariants.{Collecting, Ready, 
 use Rattle.q_session.specs.declared.query.Query.{Query}
 use Rattle.q_session.specs.declared.job.Job.{Job}
 use Rattle.q_desk.specs.State.{DeskState}
-use Rattle.q_desk.proofs.Changes.{GoesOver, readied, handed, recorded, Change, stays, grows, begins, rephased}
+use Rattle.q_desk.proofs.Changes.{Told, Begins, GoesOver, readied, handed, recorded, Change, stays, grows, begins, rephased}
 use Rattle.q_history.specs.Clusters.{with_job}
 use Rattle.q_history.proofs.Lists.{same_some, no_some, get_snoc, get_elsewhere}
+use Rattle.q_history.proofs.Kept.{which_job}
 use Rattle.q_gather.specs.Turns.{IsJobFor}
 use Rattle.q_gather.proofs.Lists.{get-same, get_after}
 
@@ -62,18 +63,18 @@ record AreOn (queries : List Query) (id : ℕ) (o : Option Job) (programs : List
       → (slice_get queries k ≡ Some q) ⊎ ((j : Job) × (o ≡ Some j) × (j.query ≡ k))
   out : (j : Job) → o ≡ Some j → (j.node ≡ id) × IsOut programs later j
 
-module _ (d e : DeskState) (id : ℕ) where
+module _ (d e : DeskState) (id : ℕ) (t : Told) where
   -- all are as they were
   still_on : AreOn d.queries id None e.programs d.queries
   still_on = record { stay = on_itself d.queries; run = λ k q v at runs. inl at; out = λ j some. absurd (no_some j some) }
 
   -- one begins
-  begins_on : (q : Query) → q.phase ≡ Collecting → AreOn d.queries id None e.programs (d.queries ++ q ∷ [])
-  begins_on new collects = record {
+  begins_on : (q : Query) → Begins t q → AreOn d.queries id None e.programs (d.queries ++ q ∷ [])
+  begins_on new b = record {
     stay = λ k q at. on_itself (d.queries ++ new ∷ []) k q (slice_get_front d.queries (new ∷ []) k q at);
     run = λ k q v at runs. elim (get_snoc d.queries new k q at) [
       | inl old ↦ inl old
-      | inr same ↦ let no : Collecting ≡ Running v = sym collects ∙ ap (λ (x : Query). x.phase) same ∙ runs in absurd (cc)
+      | inr same ↦ let no : Collecting ≡ Running v = sym b.phase ∙ ap (λ (x : Query). x.phase) same ∙ runs in absurd (cc)
     ];
     out = λ j some. absurd (no_some j some);
   }
@@ -86,21 +87,21 @@ module _ (d e : DeskState) (id : ℕ) where
     abbrev later : List Query
     later = slice_set d.queries k new
 
-    goes_runs : GoesOver d id k q p o → (v : ViewMap) → RunsOver q.phase v → RunsOver p v
-    goes_runs (readied view is to none) v r = absurd (subst (λ (x : Phase). RunsOver x v) is r)
+    goes_runs : GoesOver d id k q p t o → (v : ViewMap) → RunsOver q.phase v → RunsOver p v
+    goes_runs (readied view h to none) v r = absurd (subst (λ (x : Phase). RunsOver x v) h.phase r)
     goes_runs (handed j h of to some) v r =
         let one : q ≡ h.query = same_some q h.query (sym at ∙ ap (slice_get d.queries) (sym of) ∙ h.at) in
         absurd (subst (λ (x : Phase). RunsOver x v) (ap (λ (x : Query). x.phase) one ∙ h.phase) r)
-    goes_runs (recorded j view ran is fits to none) v r = subst (λ (x : Phase). RunsOver x v) (sym to) (subst (λ (x : Phase). RunsOver x v) is r)
+    goes_runs (recorded j view ran told is fits to none) v r = subst (λ (x : Phase). RunsOver x v) (sym to) (subst (λ (x : Phase). RunsOver x v) is r)
 
-    goes_run : GoesOver d id k q p o → (v : ViewMap) → p ≡ Running v → (j : Job) × (o ≡ Some j) × (j.query ≡ k)
-    goes_run (readied view is to none) v runs = let no : Ready view ≡ Running v = sym to ∙ runs in absurd (cc)
+    goes_run : GoesOver d id k q p t o → (v : ViewMap) → p ≡ Running v → (j : Job) × (o ≡ Some j) × (j.query ≡ k)
+    goes_run (readied view h to none) v runs = let no : Ready view ≡ Running v = sym to ∙ runs in absurd (cc)
     goes_run (handed j h of to some) v runs = (j, some, of)
-    goes_run (recorded j view ran is fits to none) v runs = let no : Answered view ran ≡ Running v = sym to ∙ runs in absurd (cc)
+    goes_run (recorded j view ran told is fits to none) v runs = let no : Answered view ran ≡ Running v = sym to ∙ runs in absurd (cc)
 
-    goes_out : GoesOver d id k q p o → (j : Job) → o ≡ Some j → (j.node ≡ id) × IsOut e.programs later j
-    goes_out (readied view is to none) j some = absurd (no_some j (sym none ∙ some))
-    goes_out (recorded i view ran is fits to none) j some = absurd (no_some j (sym none ∙ some))
+    goes_out : GoesOver d id k q p t o → (j : Job) → o ≡ Some j → (j.node ≡ id) × IsOut e.programs later j
+    goes_out (readied view h to none) j some = absurd (no_some j (sym none ∙ some))
+    goes_out (recorded i view ran told is fits to none) j some = absurd (no_some j (sym none ∙ some))
     goes_out (handed i h of to its) j some =
         let one : h.query ≡ q = same_some h.query q (sym h.at ∙ ap (slice_get d.queries) of ∙ at) in
         let out : IsOut e.programs later i = record {
@@ -113,7 +114,7 @@ module _ (d e : DeskState) (id : ℕ) where
         } in
         subst (λ (x : Job). (x.node ≡ id) × IsOut e.programs later x) (same_some i j (sym its ∙ some)) (h.by, out)
 
-    goes_stay : GoesOver d id k q p o → (i : ℕ) (x : Query) → slice_get d.queries i ≡ Some x → IsOn later i x
+    goes_stay : GoesOver d id k q p t o → (i : ℕ) (x : Query) → slice_get d.queries i ≡ Some x → IsOn later i x
     goes_stay goes i x here = elim (cases_eq i k) [
       | inl same ↦
           let one : q ≡ x = same_some q x (sym at ∙ ap (slice_get d.queries) (sym same) ∙ here) in
@@ -122,7 +123,7 @@ module _ (d e : DeskState) (id : ℕ) where
       | inr away ↦ on_itself later i x (get_elsewhere d.queries k new i x away here)
     ]
 
-    goes_on : GoesOver d id k q p o → AreOn d.queries id o e.programs later
+    goes_on : GoesOver d id k q p t o → AreOn d.queries id o e.programs later
     goes_on goes = record {
       stay = goes_stay goes;
       run = λ i x v here runs. elim (get_after d.queries k new i x here) [
@@ -132,22 +133,15 @@ module _ (d e : DeskState) (id : ℕ) where
       out = goes_out goes;
     }
 
-  change_on : (o : Option Job) → Change d id e o → AreOn d.queries id o e.programs e.queries
+  change_on : (o : Option Job) → Change d id t e o → AreOn d.queries id o e.programs e.queries
   change_on None (stays programs queries) = subst (AreOn d.queries id None e.programs) (sym queries) still_on
   change_on None (grows more queries) = subst (AreOn d.queries id None e.programs) (sym queries) still_on
-  change_on None (begins q collects programs queries) = subst (AreOn d.queries id None e.programs) (sym queries) (begins_on q collects)
+  change_on None (begins q b programs queries) = subst (AreOn d.queries id None e.programs) (sym queries) (begins_on q b)
   change_on o (rephased k q p at goes programs queries) = subst (AreOn d.queries id o e.programs) (sym queries) (goes_on k q p o at programs goes)
 
 -- ---- a job that is handed out is one more
 
 module _ (jobs : List Job) where
-  which_job : (o : Option Job) (number : ℕ) (j : Job) → slice_get (with_job jobs o) number ≡ Some j → (slice_get jobs number ≡ Some j) ⊎ (o ≡ Some j)
-  which_job None number j at = inl at
-  which_job (Some i) number j at = elim (get_snoc jobs i number j at) [
-    | inl old ↦ inl old
-    | inr same ↦ inr (ap (λ (x : Job). let o : Option Job = Some x in o) same)
-  ]
-
   old_job : (o : Option Job) (id k : ℕ) → HasJob jobs id k → HasJob (with_job jobs o) id k
   old_job None id k h = h
   old_job (Some j) id k h =
@@ -162,9 +156,9 @@ module _ (jobs : List Job) where
 
 -- ---- an accepted call
 
-module _ (jobs : List Job) (id : ℕ) (d e : DeskState) (o : Option Job) (change : Change d id e o) where
+module _ (jobs : List Job) (id : ℕ) (d e : DeskState) (t : Told) (o : Option Job) (change : Change d id t e o) where
   on : AreOn d.queries id o e.programs e.queries
-  on = change_on d e id o change
+  on = change_on d e id t o change
 
   -- the jobs of other nodes are as they were
   pub away_jobs : (q : ℕ) (x : DeskState) → (q ≡ id → ⊥) → AreJobsOf jobs q x → AreJobsOf (with_job jobs o) q x

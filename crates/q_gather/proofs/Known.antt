@@ -14,13 +14,11 @@ use Rattle.q_desk.specs.Desks as desk
 use Rattle.q_desk.specs.Answers.{AnswersAreRight}
 use Rattle.q_desk.specs.declared.journal.Entry.{Entry}
 use Rattle.q_desk.proofs.Accepted.{same_some, no_some, Keeps}
-use Rattle.q_desk.proofs.Changes.{GoesOver, readied, handed, recorded, Change, stays, grows, begins, rephased}
+use Rattle.q_desk.proofs.Changes.{Told, GoesOver, readied, handed, recorded, Change, IsNew, fresh, moved, change_queries}
 use Rattle.q_book.specs.State.{BookState}
 use Rattle.q_book.specs.Replays.{Follows, Replays, IsReplay}
 use Rattle.q_book.specs.Sends.{handed as handed_by}
-use Rattle.q_book.proofs.Followed.{follows-accepted}
-use Rattle.q_history.proofs.Lists.{get_snoc}
-use Rattle.q_gather.proofs.Lists.{get_after}
+use Rattle.q_book.proofs.Followed.{told, follows-accepted}
 
 -- the desk has the program that the query names
 abbrev pub HasProgram : DeskState → Query → Type 0
@@ -42,42 +40,29 @@ job_program programs j q view h =
     some_program j.certified (slice_get programs q.program)
     (and_right (desk.is_same_view j.view view) _ (and_right (j.start == q.start) _ (and_right (j.program == q.program) _ h)))
 
-module _ (d e : DeskState) (node : ℕ) (known : AreKnown d) where
+module _ (d e : DeskState) (node : ℕ) (t : Told) (known : AreKnown d) where
+  known_goes : (k : ℕ) (q : Query) (p : Phase) (o : Option Job) → GoesOver d node k q p t o → (view : ViewMap) (ran : Ran) → p ≡ Answered view ran → HasProgram d q
+  known_goes k q p o (readied v r to none) view ran answered = let no : Ready v ≡ Answered view ran = sym to ∙ answered in absurd (cc)
+  known_goes k q p o (handed j r of to some) view ran answered = let no : Running j.view ≡ Answered view ran = sym to ∙ answered in absurd (cc)
+  known_goes k q p o (recorded j v x told is fits to none) view ran answered = job_program d.programs j q v fits
+
+  known_new : (q : Query) (o : Option Job) → IsNew d node t o q → (view : ViewMap) (ran : Ran) → q.phase ≡ Answered view ran → HasProgram d q
+  known_new q o (fresh b) view ran is = let no : Collecting ≡ Answered view ran = sym b.phase ∙ is in absurd (cc)
+  known_new q o (moved k old p at goes same) view ran is =
+      let had = known_goes k old p o goes view ran (ap (λ (x : Query). x.phase) same ∙ is) in
+      (had.0, ap (λ (x : Query). slice_get d.programs x.program) (sym same) ∙ had.1)
+
   -- programs stay, and so what is known of the queries that were there
-  known_still : ((i : ℕ) (p : Certificate) → slice_get d.programs i ≡ Some p → slice_get e.programs i ≡ Some p) → (k : ℕ) (q : Query)
-      → slice_get d.queries k ≡ Some q → (view : ViewMap) (ran : Ran) → q.phase ≡ Answered view ran → HasProgram e q
-  known_still more k q at view ran is = let a = known k q view ran at is in (a.0, more q.program a.0 a.1)
-
-  known_goes : (k : ℕ) (q : Query) (p : Phase) (o : Option Job) → slice_get d.queries k ≡ Some q → GoesOver d node k q p o
-      → (view : ViewMap) (ran : Ran) → p ≡ Answered view ran → HasProgram d q
-  known_goes k q p o at (readied v is to none) view ran answered = let no : Ready v ≡ Answered view ran = sym to ∙ answered in absurd (cc)
-  known_goes k q p o at (handed j r of to some) view ran answered = let no : Running j.view ≡ Answered view ran = sym to ∙ answered in absurd (cc)
-  known_goes k q p o at (recorded j v x is fits to none) view ran answered = job_program d.programs j q v fits
-
-  known_by : (o : Option Job) → ((i : ℕ) (p : Certificate) → slice_get d.programs i ≡ Some p → slice_get e.programs i ≡ Some p) → Change d node e o → AreKnown e
-  known_by None more (stays programs queries) k q view ran at is =
-      known_still more k q (ap (λ (x : List Query). slice_get x k) (sym queries) ∙ at) view ran is
-  known_by None more (grows m queries) k q view ran at is =
-      known_still more k q (ap (λ (x : List Query). slice_get x k) (sym queries) ∙ at) view ran is
-  known_by None more (begins new collects programs queries) k q view ran at is =
-      elim (get_snoc d.queries new k q (ap (λ (x : List Query). slice_get x k) (sym queries) ∙ at)) [
-        | inl old ↦ known_still more k q old view ran is
-        | inr fresh ↦
-            let no : Collecting ≡ Answered view ran = sym collects ∙ ap (λ (x : Query). x.phase) fresh ∙ is in
-            absurd (cc)
-      ]
-  known_by o more (rephased i old p there goes programs queries) k q view ran at is =
-      elim (get_after d.queries i (record old { phase = p }) k q (ap (λ (x : List Query). slice_get x k) (sym queries) ∙ at)) [
-        | inl was ↦ known_still more k q was view ran is
-        | inr new ↦
-            let had = known_goes i old p o there goes view ran (ap (λ (x : Query). x.phase) new.1 ∙ is) in
-            (had.0, more q.program had.0 (ap (λ (x : Query). slice_get d.programs x.program) (sym new.1) ∙ had.1))
-      ]
+  known_by : (o : Option Job) → ((i : ℕ) (p : Certificate) → slice_get d.programs i ≡ Some p → slice_get e.programs i ≡ Some p) → Change d node t e o → AreKnown e
+  known_by o more change k q view ran at is = elim (change_queries d node t e o change k q at) [
+    | inl old ↦ let a = known k q view ran old is in (a.0, more q.program a.0 a.1)
+    | inr new ↦ let a = known_new q o new view ran is in (a.0, more q.program a.0 a.1)
+  ]
 
 pub follows_known : (b c : BookState) → AreKnown b.desk → (e : Entry) → Follows b e c → AreKnown c.desk
 follows_known b c known e f =
     let a = follows-accepted b e c f in
-    known_by b.desk c.desk b.id known (handed_by b e) a.keeps.programs a.change
+    known_by b.desk c.desk b.id (told b e c f) known (handed_by b e) a.keeps.programs a.change
 
 replays_known : (es : List Entry) (b c : BookState) → Replays b es c → AreKnown b.desk → AreKnown c.desk
 replays_known [] b c r known = subst (λ (x : BookState). AreKnown x.desk) (sym r) known

@@ -12,9 +12,11 @@ use Rattle.q_history.specs.declared.event.ClusterStep.{ClusterStep}
 use Rattle.q_history.specs.Headline.{BookMap, ClusterState}
 use Rattle.q_history.specs.Clusters.{with_job}
 use Rattle.q_history.specs.Calls.{Follows}
+use Rattle.q_book.proofs.Followed.{deed}
+use Rattle.q_history.proofs.Accepted.{WasSent}
 use Rattle.q_history.proofs.Ops.{insert_same}
 use Rattle.q_history.proofs.World.{at_live}
-use Rattle.q_history.proofs.Called.{WasSent, IsCalled, IsMade, enters, crashes, rests, calls, event_is}
+use Rattle.q_history.proofs.Called.{IsCalled, past, called_sent, IsMade, enters, crashes, rests, calls, event_is}
 use Rattle.q_cluster.specs.Acts.{book_at}
 use Rattle.q_gather.specs.Merging.{CanGo}
 use Rattle.q_gather.specs.Traces.{step_of}
@@ -33,20 +35,20 @@ pub data IsMove (c later : ClusterState) : Type 0 where
 
 module _ (c : ClusterState) where
   -- what the entry wants was sent
-  may_go : (b : BookState) (e : Entry) → WasSent c.past.sent e → CanGo c.past.sent (step_of b e)
+  may_go : (b : BookState) (e : Entry) → WasSent c.past.sent (deed e) → CanGo c.past.sent (step_of b e)
   may_go b (entry.Deliver m) sent = get_contains c.past.sent sent.0 m sent.1
   may_go b e sent = tt
 
   called_moves : (later : ClusterState) → IsCalled c later → IsMove c later
   called_moves later k =
       Goes k.id k.book k.later k.entry (at_live c k.id k.book k.live) k.follows (may_go k.book k.entry k.wants)
-      (subst (IsTurn c k.id k.later (sends k.book k.entry)) k.is (put_turn c k.past (with_job c.jobs (handed k.book k.entry)) k.id k.later (sends k.book k.entry) k.sent))
+      (subst (IsTurn c k.id k.later (sends k.book k.entry)) k.is (put_turn c (past c later k) (with_job c.jobs (handed k.book k.entry)) k.id k.later (sends k.book k.entry) (called_sent c later k)))
 
   made_moves : (later : ClusterState) → IsMade c later → IsMove c later
   made_moves later (enters id none is) =
       let e = book.entered c.version c.past.config id in
       Enters id none (subst (IsTurn c id e.0 e.1) is (enter_turn c id))
-  made_moves later (crashes id is) = subst (IsMove c) is (Rests (λ q. refl) refl)
+  made_moves later (crashes id b live is) = subst (IsMove c) is (Rests (λ q. refl) refl)
   made_moves later (rests id b live is) =
       subst (IsMove c) is (Rests (λ q. ap (λ (m : BookMap). fin.get m q) (insert_same c.books id b (at_live c id b live))) refl)
   made_moves later (calls k) = called_moves later k

@@ -5,6 +5,7 @@ use Rattle.std.specs.List.{AllByRecursion}
 use Rattle.std.proofs.lemmas.Bool.{cases_order}
 use Rattle.std.proofs.lemmas.List.{map-append, take_more}
 use Rattle.std.proofs.lemmas.Option.{slice_get-map, slice_get-get_or, slice_get_within, get_or_from_slice_get}
+use Rattle.spelling.proofs.Codes.{all_push}
 use Rattle.q_book.specs.State.{BookState}
 use Rattle.q_history.specs.Headline.{ClusterState}
 use Rattle.q_history.proofs.Lists.{same_some, no_some}
@@ -22,10 +23,6 @@ use Rattle.q_gather.proofs.Finding.{get_take}
 
 -- ---- one journal after another
 
-all_snoc : (books : List BookState) (b : BookState) → AllByRecursion IsJournalled books → IsJournalled b → AllByRecursion IsJournalled (books ++ b ∷ [])
-all_snoc [] b all is = (is, tt)
-all_snoc (x ∷ xs) b all is = (all.0, all_snoc xs b all.1 is)
-
 -- the bytes at a place
 pub text_at : (js : List (Bor (List ℕ))) (k : ℕ) (d : Bor (List ℕ)) → k < length js → slice_get (map (λ (bytes : Bor (List ℕ)). bytes.now) js) k ≡ Some (get_or js k d).now
 text_at js k d less = slice_get-map (λ (bytes : Bor (List ℕ)). bytes.now) js k ∙ ap (option_map (λ (bytes : Bor (List ℕ)). bytes.now)) (slice_get-get_or js k d less)
@@ -40,7 +37,7 @@ replayed_text js books more place d b less before spelled is grows =
       are =
           take_more journals place [] (slice_get_within journals place (get_or js place d).now at) ∙ (λ i. before.are i ++ read i ∷ [])
           ∙ sym (map-append journal_of books (b ∷ []));
-      each = all_snoc books b before.each is;
+      each = all_push IsJournalled books b before.each is;
     })
 
 -- ---- one answer

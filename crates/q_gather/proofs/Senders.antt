@@ -7,19 +7,19 @@ use Rattle.sc_msg.specs.declared.message.Body.{Body}
 use Rattle.sc_msg.specs.declared.message.Body.TheVariants.{Enter, Leave, Store, CollectQuery}
 use Rattle.sc_node.specs.State.{NodeState}
 use Rattle.sc_node.specs.Nodes as node
-use Rattle.sc_node.specs.Nodes.{message_from, answers, stored_view}
+use Rattle.sc_node.specs.Nodes.{message_from, answers, store_under, stored_view}
 use Rattle.reasons.specs.declared.Reason.{Reason}
 use Rattle.reasons.specs.declared.Reason.TheVariants as reasons
 use Rattle.sc_world.specs.Worlds.{Outcome, of_begun, of_left, of_delivered, by_node}
 use Rattle.sc_world.proofs.Inverts.{stores-ok, collects-ok, leaves-ok, delivers-ok}
 use Rattle.q_desk.specs.declared.journal.Entry.{Entry}
-use Rattle.q_desk.specs.declared.journal.Entry.TheVariants as entry
+use Rattle.q_desk.proofs.Changes.{Told}
 use Rattle.q_desk.proofs.Accepted.{same_some, no_some, same_answer, passed}
 use Rattle.q_book.specs.State.{BookState}
 use Rattle.q_book.specs.Books as book
 use Rattle.q_book.specs.Replays.{Follows, IsFirst}
 use Rattle.q_book.specs.Sends.{sends}
-use Rattle.q_book.proofs.Followed.{NodeDid, follows-accepted}
+use Rattle.q_book.proofs.Followed.{Deed, Leaves, Collects, Stores, Delivers, Idles, deed, told, NodeDid, follows-accepted}
 use Rattle.q_gather.specs.Merging.{Step}
 use Rattle.q_gather.proofs.Lists.{get_map}
 use Rattle.q_gather.specs.Traces.{step_of, IsTraceFrom, entering, IsTrace}
@@ -42,30 +42,31 @@ record IsOwn (n : NodeState) (outs : List Message) (later : NodeState) : Type 0 
 of_outcome : (n : NodeState) (x y : Outcome) → x ≡ y → IsOwn n x.outs x.node → IsOwn n y.outs y.node
 of_outcome n x y is own = subst (λ (z : Outcome). IsOwn n z.outs z.node) is own
 
-did_own : (b : BookState) (e : Entry) (outs : List Message) (n : NodeState) → NodeDid b e outs n → IsOwn b.node outs n
-did_own b entry.Leave outs n d =
+did_own : (b : BookState) (x : Deed) (t : Told) (n : NodeState) → NodeDid b x t n → IsOwn b.node t.outs n
+did_own b Leaves t n d =
     let y = of_left (d.0, n) in
-    subst (λ (x : List Message). IsOwn b.node x n) d.2
+    subst (λ (z : Told). IsOwn b.node z.outs n) d.2
     (of_outcome b.node _ y (leaves-ok b.node y (ap (by_node of_left) d.1)) (record { stays = refl; own = one_own b.node.id Leave }))
-did_own b (entry.Ask program start) outs n d =
+did_own b Collects t n d =
     let y = of_begun (d.0, n) in
-    subst (λ (x : List Message). IsOwn b.node x n) d.2
+    subst (λ (z : Told). IsOwn b.node z.outs n) d.2
     (of_outcome b.node _ y (collects-ok b.node y (ap (by_node of_begun) d.1)) (record { stays = refl; own = one_own b.node.id (CollectQuery b.node.operations) }))
-did_own b (entry.Store value) outs n d =
+did_own b (Stores value) t n d =
     let y = of_begun (d.0, n) in
-    let own = one_own b.node.id (Store b.node.operations (stored_view b.node value)) in
-    subst (λ (x : List Message). IsOwn b.node x n) d.2 (of_outcome b.node _ y (stores-ok value b.node y (ap (by_node of_begun) d.1)) (record { stays = refl; own = own }))
-did_own b (entry.Deliver m) outs n d =
+    let own = one_own b.node.id (Store (store_under b.node.operations (stored_view b.node value))) in
+    subst (λ (z : Told). IsOwn b.node z.outs n) d.2 (of_outcome b.node _ y (stores-ok value b.node y (ap (by_node of_begun) d.1)) (record { stays = refl; own = own }))
+did_own b (Delivers m) t n d =
     let y = of_delivered (d.0, n) in
     let own = all_own b.node.id (answers b.node m.from m.body) in
-    subst (λ (x : List Message). IsOwn b.node x n) d.2 (of_outcome b.node _ y (delivers-ok m b.node y (ap (by_node of_delivered) d.1)) (record { stays = refl; own = own }))
-did_own b e outs n d = record {
-  stays = ap (λ (x : NodeState). x.id) d.0;
-  own = λ k m h. absurd (no_some m (ap (λ (x : List Message). slice_get x k) (sym d.1) ∙ h));
-}
+    subst (λ (z : Told). IsOwn b.node z.outs n) d.2 (of_outcome b.node _ y (delivers-ok m b.node y (ap (by_node of_delivered) d.1)) (record { stays = refl; own = own }))
+did_own b Idles t n d =
+    subst (λ (z : Told). IsOwn b.node z.outs n) d.1
+    (record { stays = ap (λ (x : NodeState). x.id) (sym d.0); own = λ k m h. absurd (no_some m h) })
 
 entry_own : (b c : BookState) (e : Entry) → Follows b e c → IsOwn b.node (sends b e) c.node
-entry_own b c e f = did_own b e (sends b e) c.node (follows-accepted b e c f).node
+entry_own b c e f =
+    let a = follows-accepted b e c f in
+    subst (λ (outs : List Message). IsOwn b.node outs c.node) a.sent (did_own b (deed e) (told b e c f) c.node a.node)
 
 -- ---- the steps of a trace
 

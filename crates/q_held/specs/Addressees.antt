@@ -11,6 +11,6 @@ addressee_of b = None
 
 -- the operation of the sender that waits for answers to the message
 abbrev pub asking_tag : Body → Option ℕ
-asking_tag (Store tag view) = Some tag
+asking_tag (Store s) = Some s.tag
 asking_tag (CollectQuery tag) = Some tag
 asking_tag b = None

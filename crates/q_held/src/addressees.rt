@@ -27,7 +27,8 @@ pub fn asking_operation(message: &Message) -> Option<u64>
     ensures { result ≡ asking_tag message.now.body }
 {
     match &message.body {
-        Body::Store { tag, .. } | Body::CollectQuery { tag } => Some(*tag),
+        Body::Store(store) => Some(store.tag),
+        Body::CollectQuery { tag } => Some(*tag),
         _ => None,
     }
 }

@@ -5,8 +5,9 @@ ghost use Rattle.sc_msg.specs.declared.fault.MessageFault.{MessageFault};
 ghost use Rattle.sc_msg.specs.declared.message.Message.{Message as Sent};
 ghost use Rattle.sc_msg.specs.declared.message.Body.TheVariants as body;
 ghost use Rattle.sc_msg.specs.declared.message.CollectReply.{CollectReply as ReplyFields};
+ghost use Rattle.sc_msg.specs.declared.message.EnterEcho.{EnterEcho as EchoFields};
+ghost use Rattle.sc_msg.specs.declared.message.Store.{Store as StoreFields};
 ghost use Rattle.sc_msg.specs.declared.message.StoreAck.{StoreAck as AckFields};
-ghost use Rattle.sc_members.specs.Members.{Facts};
 ghost use Rattle.sc_view.specs.Views.{ViewMap};
 ghost use Rattle.sc_node.specs.declared.answer.Begun.{Begun as Started};
 ghost use Rattle.q_board.specs.AskerModel.{AskerModel};
@@ -60,8 +61,8 @@ pub fn worked_calls()
 pub fn worked_addressees()
     ensures acknowledgement { (ack : AckFields) → addressee_of (body.StoreAck ack) ≡ Some ack.to }
     ensures reply { (r : ReplyFields) → addressee_of (body.CollectReply r) ≡ Some r.to }
-    ensures all { (v : ViewMap) → (addressee_of (body.Store 7 v) ≡ None) × (addressee_of (body.StoreEcho v) ≡ None) × (addressee_of (body.CollectQuery 7) ≡ None) }
-    ensures entering { (f : Facts) (v : ViewMap) → addressee_of (body.EnterEcho 3 true f v) ≡ None }
-    ensures asks { (v : ViewMap) → (asking_tag (body.Store 7 v) ≡ Some 7) × (asking_tag (body.CollectQuery 7) ≡ Some 7) }
+    ensures all { (s : StoreFields) (v : ViewMap) → (addressee_of (body.Store s) ≡ None) × (addressee_of (body.StoreEcho v) ≡ None) × (addressee_of (body.CollectQuery 7) ≡ None) }
+    ensures entering { (e : EchoFields) → addressee_of (body.EnterEcho e) ≡ None }
+    ensures asks { (s : StoreFields) → (asking_tag (body.Store s) ≡ Some s.tag) × (asking_tag (body.CollectQuery 7) ≡ Some 7) }
     ensures asks_nothing { (ack : AckFields) (v : ViewMap) → (asking_tag (body.StoreAck ack) ≡ None) × (asking_tag (body.StoreEcho v) ≡ None) }
 {}

@@ -16,14 +16,13 @@ use Rattle.q_book.specs.State.{BookState}
 use Rattle.q_book.specs.Books as book
 use Rattle.q_book.specs.Replays.{IsReplay}
 use Rattle.q_book.specs.Sends.{sends, handed}
-use Rattle.q_book.proofs.Followed.{follows-accepted}
 use Rattle.q_book.proofs.Replays.{replay_next}
 use Rattle.q_book.proofs.Values.{accepted_fit, replay_values}
 use Rattle.q_history.specs.Headline.{ClusterState}
 use Rattle.q_history.specs.Clusters.{with_job}
 use Rattle.q_history.proofs.Ops.{each_put}
 use Rattle.q_history.proofs.World.{at_live}
-use Rattle.q_history.proofs.Called.{past_in, With, IsCalled, IsMade, enters, crashes, rests, calls}
+use Rattle.q_history.proofs.Called.{With, IsCalled, tells, past, accepted, called_sent, IsMade, enters, crashes, rests, calls}
 use Rattle.q_history.proofs.Kept.{IsKept}
 
 -- each of these messages fits the version
@@ -44,12 +43,12 @@ module _ (c : ClusterState) (kept : IsKept c) (books : AreBooks c) where
   called_books d k =
       let at = at_live c k.id k.book k.live in
       let was = books.replays k.id k.book at in
-      let accepted = follows-accepted k.book k.entry k.later k.follows in
-      let fit = accepted_fit k.book k.entry k.later accepted (replay_values k.book was) in
+      let a = accepted c d k in
+      let fit = accepted_fit k.book k.entry (tells c d k) k.later a (replay_values k.book was) in
       subst AreBooks k.is
-      (put_book k.past (with_job c.jobs (handed k.book k.entry)) k.id k.later
-      (subst (Fit c.version) (sym k.sent) (All-append (Fits c.version) c.past.sent (sends k.book k.entry) books.messages (subst (λ (v : Version). Fit v (sends k.book k.entry)) (kept.headed k.id k.book at).version fit.1)))
-      (subst IsReplay accepted.same (replay_next k.book k.later k.entry was k.follows)))
+      (put_book (past c d k) (with_job c.jobs (handed k.book k.entry)) k.id k.later
+      (subst (Fit c.version) (sym (called_sent c d k)) (All-append (Fits c.version) c.past.sent (sends k.book k.entry) books.messages (subst (λ (v : Version). Fit v (sends k.book k.entry)) (kept.headed k.id k.book at).version fit.1)))
+      (subst IsReplay a.same (replay_next k.book k.later k.entry was k.follows)))
 
   pub made_books : (d : ClusterState) → IsMade c d → AreBooks d
   made_books d (enters id none is) =
@@ -58,6 +57,6 @@ module _ (c : ClusterState) (kept : IsKept c) (books : AreBooks c) where
       subst AreBooks is
       (put_book (recorded c.past (world_event.Enter id) id e.1 None None) c.jobs id e.0 fit
       (record { first = e.0.node; begun = refl; replayed = refl }))
-  made_books d (crashes id is) = subst AreBooks is (record { replays = books.replays; messages = books.messages })
+  made_books d (crashes id b live is) = subst AreBooks is (record { replays = books.replays; messages = books.messages })
   made_books d (rests id b live is) = subst AreBooks is (put_book c.past c.jobs id b books.messages (books.replays id b (at_live c id b live)))
   made_books d (calls k) = called_books d k

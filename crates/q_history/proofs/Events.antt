@@ -1,93 +1,74 @@
 -- Each accepted event of a cluster keeps what is true of every cluster.
-use Rattle.std.proofs.Common.{◌≡◌, ℕ, Bool, true, false, cond, List, Option, Some, None, refl, sym, ap, ◌∙◌, subst, Ok}
-use Rattle.std.specs.Prelude.{option_map}
+use Rattle.std.proofs.Common.{◌≡◌, ℕ, Bool, true, false, cond, List, map, Option, Some, None, refl, sym, ap, ◌∙◌, subst, inl, inr, slice_get, Ok}
+use Rattle.std.specs.Prelude.{option_map, IfSome}
 use Rattle.std.specs.Ordering.{nat_cmp}
 use Rattle.std.specs.FinMap as fin
 use Rattle.std.specs.FinSet as set
 use Rattle.sc_view.specs.Views.{ViewMap}
 use Rattle.sc_node.specs.State.{NodeState}
 use Rattle.sc_node.specs.Nodes as node
+use Rattle.sc_operations.specs.declared.progress.Completion.TheVariants as completion
+use Rattle.sc_operations.specs.declared.progress.Ended.{Ended}
+use Rattle.sc_world.specs.declared.act.Opened.{Opened}
 use Rattle.sc_world.specs.declared.event.WorldEvent.{WorldEvent}
 use Rattle.sc_world.specs.declared.event.WorldEvent.TheVariants as world_event
 use Rattle.sc_world.specs.declared.op.Op.{Op}
-use Rattle.sc_world.specs.State.{WorldState, world_of}
+use Rattle.sc_world.specs.State.{Past, WorldState, world_of}
+use Rattle.sc_world.specs.Records.{Among}
+use Rattle.sc_world.specs.Regular.{HasReturned}
 use Rattle.sc_world.specs.Ledgers.{recorded, stopped}
 use Rattle.sc_world.specs.Worlds as world
-use Rattle.sc_world.proofs.Inverts.{same_answer, no_refusal}
-use Rattle.sc_world.proofs.EveryHistory.{IsLawful, step_lawful}
-use Rattle.bq_check.specs.Certificate.{Certificate}
-use Rattle.q_desk.specs.State.{DeskState}
-use Rattle.q_desk.specs.Desks as desk
-use Rattle.q_desk.specs.declared.journal.Entry.{Entry}
-use Rattle.q_desk.specs.declared.journal.Entry.TheVariants as entry
-use Rattle.q_desk.specs.Answers.{IsAnswered}
-use Rattle.q_desk.proofs.Accepted.{Keeps}
-use Rattle.q_desk.proofs.Moves.{Moves, Nothing, noted_moves, registered_moves, asked_moves}
+use Rattle.sc_world.proofs.Finite.{get-insert_same}
+use Rattle.sc_world.proofs.Steps.{among-right}
+use Rattle.sc_world.proofs.EveryHistory.{IsLawful, step_lawful, lawful_ends}
 use Rattle.q_session.specs.declared.ran.Ran.{Ran}
-use Rattle.q_session.specs.declared.query.Phase.TheVariants.{Collecting, Answered}
-use Rattle.q_session.specs.declared.query.Query.{Query}
+use Rattle.q_session.specs.declared.job.Job.{Job}
+use Rattle.q_desk.proofs.Accepted.{Keeps, keeps_itself}
+use Rattle.q_desk.proofs.Changes.{Told, Change, change_job}
 use Rattle.q_book.specs.State.{BookState}
 use Rattle.q_book.specs.Books as book
-use Rattle.q_book.proofs.Parts.{left-parts, stored-parts, desk-parts, asked-parts}
-use Rattle.q_history.specs.declared.event.ClusterStep.{ClusterStep}
+use Rattle.q_book.specs.Sends.{handed}
 use Rattle.q_history.specs.Headline.{ClusterState}
 use Rattle.q_history.specs.World.{nodes_of, world as world_in}
 use Rattle.q_history.specs.Heads.{IsHeaded}
-use Rattle.q_history.specs.Clusters.{live_at, at as at_node, registers, registered, asks, asked, stores, stored, entered, leaves, left, crashed}
+use Rattle.q_history.specs.Clusters.{live_at, with_job}
 use Rattle.q_history.proofs.Lists.{same_some, no_some}
 use Rattle.q_history.proofs.Ops.{IsOnward, onward_itself, insert_same}
 use Rattle.q_history.proofs.World.{node_of, get-nodes, world_live, at_live}
-use Rattle.q_history.proofs.Accepted.{acts-ok, still_onward, collect_began}
-use Rattle.q_history.proofs.Called.{With, call-ok, led}
-use Rattle.q_history.proofs.Kept.{IsTied, IsKept, IsStep, stays_itself, head_in, head_with, desk_moved, put_desk}
+use Rattle.q_history.proofs.Accepted.{opened_by, outcome, silent, Acted, ledger, act_step, act_onward, still_onward}
+use Rattle.q_history.proofs.Called.{past_in, With, IsDue, IsCalled, tells, acts, past, accepted, node_acted, IsMade, enters, crashes, rests, calls}
+use Rattle.q_history.proofs.Kept.{HasView, Owes, IsKnown, IsKept, IsStep, stays_itself, known_on, head_in, head_with, desk_changed, put_stays, put, put_desk, which_job}
 
 module _ (c : ClusterState) (kept : IsKept c) where
+  abbrev w : WorldState
+  w = world_in c
+
   -- the book that is there keeps what another keeps
-  pub keeps_here : (id : ℕ) (b : BookState) (e : DeskState) → fin.get c.books id ≡ Some b → Keeps b.desk e → (x : BookState) → fin.get c.books id ≡ Some x → Keeps x.desk e
-  keeps_here id b e at keeps x here = subst (λ (z : BookState). Keeps z.desk e) (same_some b x (sym at ∙ here)) keeps
+  keeps_here : (id : ℕ) (b later : BookState) → fin.get c.books id ≡ Some b → Keeps b.desk later.desk → (x : BookState) → fin.get c.books id ≡ Some x → Keeps x.desk later.desk
+  keeps_here id b later at keeps x here = subst (λ (z : BookState). Keeps z.desk later.desk) (same_some b x (sym at ∙ here)) keeps
 
   -- the node is put in again as it was
-  pub same_world : (id : ℕ) (b : BookState) → fin.get c.books id ≡ Some b → IsLawful (world_of (fin.insert (nodes_of c.books) id b.node) c.past)
+  same_world : (id : ℕ) (b : BookState) → fin.get c.books id ≡ Some b → IsLawful (world_of (fin.insert (nodes_of c.books) id b.node) c.past)
   same_world id b at =
       subst (λ (m : fin.FinMap nat_cmp NodeState). IsLawful (world_of m c.past))
       (sym (insert_same (nodes_of c.books) id b.node (get-nodes c.books id ∙ ap (option_map node_of) at))) kept.world
 
-  -- a call of a desk after which each query is as it was
-  pub quiet : (id : ℕ) (b : BookState) (e : DeskState) → fin.get c.books id ≡ Some b → Moves b.desk e Nothing → IsStep c (With c c.past c.jobs id (record b { desk = e }))
-  quiet id b e at m =
-      put_desk c kept c.past id (record b { desk = e }) (same_world id b at) (onward_itself c.past.ops) (head_with c id b b.node e (kept.headed id b at))
-      (desk_moved c.past.ops c.past.ops (onward_itself c.past.ops) id b.desk e Nothing m (kept.desks id b at) (λ q none. absurd none) (λ q none view ran is. absurd none))
-      (keeps_here id b e at m.keeps)
-
   -- the world takes an event of a node
-  pub lawful_next : (e : WorldEvent) (id : ℕ) (r : world.Outcome) → world.stepped (world_in c) e ≡ Ok (world.told (world_in c) r, world.after (world_in c) e id r)
-      → IsLawful (world.after (world_in c) e id r)
-  lawful_next e id r h = step_lawful (world_in c) e (world.told (world_in c) r) (world.after (world_in c) e id r) kept.world h
+  lawful_next : (e : WorldEvent) (id : ℕ) (r : world.Outcome) → world.stepped w e ≡ Ok (world.told w r, world.after w e id r) → IsLawful (world.after w e id r)
+  lawful_next e id r h = step_lawful w e (world.told w r) (world.after w e id r) kept.world h
 
   -- the node is there in the world
-  pub live_in : (id : ℕ) (b : BookState) → live_at c id ≡ Some b → world.live_at (world_in c) id ≡ Some b.node
+  live_in : (id : ℕ) (b : BookState) → live_at c id ≡ Some b → world.live_at w id ≡ Some b.node
   live_in id b live = world_live c id ∙ ap (option_map node_of) live
 
-  -- no operation moves, and each query is as it was
-  noted_step : (e : WorldEvent) (id : ℕ) (r : world.Outcome) (b : BookState) (made : Entry) → world.stepped (world_in c) e ≡ Ok (world.told (world_in c) r, world.after (world_in c) e id r)
-      → r.progress ≡ None → fin.get c.books id ≡ Some b
-      → IsStep c (With c (recorded c.past e id r.outs r.progress r.begun) c.jobs id (record b { node = r.node; desk = desk.with_entry b.desk made }))
-  noted_step e id r b made h still at =
-      let w' : WorldState = world.after (world_in c) e id r in
-      let d : DeskState = desk.with_entry b.desk made in
-      let onward : IsOnward c.past.ops w'.ops = still_onward (world_in c) e id r still in
-      let m = noted_moves b.desk made in
-      put_desk c kept (recorded c.past e id r.outs r.progress r.begun) id (record b { node = r.node; desk = d }) (lawful_next e id r h) onward
-      (head_with c id b r.node d (kept.headed id b at))
-      (desk_moved c.past.ops w'.ops onward id b.desk d Nothing m (kept.desks id b at) (λ q none. absurd none) (λ q none view ran is. absurd none))
-      (keeps_here id b d at m.keeps)
+  -- ---- a node enters, or crashes
 
   -- a founder is there, so a node that enters is none
   no_founder : (id : ℕ) (b : Bool) → set.contains (set.from_list {R = nat_cmp} c.past.founders) id ≡ b → fin.get c.books id ≡ None → (let o : Option (List ℕ) = None in o) ≡ cond b (Some c.past.founders) None
   no_founder id true is none = let k = kept.founders id is in absurd (no_some k.0 (sym none ∙ k.1))
   no_founder id false is none = refl
 
-  pub entered_head : (id : ℕ) → fin.get c.books id ≡ None → IsHeaded c id (book.entered c.version c.past.config id).0
+  entered_head : (id : ℕ) → fin.get c.books id ≡ None → IsHeaded c id (book.entered c.version c.past.config id).0
   entered_head id none = record {
     version = refl;
     id = refl;
@@ -95,27 +76,23 @@ module _ (c : ClusterState) (kept : IsKept c) where
     founders = no_founder id (set.contains (set.from_list {R = nat_cmp} c.past.founders) id) refl none;
   }
 
-  pub enter_step : (id : ℕ) (o : Option BookState) (y : ClusterStep × ClusterState) → fin.get c.books id ≡ o → entered c id o ≡ Ok y → IsStep c y.1
-  enter_step id (Some b) y is h = absurd (no_refusal _ y h)
-  enter_step id None y is h =
+  enter_kept : (id : ℕ) → fin.get c.books id ≡ None
+      → (let e = book.entered c.version c.past.config id in IsStep c (With c (recorded c.past (world_event.Enter id) id e.1 None None) c.jobs id e.0))
+  enter_kept id none =
       let r : world.Outcome = world.of_entered (node.entered c.past.config id) in
       let e : WorldEvent = world_event.Enter id in
       let b : BookState = (book.entered c.version c.past.config id).0 in
-      let absent : fin.get (nodes_of c.books) id ≡ None = get-nodes c.books id ∙ ap (option_map node_of) is in
-      subst (IsStep c) (ap (λ (z : ClusterStep × ClusterState). z.1) (same_answer _ y h))
-      (put_desk c kept (recorded c.past e id r.outs None None) id b (lawful_next e id r (ap (world.enters (world_in c) id) absent)) (still_onward (world_in c) e id r refl) (entered_head id is)
+      let absent : fin.get (nodes_of c.books) id ≡ None = get-nodes c.books id ∙ ap (option_map node_of) none in
+      put_desk c kept (recorded c.past e id r.outs None None) id b (lawful_next e id r (ap (world.enters w id) absent)) (still_onward w r.node r id e refl) (entered_head id none)
       (record { tied = λ i q at. absurd (no_some q at); right = λ i q view ran at is. absurd (no_some q at) })
-      (λ x at. absurd (no_some x (sym is ∙ at))))
+      (λ x at. absurd (no_some x (sym none ∙ at)))
 
-  pub crash_step : (id : ℕ) (o : Option BookState) (y : ClusterStep × ClusterState) → live_at c id ≡ o → crashed c id o ≡ Ok y → IsStep c y.1
-  crash_step id None y is h = absurd (no_refusal _ y h)
-  crash_step id (Some b) y is h =
-      let w' : WorldState = world_of (nodes_of c.books) (stopped c.past id) in
+  crash_kept : (id : ℕ) (b : BookState) → live_at c id ≡ Some b → IsStep c (record c { past = stopped c.past id })
+  crash_kept id b is =
       let d : ClusterState = record c { past = stopped c.past id } in
-      subst (IsStep c) (ap (λ (z : ClusterStep × ClusterState). z.1) (same_answer _ y h))
-      (record {
+      record {
         kept = record {
-          world = step_lawful (world_in c) (world_event.Crash id) (world.silent (world_in c)) w' kept.world (ap (world.crashes (world_in c) id) (live_in id b is));
+          world = step_lawful w (world_event.Crash id) (world.silent w) (world_of (nodes_of c.books) (stopped c.past id)) kept.world (ap (world.crashes w id) (live_in id b is));
           headed = λ q x at. head_in c d q x refl refl refl (kept.headed q x at);
           founders = kept.founders;
           desks = kept.desks;
@@ -125,53 +102,116 @@ module _ (c : ClusterState) (kept : IsKept c) where
         version = refl;
         config = refl;
         founders = refl;
+      }
+
+  -- its book is put in as it was
+  rest_kept : (id : ℕ) (b : BookState) → fin.get c.books id ≡ Some b → IsStep c (With c c.past c.jobs id b)
+  rest_kept id b at =
+      put_desk c kept c.past id b (same_world id b at) (onward_itself c.past.ops) (kept.headed id b at) (kept.desks id b at)
+      (λ x here. subst (λ (z : BookState). Keeps x.desk z.desk) (same_some x b (sym here ∙ at)) (keeps_itself x.desk))
+
+  -- ---- the book of a node takes the call of an entry
+
+  -- what the world makes of what the node does: no record is lost, and those are there that are told of
+  record IsActed (id : ℕ) (p : Past) (r : world.Outcome) : Type 0 where
+    lawful : IsLawful (world_of (fin.insert (nodes_of c.books) id r.node) (past_in c p))
+    onward : IsOnward c.past.ops p.ops
+    begun : (a : Opened) → r.begun ≡ Some a → (o : Op) × Among o p.ops × (o.node ≡ id) × (o.tag ≡ a.tag)
+    returned : (x : Ended) (view : ViewMap) → r.ended ≡ Some x → x.what ≡ completion.Returned view → HasReturned (world_of (fin.insert (nodes_of c.books) id r.node) (past_in c p)) (world.clock w) id x.tag view
+
+  acted_by : (id : ℕ) (b : BookState) → live_at c id ≡ Some b → (o : Option WorldEvent) (r : world.Outcome) → Acted id c.past.sent o b.node r → IsActed id (ledger c.past id o r) r
+  acted_by id b live None r h =
+      subst (IsActed id c.past) h
+      (record {
+        lawful = same_world id b (at_live c id b live);
+        onward = onward_itself c.past.ops;
+        begun = λ a is. absurd (no_some a is);
+        returned = λ x view is what. absurd (no_some x is);
       })
+  acted_by id b live (Some e) r h =
+      let w' : WorldState = world.after w e id r in
+      let step = act_step w b.node r e id h.0 (live_in id b live) h.1 in
+      let at = get-nodes c.books id ∙ ap (option_map node_of) (at_live c id b live) in
+      record {
+        lawful = lawful_next e id r step;
+        onward = act_onward w b.node r id e kept.world.invariant.linked at h.1;
+        begun = λ opened is.
+            let o : Op = record { node = id; tag = opened.tag; begin = world.clock w; end = None; session = opened.session } in (
+              o,
+              among-right o (map (world.advanced id (world.clock w) r.progress) w.ops) (world.op_begun id (world.clock w) r.begun)
+                  (subst (λ (x : Option Opened). Among o (world.op_begun id (world.clock w) x)) (sym is) (inl refl)),
+              refl,
+              refl,
+            );
+        returned = λ x view is what.
+            subst (λ (q : ℕ). HasReturned w' (world.clock w) q x.tag view) h.0
+            ((lawful_ends w kept.world e (world.told w r) w' step).returned x view is what);
+      }
 
-  pub leave_step : (id : ℕ) (y : ClusterStep × ClusterState) → at_node c id (left c id) ≡ Ok y → IsStep c y.1
-  leave_step id y h =
-      let k = call-ok c id (leaves c id) book.left y h in
-      let a = left-parts k.book k.answer k.called in
-      let e : WorldEvent = world_event.Leave id in
-      subst (IsStep c) (led (leaves c id) y.1 a.2 k.is)
-      (noted_step e id (world.of_left a.0) k.book entry.Leave
-      (acts-ok (world_in c) e id world.leaves k.book.node (world.of_left a.0) (live_in id k.book k.live) (ap (world.by_node world.of_left) a.1)) refl (at_live c id k.book k.live))
+  module _ (d : ClusterState) (k : IsCalled c d) where
+    abbrev told : Told
+    told = tells c d k
 
-  pub store_step : (id : ℕ) (value : List ℕ) (y : ClusterStep × ClusterState) → at_node c id (stored c id value) ≡ Ok y → IsStep c y.1
-  store_step id value y h =
-      let k = call-ok c id (stores c id value) (λ b. book.stored b value) y h in
-      let a = stored-parts k.book value k.answer k.called in
-      let e : WorldEvent = world_event.Store id value in
-      subst (IsStep c) (led (stores c id value) y.1 a.2 k.is)
-      (noted_step e id (world.of_begun a.0) k.book (entry.Store value)
-      (acts-ok (world_in c) e id (world.stores value) k.book.node (world.of_begun a.0) (live_in id k.book k.live) (ap (world.by_node world.of_begun) a.1)) refl (at_live c id k.book k.live))
+    abbrev p : Past
+    p = past c d k
 
-  pub register_step : (id : ℕ) (program : Certificate) (y : ClusterStep × ClusterState) → at_node c id (registered c id program) ≡ Ok y → IsStep c y.1
-  register_step id program y h =
-      let k = call-ok c id (registers c id) (λ b. book.registered b program) y h in
-      let a = desk-parts k.book (desk.registered k.book.desk program) k.answer k.called in
-      subst (IsStep c) (led (registers c id) y.1 a.2 k.is) (quiet id k.book a.0.1 (at_live c id k.book k.live) (registered_moves k.book.desk program a.0 a.1).0)
+    abbrev o : Option Job
+    o = handed k.book k.entry
 
-  asked_open : (tag program start : ℕ) (e : DeskState) (q : Query) → desk.begun tag program start ≡ q → (view : ViewMap) (ran : Ran) → q.phase ≡ Answered view ran → IsAnswered e q view ran
-  asked_open tag program start e q new view ran is = let h : Collecting ≡ Answered view ran = ap (λ (x : Query). x.phase) new ∙ is in absurd (cc)
+    at : fin.get c.books k.id ≡ Some k.book
+    at = at_live c k.id k.book k.live
 
-  -- the query's collect is the one that its node begins
-  pub ask_step : (id program start : ℕ) (y : ClusterStep × ClusterState) → at_node c id (asked c id program start) ≡ Ok y → IsStep c y.1
-  ask_step id program start y h =
-      let k = call-ok c id (asks c id) (λ b. book.asked b program start) y h in
-      let a = asked-parts k.book program start k.answer k.called in
-      let at = at_live c id k.book k.live in
-      let e : WorldEvent = world_event.Collect id in
-      let r : world.Outcome = world.of_begun a.2 in
-      let ops : List Op = (world.after (world_in c) e id r).ops in
-      let o = collect_began (world_in c) e id k.book.node a.2 a.3 in
-      let tag : ℕ = k.book.node.operations in
-      let d : DeskState = a.0.1 in
-      let m = (asked_moves k.book.desk tag program start a.0 a.1).0 in
-      let onward : IsOnward c.past.ops ops = still_onward (world_in c) e id r refl in
-      subst (IsStep c) (led (asks c id) y.1 a.4 k.is)
-      (put_desk c kept (recorded c.past e id r.outs None r.begun) id (record k.book { node = r.node; desk = d })
-      (lawful_next e id r (acts-ok (world_in c) e id world.collects k.book.node r (live_in id k.book k.live) (ap (world.by_node world.of_begun) a.3))) onward
-      (head_with c id k.book r.node d (kept.headed id k.book at))
-      (desk_moved c.past.ops ops onward id k.book.desk d (λ q. desk.begun tag program start ≡ q) m (kept.desks id k.book at)
-      (λ q new. subst (IsTied ops id) new (record { op = o.0; among = o.1; by = o.2; tagged = o.3; has = tt })) (asked_open tag program start d))
-      (keeps_here id k.book d at m.keeps))
+    did : IsActed k.id p (outcome told k.later.node)
+    did = acted_by k.id k.book k.live (acts c d k) (outcome told k.later.node) (node_acted c d k)
+
+    -- the job whose answer is recorded has its program at this desk
+    due_known : (j : Job) → IsKnown c.books j → j.node ≡ k.id → slice_get k.book.desk.programs j.program ≡ Some j.certified
+    due_known j known by =
+        ap (λ (x : BookState). slice_get x.desk.programs j.program) (same_some k.book known.book (sym at ∙ ap (fin.get c.books) (sym by) ∙ known.at))
+        ∙ known.certified
+
+    owes : Owes c.past.ops p.ops did.onward k.id k.book.desk told
+    owes = record {
+      begun = λ q b.
+          let h = did.begun (opened_by b.by) (ap (option_map opened_by) b.told) in
+          record { op = h.0; among = h.1; by = h.2; tagged = h.3 ∙ b.tagged; has = subst (HasView h.0) (sym b.phase) tt };
+      returned = λ q view r.
+          let h = did.returned r.by view r.told r.what in
+          record { op = h.op; among = h.among; by = h.by; tagged = h.tagged ∙ r.tagged; has = h.returned };
+      answer = λ j ran is.
+          let due : IsDue c k.id j ran = subst (λ (x : Option (Job × Ran)). IfSome x (λ y. IsDue c k.id y.0 y.1)) is k.due in
+          (due_known j (kept.jobs due.number j due.at) due.by, due.right);
+    }
+
+    head : IsHeaded c k.id k.later
+    head = subst (IsHeaded c k.id) (accepted c d k).same (head_with c k.id k.book k.later.node k.later.desk (kept.headed k.id k.book at))
+
+    keeps : (x : BookState) → fin.get c.books k.id ≡ Some x → Keeps x.desk k.later.desk
+    keeps = keeps_here k.id k.book k.later at (accepted c d k).keeps
+
+    -- a job that is handed out is that of a query of this desk
+    new_known : (j : Job) → o ≡ Some j → IsKnown (fin.insert c.books k.id k.later) j
+    new_known j some =
+        let a = accepted c d k in
+        let ready = change_job k.book.desk k.book.id told k.later.desk j (subst (Change k.book.desk k.book.id told k.later.desk) some a.change) in
+        record {
+          book = k.later;
+          at = ap (fin.get (fin.insert c.books k.id k.later)) (ready.by ∙ (kept.headed k.id k.book at).id) ∙ get-insert_same c.books k.id k.later;
+          certified = a.keeps.programs j.program j.certified ready.certified;
+        }
+
+    called_kept : IsStep c d
+    called_kept =
+        subst (IsStep c) k.is
+        (put c kept p k.id k.later (with_job c.jobs o) did.lawful did.onward head
+        (desk_changed c.past.ops p.ops did.onward k.id k.book.desk k.later.desk k.book.id told o (kept.desks k.id k.book at) (accepted c d k).keeps owes (accepted c d k).change) keeps
+        (λ i j here. elim (which_job c.jobs o i j here) [
+          | inl old ↦ known_on c.books (fin.insert c.books k.id k.later) j (put_stays c kept p k.id k.later keeps) (kept.jobs i j old)
+          | inr new ↦ new_known j new
+        ]))
+
+  pub made_kept : (d : ClusterState) → IsMade c d → IsStep c d
+  made_kept d (enters id none is) = subst (IsStep c) is (enter_kept id none)
+  made_kept d (crashes id b live is) = subst (IsStep c) is (crash_kept id b live)
+  made_kept d (rests id b live is) = subst (IsStep c) is (rest_kept id b (at_live c id b live))
+  made_kept d (calls k) = called_kept d k

@@ -1,5 +1,5 @@
 -- Every list of events leads to a cluster whose answers are true, and stay.
-use Rattle.std.proofs.Common.{◌≡◌, ℕ, Bool, cond, List, [], ◌∷◌, Option, Some, None, refl, sym, ap, ◌∙◌, subst, inr, slice_get}
+use Rattle.std.proofs.Common.{◌≡◌, ℕ, Bool, cond, List, [], ◌∷◌, Option, Some, None, refl, sym, ap, ◌∙◌, subst, inr}
 use Rattle.std.specs.Ordering.{nat_cmp}
 use Rattle.std.specs.FinMap as fin
 use Rattle.sc_view.specs.Views.{ViewMap}
@@ -19,31 +19,21 @@ use Rattle.q_session.specs.declared.query.Phase.TheVariants.{Collecting, Ready, 
 use Rattle.sc_world.specs.declared.op.Op.{Op}
 use Rattle.q_book.specs.State.{BookState}
 use Rattle.q_history.specs.declared.event.ClusterEvent.{ClusterEvent}
-use Rattle.q_history.specs.declared.event.ClusterEvent.TheVariants as event
 use Rattle.q_history.specs.declared.event.ClusterStep.{ClusterStep}
 use Rattle.q_history.specs.Headline.{ClusterState, AnswersAreTrue, AnswersStay, ViewsAreReturned, view_of}
 use Rattle.q_history.specs.World.{world as world_in}
 use Rattle.q_history.specs.Heads.{IsHeaded}
-use Rattle.q_history.specs.Clusters.{live_at, start}
+use Rattle.q_history.specs.Clusters.{start}
 use Rattle.q_history.specs.Calls.{Follows, Reaches}
 use Rattle.q_history.proofs.Lists.{no_some}
 use Rattle.q_history.proofs.World.{nodes-empty}
 use Rattle.q_history.proofs.Founders.{IsFounder, founder_nodes, every_founder, founder_there}
 use Rattle.q_history.proofs.Kept.{HasView, IsDeskOf, IsKept, IsStep, stays_itself, stays_on}
-use Rattle.q_history.proofs.Events.{enter_step, crash_step, leave_step, register_step, store_step, ask_step}
-use Rattle.q_history.proofs.Delivering.{deliver_step}
-use Rattle.q_history.proofs.Finishing.{hand_out_step, finish_step}
+use Rattle.q_history.proofs.Called.{event_is}
+use Rattle.q_history.proofs.Events.{made_kept}
 
 pub step_kept : (c d : ClusterState) (e : ClusterEvent) (told : ClusterStep) → IsKept c → Follows c e told d → IsStep c d
-step_kept c d (event.Enter id) told kept f = enter_step c kept id (fin.get c.books id) (told, d) refl f.stepped
-step_kept c d (event.Leave id) told kept f = leave_step c kept id (told, d) f.stepped
-step_kept c d (event.Crash id) told kept f = crash_step c kept id (live_at c id) (told, d) refl f.stepped
-step_kept c d (event.Register id program) told kept f = register_step c kept id program (told, d) f.stepped
-step_kept c d (event.Ask id program start) told kept f = ask_step c kept id program start (told, d) f.stepped
-step_kept c d (event.Store id value) told kept f = store_step c kept id value (told, d) f.stepped
-step_kept c d (event.Deliver number id) told kept f = deliver_step c kept number id (told, d) f.stepped
-step_kept c d (event.HandOut id) told kept f = hand_out_step c kept id (told, d) f.stepped
-step_kept c d (event.Finish number) told kept f = finish_step c kept number f.ran (slice_get c.jobs number) (told, d) refl f.right f.stepped
+step_kept c d e told kept f = made_kept c kept d (event_is c e told d f)
 
 pub run_kept : (es : List ClusterEvent) (c d : ClusterState) → IsKept c → Reaches c es d → IsStep c d
 run_kept [] c d kept r = subst (IsStep c) (sym r) (record { kept = kept; stays = stays_itself c.books; version = refl; config = refl; founders = refl })

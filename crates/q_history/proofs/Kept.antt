@@ -1,5 +1,5 @@
 -- What is true of every cluster that events lead to, and what one event owes.
-use Rattle.std.proofs.Common.{◌≡◌, ℕ, Bool, true, false, cond, ◌==◌, List, Some, refl, sym, ap, ◌∙◌, subst, inl, inr, slice_get}
+use Rattle.std.proofs.Common.{◌≡◌, ℕ, Bool, true, false, cond, ◌==◌, List, Option, Some, None, refl, sym, ap, ◌∙◌, subst, ◌⊎◌, inl, inr, slice_get}
 use Rattle.std.proofs.lemmas.Bool.{eqb-true}
 use Rattle.std.specs.Ordering.{nat_cmp}
 use Rattle.std.specs.FinMap as fin
@@ -12,6 +12,8 @@ use Rattle.sc_world.specs.Records.{Among}
 use Rattle.sc_world.specs.Operations.{returned}
 use Rattle.sc_world.proofs.Finite.{get-insert}
 use Rattle.sc_world.proofs.EveryHistory.{IsLawful}
+use Rattle.sc_world.proofs.Steps.{and_left, and_right}
+use Rattle.q_session.specs.Right.{IsRight}
 use Rattle.q_session.specs.declared.ran.Ran.{Ran}
 use Rattle.q_session.specs.declared.query.Phase.{Phase}
 use Rattle.q_session.specs.declared.query.Phase.TheVariants.{Collecting, Ready, Running, Answered}
@@ -20,11 +22,16 @@ use Rattle.q_session.specs.declared.job.Job.{Job}
 use Rattle.q_desk.specs.State.{DeskState}
 use Rattle.q_desk.specs.Answers.{IsAnswered, AnswersAreRight}
 use Rattle.q_desk.proofs.Accepted.{Keeps, keeps_itself, keeps_on}
-use Rattle.q_desk.proofs.Moves.{Moves}
+use Rattle.q_desk.proofs.Changes.{Told, Begins, Returns, GoesOver, readied, handed, recorded, Change, IsNew, fresh, moved, change_queries}
+use Rattle.q_desk.proofs.Views.{same-view}
+use Rattle.q_desk.specs.Desks as desk
 use Rattle.q_book.specs.State.{BookState}
 use Rattle.q_history.specs.Headline.{BookMap, ClusterState}
 use Rattle.q_history.specs.World.{nodes_of, world}
 use Rattle.q_history.specs.Heads.{founders_for, IsHeaded}
+use Rattle.q_history.specs.Calls.{Answers}
+use Rattle.q_history.specs.Clusters.{with_job}
+use Rattle.q_history.proofs.Lists.{same_some, get_snoc}
 use Rattle.q_history.proofs.Ops.{IsOnward, insert_has, each_put}
 use Rattle.q_history.proofs.World.{world_put}
 use Rattle.q_history.proofs.Called.{past_in, With}
@@ -110,27 +117,86 @@ view_on a b (Ready view) on h = on view h
 view_on a b (Running view) on h = on view h
 view_on a b (Answered view ran) on h = on view h
 
+-- the right answer of a job whose program the desk has is right of the query that it is a job of
+right_of_job : (d : DeskState) (j : Job) (q : Query) (view : ViewMap) (ran : Ran) → desk.is_job_of d.programs j q view ≡ true → slice_get d.programs j.program ≡ Some j.certified
+    → IsRight j.certified j.view j.start ran → IsAnswered d q view ran
+right_of_job d j q view ran fits named right =
+    let rest = and_right (j.program == q.program) _ fits in
+    let more = and_right (j.start == q.start) _ rest in
+    let same = same-view j.view view (and_left (desk.is_same_view j.view view) _ more) in
+    let start = eqb-true j.start q.start (and_left (j.start == q.start) _ rest) in
+    record {
+      program = j.certified;
+      named = ap (slice_get d.programs) (sym (eqb-true j.program q.program (and_left (j.program == q.program) _ fits))) ∙ named;
+      right =
+          subst (λ (x : ViewMap). IsRight j.certified x q.start ran) same
+          (subst (λ (x : ℕ). IsRight j.certified j.view x ran) start right);
+    }
+
 module _ (ops later : List Op) (onward : IsOnward ops later) (id : ℕ) where
   pub tied_on : (q : Query) → IsTied ops id q → IsTied later id q
   tied_on q t =
       let k = onward t.op t.among in
       record { op = k.op; among = k.among; by = k.by ∙ t.by; tagged = k.tagged ∙ t.tagged; has = view_on t.op k.op q.phase k.returned t.has }
 
+  -- a query in another phase, with the view that it had
+  rephased_tied : (q : Query) (view : ViewMap) (from to : Phase) → q.phase ≡ from → ((x : Op) → HasView x from → returned x ≡ Some view) → ((x : Op) → returned x ≡ Some view → HasView x to)
+      → IsTied ops id q → IsTied later id (record q { phase = to })
+  rephased_tied q view from to is had has t =
+      tied_on (record q { phase = to }) (record { op = t.op; among = t.among; by = t.by; tagged = t.tagged; has = has t.op (had t.op (subst (HasView t.op) is t.has)) })
+
   pub desk_on : (d : DeskState) → IsDeskOf ops id d → IsDeskOf later id d
   desk_on d k = record { tied = λ i q at. tied_on q (k.tied i q at); right = k.right }
 
+  -- what a call that tells this owes: the records of the operations that it names, and a right answer of a job whose
+  -- program is the desk's
+  pub record Owes (d : DeskState) (t : Told) : Type 0 where
+    pub begun : (q : Query) → Begins t q → IsTied later id q
+    pub returned : (q : Query) (view : ViewMap) → Returns t q view → IsTied later id (record q { phase = Ready view })
+    pub answer : (j : Job) (ran : Ran) → t.answer ≡ Some (j, ran) → (slice_get d.programs j.program ≡ Some j.certified) × Answers j ran
+
   -- a desk after a call
-  pub desk_moved : (d e : DeskState) (New : Query → Type 0) → Moves d e New → IsDeskOf ops id d → ((q : Query) → New q → IsTied later id q)
-      → ((q : Query) → New q → (view : ViewMap) (ran : Ran) → q.phase ≡ Answered view ran → IsAnswered e q view ran) → IsDeskOf later id e
-  desk_moved d e New m k ties rights = record {
-    tied = λ i q at. elim (m.queries i q at) [ inl old ↦ tied_on q (k.tied i q old) | inr new ↦ ties q new ];
-    right = λ i q view ran at is. elim (m.queries i q at) [
-      | inl old ↦
-          let a = k.right i q view ran old is in
-          record { program = a.program; named = m.keeps.programs q.program a.program a.named; right = a.right }
-      | inr new ↦ rights q new view ran is
-    ];
-  }
+  module _ (d e : DeskState) (node : ℕ) (t : Told) (o : Option Job) (k : IsDeskOf ops id d) (keeps : Keeps d e) (owes : Owes d t) where
+    moved_tied : (n : ℕ) (q : Query) (p : Phase) → slice_get d.queries n ≡ Some q → GoesOver d node n q p t o → IsTied later id (record q { phase = p })
+    moved_tied n q p at (readied view r to none) = subst (λ (x : Phase). IsTied later id (record q { phase = x })) (sym to) (owes.returned q view r)
+    moved_tied n q p at (handed j r of to some) =
+        let one : r.query ≡ q = same_some r.query q (sym r.at ∙ ap (slice_get d.queries) of ∙ at) in
+        rephased_tied q j.view (Ready j.view) p (sym (ap (λ (x : Query). x.phase) one) ∙ r.phase) (λ x h. h) (λ x h. subst (HasView x) (sym to) h) (k.tied n q at)
+    moved_tied n q p at (recorded j view ran told runs fits to none) =
+        rephased_tied q view (Running view) p runs (λ x h. h) (λ x h. subst (HasView x) (sym to) h) (k.tied n q at)
+
+    new_tied : (q : Query) → IsNew d node t o q → IsTied later id q
+    new_tied q (fresh b) = owes.begun q b
+    new_tied q (moved n old p at goes is) = subst (IsTied later id) is (moved_tied n old p at goes)
+
+    moved_right : (n : ℕ) (q : Query) (p : Phase) → GoesOver d node n q p t o → (view : ViewMap) (ran : Ran) → p ≡ Answered view ran → IsAnswered e q view ran
+    moved_right n q p (readied v r to none) view ran is = let no : Ready v ≡ Answered view ran = sym to ∙ is in absurd (cc)
+    moved_right n q p (handed j r of to some) view ran is = let no : Running j.view ≡ Answered view ran = sym to ∙ is in absurd (cc)
+    moved_right n q p (recorded j v x told runs fits to none) view ran is =
+        let due = owes.answer j x told in
+        let a = right_of_job d j q v x fits due.0 due.1 in
+        let same : Answered v x ≡ Answered view ran = sym to ∙ is in
+        let view_is : v ≡ view = cc in
+        let ran_is : x ≡ ran = cc in
+        subst (λ (z : ViewMap). IsAnswered e q z ran) view_is
+        (subst (IsAnswered e q v) ran_is (record { program = a.program; named = keeps.programs q.program a.program a.named; right = a.right }))
+
+    new_right : (q : Query) → IsNew d node t o q → (view : ViewMap) (ran : Ran) → q.phase ≡ Answered view ran → IsAnswered e q view ran
+    new_right q (fresh b) view ran is = let no : Collecting ≡ Answered view ran = sym b.phase ∙ is in absurd (cc)
+    new_right q (moved n old p at goes same) view ran is =
+        let a = moved_right n old p goes view ran (ap (λ (x : Query). x.phase) same ∙ is) in
+        subst (λ (x : Query). IsAnswered e x view ran) same (record { program = a.program; named = a.named; right = a.right })
+
+    pub desk_changed : Change d node t e o → IsDeskOf later id e
+    desk_changed change = record {
+      tied = λ i q at. elim (change_queries d node t e o change i q at) [ inl old ↦ tied_on q (k.tied i q old) | inr new ↦ new_tied q new ];
+      right = λ i q view ran at is. elim (change_queries d node t e o change i q at) [
+        | inl old ↦
+            let a = k.right i q view ran old is in
+            record { program = a.program; named = keeps.programs q.program a.program a.named; right = a.right }
+        | inr new ↦ new_right q new view ran is
+      ];
+    }
 
 -- one book is put in, and the others are as they were
 module _ (c : ClusterState) (kept : IsKept c) (p : Past) (id : ℕ) (b : BookState) where
@@ -166,3 +232,11 @@ module _ (c : ClusterState) (kept : IsKept c) (p : Past) (id : ℕ) (b : BookSta
       → ((y : BookState) → fin.get c.books id ≡ Some y → Keeps y.desk b.desk) → IsStep c (With c p c.jobs id b)
   put_desk lawful onward head new keeps =
       put c.jobs lawful onward head new keeps (λ k j at. known_on c.books (fin.insert c.books id b) j (put_stays keeps) (kept.jobs k j at))
+
+-- a job that is handed out is one more
+pub which_job : (jobs : List Job) (o : Option Job) (number : ℕ) (j : Job) → slice_get (with_job jobs o) number ≡ Some j → (slice_get jobs number ≡ Some j) ⊎ (o ≡ Some j)
+which_job jobs None number j at = inl at
+which_job jobs (Some i) number j at = elim (get_snoc jobs i number j at) [
+  | inl old ↦ inl old
+  | inr same ↦ inr (ap (λ (x : Job). let o : Option Job = Some x in o) same)
+]

@@ -7,8 +7,6 @@ pub mod Called
 pub mod Kept
 pub mod Founders
 pub mod Events
-pub mod Delivering
-pub mod Finishing
 pub mod EveryHistory
 pub mod Histories
 pub mod Booked

@@ -1,5 +1,5 @@
 -- What an event of a world keeps of its operations, and what it adds.
-use Rattle.std.proofs.Common.{◌≡◌, ℕ, Bool, true, false, cond, ◌==◌, List, [], ◌∷◌, map, Option, Some, None, refl, sym, ap, ◌∙◌, subst, inl}
+use Rattle.std.proofs.Common.{◌≡◌, ℕ, Bool, true, false, cond, ◌==◌, List, map, Option, Some, None, refl, sym, ap, ◌∙◌, subst}
 use Rattle.std.proofs.lemmas.Bool.{eqb-true}
 use Rattle.std.specs.Ordering.{nat_cmp}
 use Rattle.std.specs.Cmp.{nat_cmp_total}
@@ -9,8 +9,6 @@ use Rattle.sc_operations.specs.declared.session.OperationKind.{OperationKind}
 use Rattle.sc_operations.specs.declared.session.OperationKind.TheVariants as kind
 use Rattle.sc_operations.specs.declared.progress.Progress.{Progress}
 use Rattle.sc_node.specs.Sessions.{kind_of, stored}
-use Rattle.sc_node.specs.State.{NodeState}
-use Rattle.sc_node.specs.Nodes.{collect_session}
 use Rattle.sc_world.specs.declared.event.WorldEvent.{WorldEvent}
 use Rattle.sc_world.specs.declared.op.Op.{Op}
 use Rattle.sc_world.specs.State.{WorldState}
@@ -18,8 +16,7 @@ use Rattle.sc_world.specs.Worlds.{clock, Outcome, advanced, op_begun, after}
 use Rattle.sc_world.specs.Records.{Among}
 use Rattle.sc_world.specs.Operations.{returned_by, returned}
 use Rattle.sc_world.proofs.Finite.{get-insert}
-use Rattle.sc_world.proofs.Steps.{among-left, among-right, among-image, advance_op}
-use Rattle.sc_world.proofs.Handlers.{collect_outcome}
+use Rattle.sc_world.proofs.Steps.{among-left, among-image, advance_op}
 use Rattle.sc_world.proofs.Telling.{same_start}
 use Rattle.q_history.proofs.Lists.{same_some}
 
@@ -88,9 +85,3 @@ module _ (w : WorldState) (e : WorldEvent) (q : ℕ) (r : Outcome) where
   -- an event that moves only operations that have not ended
   pub after_onward : ((o : Op) → Among o w.ops → (k : Progress) → r.progress ≡ Some k → o.node ≡ q → o.tag ≡ k.tag → o.end ≡ None) → IsOnward w.ops (after w e q r).ops
   after_onward running o in' = later o in' (running o in')
-
--- an event at which a node begins to collect
-pub collect_among : (w : WorldState) (e : WorldEvent) (q : ℕ) (n : NodeState) → (o : Op) × Among o (after w e q (collect_outcome n)).ops × (o.node ≡ q) × (o.tag ≡ n.operations)
-collect_among w e q n =
-    let o : Op = record { node = q; tag = n.operations; begin = clock w; end = None; session = collect_session n } in
-    (o, among-right o (map (advanced q (clock w) None) w.ops) (o ∷ []) (inl refl), refl, refl)

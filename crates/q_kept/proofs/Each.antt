@@ -21,10 +21,6 @@ all_append : {X : Type 0} (P : X → Type 0) (xs ys : List X) → AllByRecursion
 all_append P [] ys h k = k
 all_append P (x ∷ xs) ys h k = (h.0, all_append P xs ys h.1 k)
 
-all_front : {X : Type 0} (P : X → Type 0) (xs ys : List X) → AllByRecursion P (xs ++ ys) → AllByRecursion P xs
-all_front P [] ys h = tt
-all_front P (x ∷ xs) ys h = (h.0, all_front P xs ys h.1)
-
 all_map : {X Y : Type 0} (P : X → Type 0) (Q : Y → Type 0) (f : X → Y) → ((x : X) → P x → Q (f x)) → (xs : List X) → AllByRecursion P xs → AllByRecursion Q (map f xs)
 all_map P Q f g [] h = tt
 all_map P Q f g (x ∷ xs) h = (g x h.0, all_map P Q f g xs h.1)
@@ -94,11 +90,11 @@ module _ (n : NodeState) (nodes : List ℕ) where
       spelled = subst (λ (x : Addressed). Spells v x l) (λ i. message_to (h.message i) (sym s.to i)) s;
     }
 
-    goes_all : (sent : List Addressed) (ls : List Letter) → AllByRecursion Asked sent → AllZip (Spells v) sent ls → AllByRecursion (GoesAgain v n nodes questions) ls
-    goes_all [] [] h s = tt
-    goes_all [] (l ∷ ls) h s = absurd s
-    goes_all (a ∷ sent) [] h s = absurd s
-    goes_all (a ∷ sent) (l ∷ ls) h s = (goes_one a l h.0 s.0, goes_all sent ls h.1 s.1)
+    goes_all : (sent unsent : List Addressed) (ls : List Letter) → AllByRecursion Asked (sent ++ unsent) → AllZip (Spells v) sent ls → AllByRecursion (GoesAgain v n nodes questions) ls
+    goes_all [] unsent [] h s = tt
+    goes_all [] unsent (l ∷ ls) h s = absurd s
+    goes_all (a ∷ sent) unsent [] h s = absurd s
+    goes_all (a ∷ sent) unsent (l ∷ ls) h s = (goes_one a l h.0 s.0, goes_all sent unsent ls h.1 s.1)
 
     pub goes_each : (ls : List Letter) → SpellsFirst v (due v n nodes questions) ls → AllByRecursion (GoesAgain v n nodes questions) ls
-    goes_each ls f = goes_all f.sent ls (all_front Asked f.sent f.unsent (subst (AllByRecursion Asked) f.parts asked_each)) f.spelled
+    goes_each ls f = goes_all f.sent f.unsent ls (subst (AllByRecursion Asked) f.parts asked_each) f.spelled

@@ -22,7 +22,7 @@ abbrev pub goes_again : Body → Bool
 goes_again Enter = true
 goes_again Join = true
 goes_again Leave = true
-goes_again (Store tag view) = true
+goes_again (Store s) = true
 goes_again (CollectQuery tag) = true
 goes_again b = false
 
@@ -34,7 +34,7 @@ new_question m = record { message = m; looks = 0 }
 
 -- the phase of an operation of the node that waits for answers to the message
 abbrev pub asking_phase : NodeState → Body → Option Phase
-asking_phase n (Store tag view) = storing (fin.get n.sessions tag)
+asking_phase n (Store s) = storing (fin.get n.sessions s.tag)
 asking_phase n (CollectQuery tag) = querying (fin.get n.sessions tag)
 asking_phase n b = None
 

@@ -35,7 +35,7 @@ pub fn goes_again(message: &Message) -> bool
 {
     matches!(
         &message.body,
-        Body::Enter | Body::Join | Body::Leave | Body::Store { .. } | Body::CollectQuery { .. }
+        Body::Enter | Body::Join | Body::Leave | Body::Store(_) | Body::CollectQuery { .. }
     )
 }
 
@@ -44,8 +44,8 @@ pub(crate) fn asking_phase<'n>(node: &'n Node, body: &Body) -> Option<&'n Phase>
     ensures { option_copied result ≡ asking_phase node.now body.now }
 {
     match body {
-        Body::Store { tag, .. } => {
-            let back = node.session(*tag)?.back()?;
+        Body::Store(store) => {
+            let back = node.session(store.tag)?.back()?;
             Some(&back.phase)
         }
         Body::CollectQuery { tag } => match node.session(*tag)? {

@@ -8,6 +8,7 @@ ghost use Rattle.sc_view.specs.Views.{ViewMap};
 ghost use Rattle.sc_msg.specs.Lengths.{fits};
 ghost use Rattle.sc_msg.specs.declared.message.Body.TheVariants as body;
 ghost use Rattle.sc_msg.specs.declared.message.CollectReply.{CollectReply as ReplyFields};
+ghost use Rattle.sc_msg.specs.declared.message.Store.{Store as StoreFields};
 ghost use Rattle.sc_msg.specs.declared.message.StoreAck.{StoreAck as AckFields};
 ghost use Rattle.sc_msg.specs.declared.message.Message.{Message as Said};
 ghost use Rattle.sc_msg.specs.declared.version.Version.{Version as Wire};
@@ -40,7 +41,7 @@ pub fn worked()
         → Spells v (addressed (record { from = from; body = body.StoreAck ack })) letter → letter.to ≡ Some ack.to }
 
     // What asks goes again, and no reply or echo does.
-    ensures again { (v : ViewMap) → (goes_again body.Enter ≡ true) × (goes_again body.Join ≡ true) × (goes_again body.Leave ≡ true) × (goes_again (body.Store 7 v) ≡ true) × (goes_again (body.CollectQuery 7) ≡ true) }
+    ensures again { (s : StoreFields) → (goes_again body.Enter ≡ true) × (goes_again body.Join ≡ true) × (goes_again body.Leave ≡ true) × (goes_again (body.Store s) ≡ true) × (goes_again (body.CollectQuery 7) ≡ true) }
     ensures not_again { (ack : AckFields) (reply : ReplyFields) (v : ViewMap) → (goes_again (body.StoreAck ack) ≡ false) × (goes_again (body.StoreEcho v) ≡ false) × (goes_again (body.CollectReply reply) ≡ false) × (goes_again (body.JoinEcho 3) ≡ false) × (goes_again (body.LeaveEcho 3) ≡ false) }
 {}
 
@@ -49,17 +50,17 @@ pub fn worked_keeping()
     // An enter until the node has joined, or has left.
     ensures enters { (n : NodeState) → n.gone ≡ false → n.joined ≡ false → is_kept n 1000 body.Enter ≡ true }
     ensures has_joined { (n : NodeState) → n.gone ≡ false → n.joined ≡ true → is_kept n 0 body.Enter ≡ false }
-    ensures has_left { (n : NodeState) (v : ViewMap) → n.gone ≡ true → (is_kept n 0 body.Enter ≡ false) × (is_kept n 0 (body.Store 7 v) ≡ false) × (is_kept n 0 (body.CollectQuery 7) ≡ false) }
+    ensures has_left { (n : NodeState) (s : StoreFields) → n.gone ≡ true → (is_kept n 0 body.Enter ≡ false) × (is_kept n 0 (body.Store s) ≡ false) × (is_kept n 0 (body.CollectQuery 7) ≡ false) }
 
     // A join and a leave up to the third look at which they are due.
     ensures tells { (n : NodeState) → (is_kept n 4 body.Join ≡ true) × (is_kept n 4 body.Leave ≡ true) }
     ensures told { (n : NodeState) → (is_kept n 5 body.Join ≡ false) × (is_kept n 5 body.Leave ≡ false) }
 
     // What an operation asks while its phase is open.
-    ensures ended { (n : NodeState) (v : ViewMap) → fin.get n.sessions 7 ≡ None → (is_kept n 0 (body.Store 7 v) ≡ false) × (is_kept n 0 (body.CollectQuery 7) ≡ false) }
+    ensures ended { (n : NodeState) (s : StoreFields) → fin.get n.sessions s.tag ≡ None → (is_kept n 0 (body.Store s) ≡ false) × (is_kept n 0 (body.CollectQuery s.tag) ≡ false) }
     ensures queries { (n : NodeState) (p : Waiting) → n.gone ≡ false → fin.get n.sessions 7 ≡ Some (operation.Querying p) → is_kept n 1000 (body.CollectQuery 7) ≡ true }
-    ensures stores { (n : NodeState) (e : Value) (b : Back) (v : ViewMap) → n.gone ≡ false → fin.get n.sessions 7 ≡ Some (operation.Store e b) → (is_kept n 1000 (body.Store 7 v) ≡ true) × (is_kept n 0 (body.CollectQuery 7) ≡ false) }
-    ensures stores_back { (n : NodeState) (p : Waiting) (b : Back) (v : ViewMap) → n.gone ≡ false → fin.get n.sessions 7 ≡ Some (operation.StoringBack p b) → (is_kept n 1000 (body.Store 7 v) ≡ true) × (is_kept n 0 (body.CollectQuery 7) ≡ false) }
+    ensures stores { (n : NodeState) (e : Value) (b : Back) (s : StoreFields) → n.gone ≡ false → fin.get n.sessions s.tag ≡ Some (operation.Store e b) → (is_kept n 1000 (body.Store s) ≡ true) × (is_kept n 0 (body.CollectQuery s.tag) ≡ false) }
+    ensures stores_back { (n : NodeState) (p : Waiting) (b : Back) (s : StoreFields) → n.gone ≡ false → fin.get n.sessions s.tag ≡ Some (operation.StoringBack p b) → (is_kept n 1000 (body.Store s) ≡ true) × (is_kept n 0 (body.CollectQuery s.tag) ≡ false) }
 {}
 
 /// To whom a question goes, and at which looks.

@@ -14,7 +14,7 @@ ghost use Rattle.q_kept.specs.Recording.{Grows, IsKept, IsRecorded, Records, lac
 ghost use Rattle.q_kept.specs.declared.fault.Unrecorded.TheVariants as fault;
 
 /// What the definitions say at telling operands, of a book whose journal is a hand-out and a leave.
-#[tactic(auto, unfolding(sc_msg::specs::Numbers::number_bytes))]
+#[tactic(auto, unfolding(spelling::specs::Numbers::number_bytes))]
 pub fn worked()
     ensures failed { reason fault.Failed ≡ reasons.FileFailed }
 

@@ -5,7 +5,7 @@ use Rattle.std.specs.Io.KnownBytes.{Consumes, IsAtEnd}
 use Rattle.std.proofs.KnownBytes.{Consumes-trans}
 use Rattle.std.proofs.Math.Seq.{take-append_seam}
 use Rattle.std.proofs.lemmas.List.{length-take}
-use Rattle.bq_check.specs.Spelling.{short_bytes}
+use Rattle.spelling.specs.Numbers.{number_bytes}
 use Rattle.sc_msg.specs.declared.version.Version.{Version}
 use Rattle.q_net.specs.declared.pieces.Piece.{Piece}
 use Rattle.q_net.specs.declared.incoming.Incoming.{Incoming}
@@ -15,6 +15,10 @@ use Rattle.q_net.specs.Requests.{GetsNext, GotBlob, spelling, IsRequest, most_te
 
 pub whole_of : (a b : Option (List ℕ)) (n : ℕ) (xs : List ℕ) → length xs ≤ n → Consumes a b (take n xs) → Consumes a b xs
 whole_of a b n xs h p = subst (Consumes a b) (take_all n xs h) p
+
+-- a number's bytes were all read
+pub number_read : (width m n : ℕ) (a b : Option (List ℕ)) (bytes : List ℕ) → length bytes ≤ n → Consumes a b (take n bytes) → number_bytes width m ≡ bytes → Consumes a b (number_bytes width m)
+number_read width m n a b bytes all read is = subst (Consumes a b) (sym is) (whole_of a b n bytes all read)
 
 pub taken_length : (n : ℕ) (xs ys : List ℕ) → length xs ≡ length (take n ys) → n ≤ length ys → length xs ≡ n
 taken_length n xs ys h few = omega (arith, h, few, length-take n ys)
@@ -45,8 +49,8 @@ pub got_none : {A : Type 0} (bytes_of : A → List ℕ) (len : ℕ) (a b : Optio
 got_none bytes_of len a b o is h = subst (Got bytes_of len a b) is h
 
 -- a number of four bytes was got, and what comes behind it failed
-pub short_then_failed : {E : Type 0} (P : E → Type 0) (version : Version) (front : List ℕ) (a b c : Option (List ℕ)) (r : Result Incoming E) (o : Option ℕ) (n : ℕ) → IsErrAnd r P → o ≡ Some n → Got short_bytes 4 a b o → (part : List ℕ) × Consumes b c part → GetsNext version front a c r
-short_then_failed P version front a b c r o n h is got failed = next_failed P version front a c r h (then_failed a b c (short_bytes n) (got_some short_bytes 4 a b o n is got) failed)
+pub short_then_failed : {E : Type 0} (P : E → Type 0) (version : Version) (front : List ℕ) (a b c : Option (List ℕ)) (r : Result Incoming E) (o : Option ℕ) (n : ℕ) → IsErrAnd r P → o ≡ Some n → Got (number_bytes 4) 4 a b o → (part : List ℕ) × Consumes b c part → GetsNext version front a c r
+short_then_failed P version front a b c r o n h is got failed = next_failed P version front a c r h (then_failed a b c (number_bytes 4 n) (got_some (number_bytes 4) 4 a b o n is got) failed)
 
 -- the same of a byte
 pub byte_then_failed : {E : Type 0} (P : E → Type 0) (version : Version) (front : List ℕ) (a b c : Option (List ℕ)) (r : Result Incoming E) (o : Option ℕ) (n : ℕ) → IsErrAnd r P → o ≡ Some n → Got (λ (b : ℕ). b ∷ []) 1 a b o → (part : List ℕ) × Consumes b c part → GetsNext version front a c r
@@ -94,7 +98,7 @@ next_behind version front more a b c (Err e) consumed h = (more ++ h.0, Consumes
 -- ---- registrations
 
 abbrev pub to_text : List ℕ → List ℕ
-to_text text = 1 ∷ short_bytes (length text) ++ text
+to_text text = 1 ∷ number_bytes 4 (length text) ++ text
 
 pub blob_cut : (len : ℕ) (a b : Option (List ℕ)) (p : Piece) → p ≡ piece.Cut → GotBlob len a b p → (part : List ℕ) × Consumes a b part × (length part < len) × IsAtEnd b
 blob_cut len a b p is h = subst (GotBlob len a b) is h
@@ -106,19 +110,19 @@ pub blob_whole : (len : ℕ) (a b : Option (List ℕ)) (p : Piece) (bytes : List
 blob_whole len a b p bytes is h = subst (GotBlob len a b) is h
 
 -- the notes behind a text
-pub notes_read : (version : Version) (text notes : List ℕ) (len : ℕ) (a b c : Option (List ℕ)) → length text ≤ most_text → len ≤ most_notes version → Consumes a b (short_bytes len) → Consumes b c notes × (length notes ≡ len)
+pub notes_read : (version : Version) (text notes : List ℕ) (len : ℕ) (a b c : Option (List ℕ)) → length text ≤ most_text → len ≤ most_notes version → Consumes a b (number_bytes 4 len) → Consumes b c notes × (length notes ≡ len)
     → (x : List ℕ) × Consumes a c x × IsRequest version (Register text notes) × (to_text text ++ x ≡ spelling (Register text notes))
 notes_read version text notes len a b c few small first second =
-    let x = short_bytes len ++ notes in
+    let x = number_bytes 4 len ++ notes in
     let same : to_text text ++ x ≡ spelling (Register text notes) =
-    ap (λ (l : List ℕ). 1 ∷ l) (append_assoc (short_bytes (length text)) text x)
-    ∙ ap (λ (n : ℕ). 1 ∷ short_bytes (length text) ++ (text ++ (short_bytes n ++ notes))) (sym second.1) in
-    (x, Consumes-trans a b c (short_bytes len) notes first second.0, (few, omega (arith, small, second.1)), same)
+    ap (λ (l : List ℕ). 1 ∷ l) (append_assoc (number_bytes 4 (length text)) text x)
+    ∙ ap (λ (n : ℕ). 1 ∷ number_bytes 4 (length text) ++ (text ++ (number_bytes 4 n ++ notes))) (sym second.1) in
+    (x, Consumes-trans a b c (number_bytes 4 len) notes first second.0, (few, omega (arith, small, second.1)), same)
 
 -- a text, and what is behind it
-pub text_read : {E : Type 0} (version : Version) (a b c d : Option (List ℕ)) (len : ℕ) (text : List ℕ) (r : Result Incoming E) → Consumes a b (short_bytes len) → Consumes b c text × (length text ≡ len) → len ≤ most_text
+pub text_read : {E : Type 0} (version : Version) (a b c d : Option (List ℕ)) (len : ℕ) (text : List ℕ) (r : Result Incoming E) → Consumes a b (number_bytes 4 len) → Consumes b c text × (length text ≡ len) → len ≤ most_text
     → ((whole : List ℕ) → length whole ≤ most_text → whole ≡ text → GetsNext version (to_text whole) c d r) → GetsNext version (1 ∷ []) a d r
 text_read version a b c d len text r first second small behind =
-    let consumed = Consumes-trans a b c (short_bytes len) text first second.0 in
-    let rest = subst (λ (n : ℕ). GetsNext version (1 ∷ short_bytes n ++ text) c d r) second.1 (behind text (omega (arith, small, second.1)) refl) in
-    next_behind version (1 ∷ []) (short_bytes len ++ text) a c d r consumed rest
+    let consumed = Consumes-trans a b c (number_bytes 4 len) text first second.0 in
+    let rest = subst (λ (n : ℕ). GetsNext version (1 ∷ number_bytes 4 n ++ text) c d r) second.1 (behind text (omega (arith, small, second.1)) refl) in
+    next_behind version (1 ∷ []) (number_bytes 4 len ++ text) a c d r consumed rest

@@ -3,6 +3,7 @@ use Rattle.std.proofs.Common.{◌≡◌, ℕ, List, [], ◌∷◌, ◌++◌, Opt
 use Rattle.std.specs.List.{AllByRecursion}
 use Rattle.std.specs.Io.KnownBytes.{Appends, Consumes}
 use Rattle.std.proofs.KnownBytes.{Appends-nil, Appends-trans, Consumes-nil, Consumes-trans}
+use Rattle.spelling.proofs.Codes.{all_push}
 use Rattle.sc_msg.specs.declared.message.Message.{Message}
 use Rattle.sc_msg.specs.declared.version.Version.{Version}
 use Rattle.q_book.specs.State.{BookState}
@@ -76,17 +77,13 @@ spellings_more : (rs : List Request) (r : Request) → spellings (rs ++ r ∷ []
 spellings_more [] r = append-nil (spelling r)
 spellings_more (q ∷ rs) r = ap (λ (l : List ℕ). spelling q ++ l) (spellings_more rs r) ∙ sym (append_assoc (spelling q) (spellings rs) (spelling r))
 
-legal_more : (version : Version) (rs : List Request) (r : Request) → AllByRecursion (IsRequest version) rs → IsRequest version r → AllByRecursion (IsRequest version) (rs ++ r ∷ [])
-legal_more version [] r h p = (p, tt)
-legal_more version (q ∷ rs) r h p = (h.0, legal_more version rs r h.1 p)
-
 -- a request that was read, and replied to in full
 pub served_more : (input mid left before between after : Option (List ℕ)) (b c d : BookState) (had has more : List Message) (r : Request) (said : Reply) (outs : List Message)
     → Served input mid before between b c had has → IsRequest b.version r → Consumes mid left (spelling r) → Replies c r said outs d
     → more ≡ has ++ outs → Appends between after (reply_bytes said) → Served input left before after b d had more
 served_more input mid left before between after b c d had has more r said outs s legal consumed replied grown written = record {
   requests = s.requests ++ r ∷ [];
-  legal = legal_more b.version s.requests r s.legal legal;
+  legal = all_push (IsRequest b.version) s.requests r s.legal legal;
   consumed = subst (Consumes input left) (sym (spellings_more s.requests r)) (Consumes-trans input mid left (spellings s.requests) (spelling r) s.consumed consumed);
   replies = s.replies ++ reply_bytes said;
   messages = s.messages ++ outs;

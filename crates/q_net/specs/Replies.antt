@@ -12,7 +12,8 @@ use Rattle.bq_insn.specs.declared.fault.DecodeFault.TheVariants as decode_fault
 use Rattle.bq_check.specs.declared.fault.NotesFault.TheVariants as notes_fault
 use Rattle.bq_check.specs.Reasons as check
 use Rattle.bq_check.specs.Faults.{IsFirstFault}
-use Rattle.bq_check.specs.Spelling.{short_bytes, long_bytes, notes_bytes, IsNotes}
+use Rattle.bq_check.specs.Spelling.{notes_bytes, IsNotes}
+use Rattle.spelling.specs.Numbers.{number_bytes}
 use Rattle.bq_check.specs.declared.form.NotesForm.{NotesForm}
 use Rattle.bq_check.specs.declared.form.NotesForm.TheVariants as form
 use Rattle.bq_check.specs.Certificate.{Certificate}
@@ -39,10 +40,10 @@ use Rattle.q_net.specs.declared.served.Registered.{Registered}
 use Rattle.q_net.specs.declared.served.Registered.TheVariants as registered
 
 abbrev pub reply_bytes : Reply → List ℕ
-reply_bytes (reply.Program program) = 0 ∷ short_bytes program
-reply_bytes (reply.Number value) = 0 ∷ long_bytes value
+reply_bytes (reply.Program program) = 0 ∷ number_bytes 4 program
+reply_bytes (reply.Number value) = 0 ∷ number_bytes 8 value
 reply_bytes reply.Open = 0 ∷ 0 ∷ []
-reply_bytes (reply.Answer acc steps) = 0 ∷ 1 ∷ long_bytes acc ++ long_bytes steps
+reply_bytes (reply.Answer acc steps) = 0 ∷ 1 ∷ number_bytes 8 acc ++ number_bytes 8 steps
 reply_bytes (reply.Refused why) = why ∷ []
 
 -- ---- registrations

@@ -2,7 +2,7 @@
 use Rattle.std.specs.Prelude.{◌≡◌, ◌≢◌, ℕ, ◌≤◌, ◌<◌, ◌^◌, List, [], ◌∷◌, ◌++◌, length, Option, Some, None, Result, Ok, Err}
 use Rattle.std.specs.List.{flat_map}
 use Rattle.std.specs.Io.KnownBytes.{Consumes, IsAtEnd}
-use Rattle.bq_check.specs.Spelling.{short_bytes, long_bytes}
+use Rattle.spelling.specs.Numbers.{number_bytes}
 use Rattle.sc_msg.specs.declared.version.Version.{Version}
 use Rattle.sc_msg.specs.declared.version.Version.TheVariants.{First, Second}
 use Rattle.q_net.specs.declared.request.Request.{Request}
@@ -24,10 +24,10 @@ most_notes Second = 778244
 
 -- the bytes of a request
 abbrev pub spelling : Request → List ℕ
-spelling (Register text notes) = 1 ∷ short_bytes (length text) ++ (text ++ (short_bytes (length notes) ++ notes))
-spelling (Ask program start) = 2 ∷ short_bytes program ++ long_bytes start
+spelling (Register text notes) = 1 ∷ number_bytes 4 (length text) ++ (text ++ (number_bytes 4 (length notes) ++ notes))
+spelling (Ask program start) = 2 ∷ number_bytes 4 program ++ number_bytes 8 start
 spelling (Store value) = 3 ∷ value
-spelling (Answer query) = 4 ∷ long_bytes query
+spelling (Answer query) = 4 ∷ number_bytes 8 query
 spelling (StoreOf value) = 5 ∷ length value ∷ value
 
 abbrev pub spellings : List Request → List ℕ
@@ -67,11 +67,11 @@ IsPlace version place = Unit {0}
 -- the bytes of the request before that place
 abbrev pub before : Place → List ℕ
 before text_length = 1 ∷ []
-before (in_text len) = 1 ∷ short_bytes len
-before (notes_length text) = 1 ∷ short_bytes (length text) ++ text
-before (in_notes text len) = 1 ∷ short_bytes (length text) ++ (text ++ short_bytes len)
+before (in_text len) = 1 ∷ number_bytes 4 len
+before (notes_length text) = 1 ∷ number_bytes 4 (length text) ++ text
+before (in_notes text len) = 1 ∷ number_bytes 4 (length text) ++ (text ++ number_bytes 4 len)
 before program_number = 2 ∷ []
-before (start_value program) = 2 ∷ short_bytes program
+before (start_value program) = 2 ∷ number_bytes 4 program
 before in_value = 3 ∷ []
 before query_number = 4 ∷ []
 before value_length = 5 ∷ []
@@ -105,10 +105,10 @@ abbrev pub IsStop : Version → List ℕ → StreamEnd → Type 0
 IsStop version bytes Unknown =
     (kind : ℕ) × (bytes ≡ kind ∷ []) × (kind ≢ 1) × (kind ≢ 2) × (kind ≢ 3) × (kind ≢ 4) × (kind ≢ 5)
 IsStop version bytes Cut = IsCut version bytes
-IsStop version bytes LongText = (len : ℕ) × (most_text < len) × (len < 2 ^ 32) × (bytes ≡ 1 ∷ short_bytes len)
+IsStop version bytes LongText = (len : ℕ) × (most_text < len) × (len < 2 ^ 32) × (bytes ≡ 1 ∷ number_bytes 4 len)
 IsStop version bytes LongNotes =
     (text : List ℕ) × (len : ℕ) × (length text ≤ most_text) × (most_notes version < len) × (len < 2 ^ 32)
-    × (bytes ≡ 1 ∷ short_bytes (length text) ++ (text ++ short_bytes len))
+    × (bytes ≡ 1 ∷ number_bytes 4 (length text) ++ (text ++ number_bytes 4 len))
 
 -- the input ended where it had to
 abbrev pub IsRead : Option (List ℕ) → Option StreamEnd → Type 0

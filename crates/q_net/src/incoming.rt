@@ -1,7 +1,7 @@
 //! The next request of an input.
 
 ghost use Rattle.std.specs.Prelude.{◌≡◌, ◌≤◌, ℕ, List, [], ◌∷◌, ◌++◌, length, IfSome};
-ghost use Rattle.bq_check.specs.Spelling.{short_bytes};
+ghost use Rattle.spelling.specs.Numbers.{number_bytes};
 ghost use Rattle.sc_msg.specs.declared.version.Version.{Version as BookVersion};
 ghost use Rattle.q_outside.specs.Counts.{count_after};
 ghost use Rattle.q_net.specs.Requests.{GetsNext, most_text, most_notes};
@@ -75,7 +75,7 @@ fn notes<R: Read>(
     input: &mut Counted<R>,
 ) -> Result<Incoming, TransportFailed>
     ensures read { (whole : List ℕ) → length whole ≤ most_text → IfSome text (λ t. t ≡ whole)
-        → GetsNext version (1 ∷ short_bytes (length whole) ++ whole) (R.remaining input.old.inner) (R.remaining input.new.inner) result }
+        → GetsNext version (1 ∷ number_bytes 4 (length whole) ++ whole) (R.remaining input.old.inner) (R.remaining input.new.inner) result }
     ensures counted { input.new.failures ≡ count_after result input.old.failures }
 {
     let most = most_notes(version);

@@ -1,7 +1,7 @@
 //! The parts of a request, read from left to right. A reply has numbers of the same forms.
 
 ghost use Rattle.std.specs.Prelude.{◌≡◌, [], ◌∷◌, length, IfOk, IfSome};
-ghost use Rattle.bq_check.specs.Spelling.{short_bytes, long_bytes};
+ghost use Rattle.spelling.specs.Numbers.{number_bytes};
 ghost use Rattle.q_net.specs.Requests.{Gets, GetsBlob};
 ghost use Rattle.q_outside.specs.Counts.{count_after};
 
@@ -23,27 +23,17 @@ pub enum Piece {
 }
 
 /// The number of these four bytes.
-#[tactic(auto, unfolding(bq_check::specs::Spelling::short_bytes))]
-fn short_of(bytes: &[u8]) -> u32
-    requires { length bytes.now ≡ 4 }
-    ensures { short_bytes result ≡ bytes.now }
+fn short_of(bytes: [u8; 4]) -> u32
+    ensures { number_bytes 4 result ≡ bytes }
 {
-    let [a, b, c, d] = bytes else {
-        return 0;
-    };
-    u32::from_le_bytes([*a, *b, *c, *d])
+    u32::from_le_bytes(bytes)
 }
 
 /// The number of these eight bytes.
-#[tactic(auto, unfolding(bq_check::specs::Spelling::long_bytes))]
-fn long_of(bytes: &[u8]) -> u64
-    requires { length bytes.now ≡ 8 }
-    ensures { long_bytes result ≡ bytes.now }
+fn long_of(bytes: [u8; 8]) -> u64
+    ensures { number_bytes 8 result ≡ bytes }
 {
-    let [a, b, c, d, e, f, g, h] = bytes else {
-        return 0;
-    };
-    u64::from_le_bytes([*a, *b, *c, *d, *e, *f, *g, *h])
+    u64::from_le_bytes(bytes)
 }
 
 /// What the next bytes come to, so many of them; none where the input ends before them.
@@ -67,18 +57,18 @@ pub fn read_byte<R: Read>(input: &mut Counted<R>) -> Result<Option<u8>, Transpor
 
 /// The number of the next four bytes; none where the input ends before them.
 pub fn read_short<R: Read>(input: &mut Counted<R>) -> Result<Option<u32>, TransportFailed>
-    ensures read { Gets short_bytes 4 (R.remaining input.old.inner) (R.remaining input.new.inner) result }
+    ensures read { Gets (number_bytes 4) 4 (R.remaining input.old.inner) (R.remaining input.new.inner) result }
     ensures counted { input.new.failures ≡ count_after result input.old.failures }
 {
-    next!(input, 4, bytes => short_of(&bytes))
+    next!(input, 4, bytes => short_of(bytes))
 }
 
 /// The number of the next eight bytes; none where the input ends before them.
 pub fn read_long<R: Read>(input: &mut Counted<R>) -> Result<Option<u64>, TransportFailed>
-    ensures read { Gets long_bytes 8 (R.remaining input.old.inner) (R.remaining input.new.inner) result }
+    ensures read { Gets (number_bytes 8) 8 (R.remaining input.old.inner) (R.remaining input.new.inner) result }
     ensures counted { input.new.failures ≡ count_after result input.old.failures }
 {
-    next!(input, 8, bytes => long_of(&bytes))
+    next!(input, 8, bytes => long_of(bytes))
 }
 
 /// The value of the next 48 bytes; none where the input ends before them.

@@ -25,7 +25,7 @@ pub enum Reply {
 
 impl Reply {
     /// Writes the reply's bytes. Refused with 86 where a write fails; some of them may have been written before.
-    #[tactic(auto, unfolding(bq_check::specs::Spelling::short_bytes, bq_check::specs::Spelling::long_bytes))]
+    #[tactic(auto, unfolding(spelling::specs::Numbers::number_bytes))]
     pub fn write<W: Write>(self, out: &mut Counted<W>) -> Result<(), TransportFailed>
         ensures written { OnOk result (Appends (W.contents out.old.inner) (W.contents out.new.inner) (reply_bytes self)) }
         ensures failed { OnErr result ((part : List ℕ) × Appends (W.contents out.old.inner) (W.contents out.new.inner) part) }

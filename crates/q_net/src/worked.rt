@@ -18,7 +18,7 @@ ghost use Rattle.q_net.specs.declared.replies.Reply.{Reply};
 ghost use Rattle.q_net.specs.declared.replies.Reply.TheVariants as reply;
 
 /// What the definitions say at telling operands.
-#[tactic(auto, unfolding(bq_check::specs::Spelling::short_bytes, bq_check::specs::Spelling::long_bytes))]
+#[tactic(auto, unfolding(spelling::specs::Numbers::number_bytes))]
 pub fn worked()
     ensures register { spelling (request.Register (7 ∷ 8 ∷ []) (9 ∷ [])) ≡ 1 ∷ 2 ∷ 0 ∷ 0 ∷ 0 ∷ 7 ∷ 8 ∷ 1 ∷ 0 ∷ 0 ∷ 0 ∷ 9 ∷ [] }
     ensures ask { spelling (request.Ask 0 7) ≡ 2 ∷ 0 ∷ 0 ∷ 0 ∷ 0 ∷ 7 ∷ 0 ∷ 0 ∷ 0 ∷ 0 ∷ 0 ∷ 0 ∷ 0 ∷ [] }

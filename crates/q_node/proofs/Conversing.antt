@@ -3,21 +3,18 @@ use Rattle.std.proofs.Common.{ℕ, List, [], ◌∷◌, ◌++◌, Option, Result
 use Rattle.std.specs.List.{AllByRecursion, flat_map}
 use Rattle.std.specs.Io.KnownBytes.{Appends}
 use Rattle.std.proofs.KnownBytes.{Appends-trans}
+use Rattle.spelling.proofs.Codes.{all_push}
 use Rattle.q_outside.proofs.Writing.{behind, one_more_written}
 use Rattle.q_node.specs.Console.{Converses, IsSaid, said_line}
 use Rattle.q_node.specs.Runs.{IsFront}
 use Rattle.q_node.specs.Talks.{Greets, Tells}
 use Rattle.q_node.specs.declared.console.Said.{Said}
 
-all_more : {A : Type 0} (P : A → Type 0) (xs : List A) (x : A) → AllByRecursion P xs → P x → AllByRecursion P (xs ++ x ∷ [])
-all_more P [] x h p = (p, tt)
-all_more P (y ∷ ys) x h p = (h.0, all_more P ys x h.1 p)
-
 -- one thing more was said
 pub said_more : (node : ℕ) (a b c : Option (List ℕ)) (s : Said) → Converses node a b → IsSaid node s → Appends b c (said_line s) → Converses node a c
 said_more node a b c s h is more =
     let (all, said, written) = h in
-    (all ++ s ∷ [], all_more (IsSaid node) all s said is, one_more_written said_line a b c all (all ++ s ∷ []) s refl written more)
+    (all ++ s ∷ [], all_push (IsSaid node) all s said is, one_more_written said_line a b c all (all ++ s ∷ []) s refl written more)
 
 -- what was said behind the line that tells where the node hears
 pub greeted : (node : ℕ) (greeting : List ℕ) (a b c : Option (List ℕ)) → Appends a b (greeting ++ 10 ∷ []) → Converses node b c → (front : List ℕ) × IsFront node greeting front × Appends a c front

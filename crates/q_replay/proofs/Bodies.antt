@@ -1,5 +1,5 @@
 -- Bodies that are those of no event of their kind.
-use Rattle.std.proofs.Common.{◌≡◌, ℕ, ◌+◌, ◌^◌, ◌<◌, List, [], ◌++◌, length, Option, Result, Err, ◌⊎◌, inl, inr, sym, ap, ◌∙◌, arith, length-append}
+use Rattle.std.proofs.Common.{◌≡◌, ℕ, ◌+◌, ◌^◌, ◌<◌, List, [], ◌++◌, length, Option, Result, Err, refl, ◌⊎◌, inl, inr, sym, ap, ◌∙◌, arith, length-append}
 use Rattle.std.specs.Prelude.{IfErr}
 use Rattle.std.proofs.lemmas.List.{append-nil}
 use Rattle.bq_insn.specs.declared.insn.Insn.{Insn}
@@ -11,80 +11,55 @@ use Rattle.bq_check.specs.Spelling.{notes_bytes, IsNotes}
 use Rattle.bq_check.specs.declared.fault.NotesFault.{NotesFault}
 use Rattle.bq_check.specs.declared.fault.NotesFault.TheVariants as notes
 use Rattle.sc_msg.specs.declared.version.Version.{Version}
-use Rattle.sc_msg.specs.Numbers.{number_bytes}
+use Rattle.spelling.specs.Numbers.{number_bytes}
 use Rattle.sc_msg.specs.declared.message.Message.{Message}
 use Rattle.sc_msg.specs.declared.fault.MessageFault.{MessageFault}
 use Rattle.sc_msg.specs.declared.fault.MessageFault.TheVariants as messages
 use Rattle.sc_msg.specs.Messages.{message_bytes, IsMessage}
-use Rattle.sc_msg.proofs.Numbers.{length-number_bytes}
-use Rattle.sc_msg.proofs.Entries.{same_front, number_front}
+use Rattle.spelling.proofs.Codes.{same_front, number_front}
 use Rattle.q_replay.specs.declared.raw_entry.RawEntry.{RawEntry}
 use Rattle.q_replay.specs.declared.raw_entry.RawEntry.TheVariants.{Leave, Register, Ask, Deliver, HandOut, Post}
 use Rattle.q_replay.specs.declared.read.ReadFault.{ReadFault}
 use Rattle.q_replay.specs.declared.read.ReadFault.TheVariants.{Form, OutOfMemory}
-use Rattle.q_replay.specs.Spelling.{form_of, body_bytes}
+use Rattle.q_replay.specs.Spelling.{code, form_of, body_bytes}
 use Rattle.q_replay.specs.Reading.{IsBody, IsNoBody, of_text, of_notes, of_message}
 use Rattle.q_replay.proofs.Exits.{passed}
 use Rattle.q_replay.proofs.Sizes.{text_small, length-registered, length-asked, length-posted}
 
 -- ---- by how long they are
 
-pub no_bare : (version : Version) (kind : ℕ) (body : List ℕ) → (kind ≡ 1) ⊎ (kind ≡ 6) → 0 < length body → IsNoBody version kind body
-no_bare version kind body which more = record { none = λ w h. none w h }
-  where
-    other : (k : ℕ) → k ≡ kind → (k ≡ 1 → ⊥) → (k ≡ 6 → ⊥) → ⊥
-    other k is first second = elim which [ inl e ↦ first (is ∙ e) | inr e ↦ second (is ∙ e) ]
+no_fixed : (version : Version) (kind n : ℕ) (body : List ℕ) → ((w : RawEntry) → code w ≡ kind → length (body_bytes version w) ≡ n) → (length body ≡ n → ⊥) → IsNoBody version kind body
+no_fixed version kind n body as_long other = record { none = λ w h. other (ap length h.spelled ∙ as_long w h.is) }
 
-    none : (w : RawEntry) → IsBody version kind body w → ⊥
-    none Leave h = omega (arith, more, ap length h.spelled)
-    none HandOut h = omega (arith, more, ap length h.spelled)
-    none w h = other _ h.is (λ e. omega (arith, e)) (λ e. omega (arith, e))
+pub no_bare : (version : Version) (kind : ℕ) (body : List ℕ) → (kind ≡ 1) ⊎ (kind ≡ 6) → 0 < length body → IsNoBody version kind body
+no_bare version kind body which more = no_fixed version kind 0 body (λ w is. empty w is which) (λ e. omega (arith, more, e))
+  where
+    empty : (w : RawEntry) → code w ≡ kind → (kind ≡ 1) ⊎ (kind ≡ 6) → length (body_bytes version w) ≡ 0
+    empty Leave is which = refl
+    empty HandOut is which = refl
+    empty w is (inl one) = absurd (omega (arith, is, one))
+    empty w is (inr six) = absurd (omega (arith, is, six))
 
 pub no_ask : (version : Version) (body : List ℕ) → (length body ≡ 12 → ⊥) → IsNoBody version 3 body
-no_ask version body other = record { none = λ w h. none w h }
+no_ask version body other = no_fixed version 3 12 body as_long other
   where
-    none : (w : RawEntry) → IsBody version 3 body w → ⊥
-    none (Ask program start) h = other (ap length h.spelled ∙ length-asked program start)
-    none w h = omega (arith, h.is)
+    as_long : (w : RawEntry) → code w ≡ 3 → length (body_bytes version w) ≡ 12
+    as_long (Ask program start) is = length-asked program start
+    as_long w is = absurd (omega (arith, is))
 
 pub no_post : (version : Version) (body : List ℕ) → (length body ≡ 24 → ⊥) → IsNoBody version 7 body
-no_post version body other = record { none = λ w h. none w h }
+no_post version body other = no_fixed version 7 24 body as_long other
   where
-    none : (w : RawEntry) → IsBody version 7 body w → ⊥
-    none (Post query acc steps) h = other (ap length h.spelled ∙ length-posted query acc steps)
-    none w h = omega (arith, h.is)
+    as_long : (w : RawEntry) → code w ≡ 7 → length (body_bytes version w) ≡ 24
+    as_long (Post query acc steps) is = length-posted query acc steps
+    as_long w is = absurd (omega (arith, is))
 
--- so many bytes are left behind those that were read
-number_then : (width n : ℕ) (bytes rest : List ℕ) → bytes ≡ number_bytes width n ++ rest → length bytes ≡ width + length rest
-number_then width n bytes rest parts = omega (arith, ap length parts, length-append (number_bytes width n) rest, length-number_bytes width n)
+-- numbers one behind another, and nothing more
+pub last_number : (width n : ℕ) (bytes rest : List ℕ) → bytes ≡ number_bytes width n ++ rest → rest ≡ [] → bytes ≡ number_bytes width n
+last_number width n bytes rest parts end = parts ∙ ap (λ (l : List ℕ). number_bytes width n ++ l) end ∙ append-nil (number_bytes width n)
 
--- ---- cut behind some numbers, or with more behind all
-
-pub ask_cut : (version : Version) (body rest : List ℕ) (program : ℕ) → body ≡ number_bytes 4 program ++ rest → length rest < 8 → IsNoBody version 3 body
-ask_cut version body rest program parts short = no_ask version body (λ e. omega (arith, e, short, number_then 4 program body rest parts))
-
-pub ask_long : (version : Version) (body r1 r2 : List ℕ) (program start : ℕ) → body ≡ number_bytes 4 program ++ r1 → r1 ≡ number_bytes 8 start ++ r2 → 0 < length r2 → IsNoBody version 3 body
-ask_long version body r1 r2 program start first second more = no_ask version body (λ e. omega (arith, e, more, number_then 4 program body r1 first, number_then 8 start r1 r2 second))
-
-pub post_cut : (version : Version) (body rest : List ℕ) (query : ℕ) → body ≡ number_bytes 8 query ++ rest → length rest < 16 → IsNoBody version 7 body
-post_cut version body rest query parts short = no_post version body (λ e. omega (arith, e, short, number_then 8 query body rest parts))
-
-pub post_cut_twice : (version : Version) (body r1 r2 : List ℕ) (query acc : ℕ) → body ≡ number_bytes 8 query ++ r1 → r1 ≡ number_bytes 8 acc ++ r2 → length r2 < 8 → IsNoBody version 7 body
-post_cut_twice version body r1 r2 query acc first second short = post_cut version body r1 query first (omega (arith, short, number_then 8 acc r1 r2 second))
-
-pub post_long : (version : Version) (body r1 r2 r3 : List ℕ) (query acc steps : ℕ) → body ≡ number_bytes 8 query ++ r1 → r1 ≡ number_bytes 8 acc ++ r2 → r2 ≡ number_bytes 8 steps ++ r3 → 0 < length r3 → IsNoBody version 7 body
-post_long version body r1 r2 r3 query acc steps first second third more =
-    no_post version body (λ e. omega (arith, e, more, number_then 8 query body r1 first, number_then 8 acc r1 r2 second, number_then 8 steps r2 r3 third))
-
--- ---- numbers one behind another, and nothing more
-
-pub asked : (body r1 r2 : List ℕ) (program start : ℕ) → body ≡ number_bytes 4 program ++ r1 → r1 ≡ number_bytes 8 start ++ r2 → r2 ≡ [] → body ≡ number_bytes 4 program ++ number_bytes 8 start
-asked body r1 r2 program start first second end =
-    first ∙ ap (λ (l : List ℕ). number_bytes 4 program ++ l) (second ∙ ap (λ (l : List ℕ). number_bytes 8 start ++ l) end ∙ append-nil (number_bytes 8 start))
-
-pub posted : (body r1 r2 r3 : List ℕ) (query acc steps : ℕ) → body ≡ number_bytes 8 query ++ r1 → r1 ≡ number_bytes 8 acc ++ r2 → r2 ≡ number_bytes 8 steps ++ r3 → r3 ≡ [] → body ≡ number_bytes 8 query ++ (number_bytes 8 acc ++ number_bytes 8 steps)
-posted body r1 r2 r3 query acc steps first second third end =
-    first ∙ ap (λ (l : List ℕ). number_bytes 8 query ++ l) (second ∙ ap (λ (l : List ℕ). number_bytes 8 acc ++ l) (third ∙ ap (λ (l : List ℕ). number_bytes 8 steps ++ l) end ∙ append-nil (number_bytes 8 steps)))
+pub number_before : (width n : ℕ) (bytes rest behind : List ℕ) → bytes ≡ number_bytes width n ++ rest → rest ≡ behind → bytes ≡ number_bytes width n ++ behind
+number_before width n bytes rest behind parts is = parts ∙ ap (λ (l : List ℕ). number_bytes width n ++ l) is
 
 -- ---- messages
 

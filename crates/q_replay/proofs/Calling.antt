@@ -3,7 +3,7 @@ use Rattle.std.proofs.Common.{◌≡◌, ◌≢◌, ℕ, ◌+◌, ◌≤◌, Lis
 use Rattle.std.proofs.lemmas.Bool.{not_from_false}
 use Rattle.forms.specs.Calls.{mapped}
 use Rattle.forms.proofs.Calls.{tested_pass}
-use Rattle.bq_check.specs.Spelling.{BeginsNone}
+use Rattle.spelling.specs.Codes.{BeginsNone}
 use Rattle.sc_msg.specs.declared.version.Version.{Version}
 use Rattle.q_session.specs.Right.{IsRight}
 use Rattle.q_session.specs.Done.{Finished, IsFinished}

@@ -1,11 +1,11 @@
 -- Events that were read, and bytes that begin with none.
 use Rattle.std.proofs.Common.{◌≡◌, ℕ, ◌^◌, ◌<◌, List, [], ◌∷◌, ◌++◌, length, sym, ap, ◌∙◌, arith, length-append}
-use Rattle.bq_check.specs.Spelling.{BeginsNone}
-use Rattle.bq_check.proofs.Fields.{one_byte}
+use Rattle.spelling.specs.Codes.{BeginsNone}
+use Rattle.spelling.proofs.Codes.{one_byte}
 use Rattle.sc_msg.specs.declared.version.Version.{Version}
-use Rattle.sc_msg.specs.Numbers.{number_bytes}
-use Rattle.sc_msg.proofs.Numbers.{length-number_bytes}
-use Rattle.sc_msg.proofs.Entries.{same_front, number_front}
+use Rattle.spelling.specs.Numbers.{number_bytes}
+use Rattle.spelling.proofs.Numbers.{length-number_bytes}
+use Rattle.spelling.proofs.Codes.{same_front, number_front}
 use Rattle.q_replay.specs.declared.raw_entry.RawEntry.{RawEntry}
 use Rattle.q_replay.specs.Spelling.{code, body_bytes, event_bytes, IsWritten}
 use Rattle.q_replay.specs.Reading.{IsBody, IsNoBody}

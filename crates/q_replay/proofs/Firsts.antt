@@ -1,6 +1,6 @@
 -- Bytes have one fault at most, and a journal is that of one book.
 use Rattle.std.proofs.Common.{◌≡◌, ℕ, zero, suc, List, [], ◌++◌, length, refl, sym, ap, ◌∙◌, subst, flat_map, Result, Ok, Err, IfOk, IfErr, MatchResult}
-use Rattle.bq_check.specs.Spelling.{BeginsNone}
+use Rattle.spelling.specs.Codes.{BeginsNone}
 use Rattle.q_book.specs.State.{BookState}
 use Rattle.q_replay.specs.Head.{Head}
 use Rattle.q_replay.specs.Spelling.{head_bytes, event_bytes, IsHead, IsWritten}

@@ -1,90 +1,52 @@
 -- Heads that were read, and bytes that begin with none.
-use Rattle.std.proofs.Common.{◌≡◌, ℕ, ◌^◌, ◌<◌, List, ◌∷◌, ◌++◌, length, sym, ap, ◌∙◌, arith, length-append}
-use Rattle.std.specs.List.{flat_map, AllByRecursion}
-use Rattle.bq_check.specs.Spelling.{BeginsNone}
-use Rattle.bq_check.proofs.Codes.{stops}
+use Rattle.std.proofs.Common.{◌≡◌, ℕ, ◌+◌, ◌^◌, ◌<◌, Option, List, ◌∷◌, ◌++◌, length, ap, ◌∙◌, arith, length-append}
+use Rattle.spelling.specs.Numbers.{number_bytes}
+use Rattle.spelling.specs.Codes.{BeginsNone}
+use Rattle.spelling.proofs.Codes.{no_number, number_then, numbers_are_code, none_first, none_second, parts_on}
 use Rattle.sc_members.specs.Members.{Config}
 use Rattle.sc_msg.specs.declared.version.Version.{Version}
-use Rattle.sc_msg.specs.Numbers.{number_bytes}
 use Rattle.sc_msg.specs.Values.{version_byte}
-use Rattle.sc_msg.proofs.Numbers.{length-number_bytes}
-use Rattle.sc_msg.proofs.Entries.{number_front}
 use Rattle.q_replay.specs.Head.{Head}
 use Rattle.q_replay.specs.Spelling.{config_bytes, start_bytes, head_bytes, AreShort, AreFounders, IsHead}
-use Rattle.q_replay.specs.Reading.{ids_bytes, AreIds}
 use Rattle.q_replay.proofs.Sizes.{length-config}
-use Rattle.q_replay.proofs.Fronts.{numbers_are_code, ids_on, config_front, head_on, behind_format}
+use Rattle.q_replay.proofs.Fronts.{format_bytes, parts_of, part_bytes, AreParts, are_parts, versions_are_code, configs_are_code}
 
--- ---- ids
+no_head : (bytes : List ℕ) → BeginsNone part_bytes AreParts bytes → BeginsNone head_bytes IsHead bytes
+no_head bytes left = record { none = λ h more p e. left.none (parts_of h) more (are_parts h p) e }
 
-no_number : (bytes : List ℕ) → length bytes < 8 → BeginsNone (number_bytes 8) (λ id. id < 2 ^ 64) bytes
-no_number bytes short = record { none = λ n more p e. omega (arith, short, ap length e, length-append (number_bytes 8 n) more, length-number_bytes 8 n) }
-
-pub no_count : (bytes : List ℕ) → length bytes < 2 → BeginsNone ids_bytes AreIds bytes
-no_count bytes short = record {
-  none = λ ids more p e. omega (arith, short, ap length (e ∙ ids_on ids more), length-append (number_bytes 2 (length ids)) (flat_map (number_bytes 8) ids ++ more), length-number_bytes 2 (length ids));
-}
-
--- some of so many ids were read, and rest is what is left of the bytes
-pub record ReadIds (bytes : List ℕ) (count : ℕ) (ids rest : List ℕ) : Type 0 where
-  pub legal : AllByRecursion (λ id. id < 2 ^ 64) ids
-  pub parts : bytes ≡ number_bytes 2 count ++ (flat_map (number_bytes 8) ids ++ rest)
-
-pub no_ids : (bytes : List ℕ) (count : ℕ) (ids rest : List ℕ) → count < 2 ^ 16 → ReadIds bytes count ids rest → length ids < count → length rest < 8 → BeginsNone ids_bytes AreIds bytes
-no_ids bytes count ids rest fits read fewer short = record { none = λ all more p e. none all more p e }
-  where
-    none : (all more : List ℕ) → AreIds all → bytes ≡ ids_bytes all ++ more → ⊥
-    none all more p e =
-        let n = number_front 2 count (length all) (flat_map (number_bytes 8) ids ++ rest) (flat_map (number_bytes 8) all ++ more) fits p.0 (sym read.parts ∙ e ∙ ids_on all more) in
-        stops (number_bytes 8) (λ id. id < 2 ^ 64) numbers_are_code ids all rest more (no_number rest short) read.legal p.1 (omega (arith, fewer, n.0)) n.1
-
--- ---- fractions
-
-pub fraction_cut : (bytes rest : List ℕ) (n : ℕ) → bytes ≡ number_bytes 2 n ++ rest → length rest < 2 → length bytes < 4
-fraction_cut bytes rest n parts short = omega (arith, short, ap length parts, length-append (number_bytes 2 n) rest, length-number_bytes 2 n)
-
-pub fractions_cut : (bytes rest : List ℕ) (m n : ℕ) → bytes ≡ (number_bytes 2 m ++ number_bytes 2 n) ++ rest → length rest < 4 → length bytes < 8
-fractions_cut bytes rest m n parts short =
-    omega (arith, short, ap length parts, length-append (number_bytes 2 m ++ number_bytes 2 n) rest, length-append (number_bytes 2 m) (number_bytes 2 n), length-number_bytes 2 m, length-number_bytes 2 n)
-
--- ---- heads
+no_fractions : (bytes : List ℕ) → length bytes < 8 → BeginsNone config_bytes AreShort bytes
+no_fractions bytes short = record { none = λ c more p e. omega (arith, short, ap length e, length-append (config_bytes c) more, length-config c) }
 
 pub no_format : (bytes : List ℕ) → ((version : Version) (more : List ℕ) → bytes ≡ 0x42 ∷ 0x51 ∷ 0x4a ∷ version_byte version ∷ more → ⊥) → BeginsNone head_bytes IsHead bytes
-no_format bytes none = record { none = λ h more p e. none h.version (number_bytes 8 h.id ++ (config_bytes h.config ++ (start_bytes h.founders ++ more))) (e ∙ head_on h more) }
+no_format bytes none = no_head bytes (none_first format_bytes _ _ _ bytes (record { none = λ version more p e. none version more e }))
 
--- behind a fourth byte that was read
+-- behind a format that was read
 
-module _ (version : Version) where
-  id_follows : (bytes rest : List ℕ) (h : Head) (more : List ℕ) → bytes ≡ 0x42 ∷ 0x51 ∷ 0x4a ∷ version_byte version ∷ rest → bytes ≡ head_bytes h ++ more → rest ≡ number_bytes 8 h.id ++ (config_bytes h.config ++ (start_bytes h.founders ++ more))
-  id_follows bytes rest h more parts e =
-      (behind_format (version_byte version) (version_byte h.version) rest (number_bytes 8 h.id ++ (config_bytes h.config ++ (start_bytes h.founders ++ more))) (sym parts ∙ e ∙ head_on h more)).1
+abbrev tail_bytes : Config × Option (List ℕ) → List ℕ
+tail_bytes z = config_bytes z.0 ++ start_bytes z.1
 
-  config_follows : (bytes r1 r2 : List ℕ) (id : ℕ) (h : Head) (more : List ℕ) → bytes ≡ 0x42 ∷ 0x51 ∷ 0x4a ∷ version_byte version ∷ r1 → id < 2 ^ 64 → r1 ≡ number_bytes 8 id ++ r2 → IsHead h → bytes ≡ head_bytes h ++ more → r2 ≡ config_bytes h.config ++ (start_bytes h.founders ++ more)
-  config_follows bytes r1 r2 id h more parts fits second p e =
-      (number_front 8 id h.id r2 (config_bytes h.config ++ (start_bytes h.founders ++ more)) fits p.id (sym second ∙ id_follows bytes r1 h more parts e)).1
+abbrev IsTail : Config × Option (List ℕ) → Type 0
+IsTail z = AreShort z.0 × AreFounders z.1
 
-  pub no_id : (bytes r1 : List ℕ) → bytes ≡ 0x42 ∷ 0x51 ∷ 0x4a ∷ version_byte version ∷ r1 → length r1 < 8 → BeginsNone head_bytes IsHead bytes
-  no_id bytes r1 parts short = record { none = λ h more p e. none h more e }
-    where
-      none : (h : Head) (more : List ℕ) → bytes ≡ head_bytes h ++ more → ⊥
-      none h more e =
-          omega (arith, short, ap length (id_follows bytes r1 h more parts e), length-append (number_bytes 8 h.id) (config_bytes h.config ++ (start_bytes h.founders ++ more)), length-number_bytes 8 h.id)
+module _ (version : Version) (bytes r1 : List ℕ) (first : bytes ≡ 0x42 ∷ 0x51 ∷ 0x4a ∷ version_byte version ∷ r1) where
+  behind_format : BeginsNone (λ (z : ℕ × (Config × Option (List ℕ))). number_bytes 8 z.0 ++ tail_bytes z.1) (λ z. (z.0 < 2 ^ 64) × IsTail z.1) r1 → BeginsNone head_bytes IsHead bytes
+  behind_format left = no_head bytes (none_second format_bytes _ _ _ bytes versions_are_code version r1 tt first left)
 
-  pub no_config : (bytes r1 r2 : List ℕ) (id : ℕ) → bytes ≡ 0x42 ∷ 0x51 ∷ 0x4a ∷ version_byte version ∷ r1 → id < 2 ^ 64 → r1 ≡ number_bytes 8 id ++ r2 → length r2 < 8 → BeginsNone head_bytes IsHead bytes
-  no_config bytes r1 r2 id parts fits second short = record { none = λ h more p e. none h more p e }
-    where
-      none : (h : Head) (more : List ℕ) → IsHead h → bytes ≡ head_bytes h ++ more → ⊥
-      none h more p e =
-          omega (arith, short, ap length (config_follows bytes r1 r2 id h more parts fits second p e), length-append (config_bytes h.config) (start_bytes h.founders ++ more), length-config h.config)
+  pub no_id : length r1 < 8 → BeginsNone head_bytes IsHead bytes
+  no_id short = behind_format (none_first (number_bytes 8) tail_bytes _ IsTail r1 (no_number 8 r1 short))
 
-  pub no_founders : (bytes r1 r2 r3 : List ℕ) (id : ℕ) (c : Config) → bytes ≡ 0x42 ∷ 0x51 ∷ 0x4a ∷ version_byte version ∷ r1 → id < 2 ^ 64 → r1 ≡ number_bytes 8 id ++ r2 → AreShort c → r2 ≡ config_bytes c ++ r3 → BeginsNone start_bytes AreFounders r3 → BeginsNone head_bytes IsHead bytes
-  no_founders bytes r1 r2 r3 id c parts fits second short third left = record { none = λ h more p e. none h more p e }
-    where
-      none : (h : Head) (more : List ℕ) → IsHead h → bytes ≡ head_bytes h ++ more → ⊥
-      none h more p e =
-          let s = config_front c h.config r3 (start_bytes h.founders ++ more) short p.config (sym third ∙ config_follows bytes r1 r2 id h more parts fits second p e) in
-          left.none h.founders more p.founders s.1
+  behind_id : (r2 : List ℕ) (id : ℕ) → id < 2 ^ 64 → r1 ≡ number_bytes 8 id ++ r2 → BeginsNone tail_bytes IsTail r2 → BeginsNone head_bytes IsHead bytes
+  behind_id r2 id fits second left = behind_format (none_second (number_bytes 8) tail_bytes _ IsTail r1 (numbers_are_code 8) id r2 fits second left)
 
-pub head_parts : (bytes r1 r2 r3 r4 : List ℕ) (h : Head) → bytes ≡ 0x42 ∷ 0x51 ∷ 0x4a ∷ version_byte h.version ∷ r1 → r1 ≡ number_bytes 8 h.id ++ r2 → r2 ≡ config_bytes h.config ++ r3 → r3 ≡ start_bytes h.founders ++ r4 → bytes ≡ head_bytes h ++ r4
+  pub no_config : (r2 : List ℕ) (id : ℕ) → id < 2 ^ 64 → r1 ≡ number_bytes 8 id ++ r2 → length r2 < 8 → BeginsNone head_bytes IsHead bytes
+  no_config r2 id fits second short = behind_id r2 id fits second (none_first config_bytes start_bytes AreShort AreFounders r2 (no_fractions r2 short))
+
+  pub no_founders : (r2 r3 : List ℕ) (id : ℕ) (c : Config) → id < 2 ^ 64 → r1 ≡ number_bytes 8 id ++ r2 → AreShort c → r2 ≡ config_bytes c ++ r3 → BeginsNone start_bytes AreFounders r3
+      → BeginsNone head_bytes IsHead bytes
+  no_founders r2 r3 id c fits second short third left = behind_id r2 id fits second (none_second config_bytes start_bytes AreShort AreFounders r2 configs_are_code c r3 short third left)
+
+pub head_parts : (bytes r1 r2 r3 r4 : List ℕ) (h : Head) → bytes ≡ 0x42 ∷ 0x51 ∷ 0x4a ∷ version_byte h.version ∷ r1 → r1 ≡ number_bytes 8 h.id ++ r2 → r2 ≡ config_bytes h.config ++ r3 → r3 ≡ start_bytes h.founders ++ r4
+    → bytes ≡ head_bytes h ++ r4
 head_parts bytes r1 r2 r3 r4 h first second third fourth =
-    first ∙ ap (λ (l : List ℕ). 0x42 ∷ 0x51 ∷ 0x4a ∷ version_byte h.version ∷ l) (second ∙ ap (λ (l : List ℕ). number_bytes 8 h.id ++ l) (third ∙ ap (λ (l : List ℕ). config_bytes h.config ++ l) fourth)) ∙ sym (head_on h r4)
+    let tail = parts_on (config_bytes h.config) (start_bytes h.founders) r2 r3 r4 third fourth in
+    first ∙ ap (λ (l : List ℕ). 0x42 ∷ 0x51 ∷ 0x4a ∷ version_byte h.version ∷ l) (parts_on (number_bytes 8 h.id) (config_bytes h.config ++ start_bytes h.founders) r1 r2 r4 second tail)

@@ -9,7 +9,7 @@ pub mod Writes
 mod Lists
 mod Posting
 mod Entries
-mod Leading
+pub mod Leading
 mod Firsts
 mod Calling
 mod Writing

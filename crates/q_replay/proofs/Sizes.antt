@@ -10,16 +10,15 @@ use Rattle.bq_state.specs.declared.kind.Kind.{Kind}
 use Rattle.bq_state.specs.Kinds.{StateKinds}
 use Rattle.bq_state.specs.declared.kind.Kind.TheVariants.{Unset, Number, Pointer, Length}
 use Rattle.bq_range.specs.Interval.{Interval}
-use Rattle.bq_check.specs.Spelling.{short_bytes, long_bytes, offset_bytes, kind_bytes, kinds_bytes, lengths_bytes, note_bytes, notes_bytes, IsNote, IsNotes}
+use Rattle.bq_check.specs.Spelling.{offset_bytes, kind_bytes, kinds_bytes, lengths_bytes, note_bytes, notes_bytes, IsNote, IsNotes}
 use Rattle.bq_check.specs.declared.form.NotesForm.{NotesForm}
 use Rattle.bq_check.specs.declared.form.NotesForm.TheVariants as forms
-use Rattle.bq_check.proofs.Fields.{length-short, length-long}
 use Rattle.sc_members.specs.Members.{Config}
 use Rattle.sc_msg.specs.declared.version.Version.{Version}
 use Rattle.sc_msg.specs.declared.version.Version.TheVariants.{First, Second}
-use Rattle.sc_msg.specs.Numbers.{number_bytes}
+use Rattle.spelling.specs.Numbers.{number_bytes}
 use Rattle.sc_msg.specs.Values.{IsLength}
-use Rattle.sc_msg.proofs.Numbers.{length-number_bytes}
+use Rattle.spelling.proofs.Numbers.{length-number_bytes}
 use Rattle.sc_msg.proofs.Unique.{message_small}
 use Rattle.q_replay.specs.declared.raw_entry.RawEntry.{RawEntry}
 use Rattle.q_replay.specs.declared.raw_entry.RawEntry.TheVariants.{Leave, Register, Ask, Store, Deliver, HandOut, Post}
@@ -57,8 +56,8 @@ text_small t p = omega (arith, length-spelling t, p.few)
 
 kind_small : (k : Kind) → length (kind_bytes k) ≤ 17
 kind_small Unset = omega arith
-kind_small (Number a) = omega (arith, length-append (long_bytes a.lo) (long_bytes a.hi), length-long a.lo, length-long a.hi)
-kind_small (Pointer region s) = omega (arith, length-append (offset_bytes s.lo) (offset_bytes s.hi), length-short (cast_unsigned w32 s.lo), length-short (cast_unsigned w32 s.hi))
+kind_small (Number a) = omega (arith, length-append (number_bytes 8 a.lo) (number_bytes 8 a.hi), length-number_bytes 8 a.lo, length-number_bytes 8 a.hi)
+kind_small (Pointer region s) = omega (arith, length-append (offset_bytes s.lo) (offset_bytes s.hi), length-number_bytes 4 (cast_unsigned w32 s.lo), length-number_bytes 4 (cast_unsigned w32 s.hi))
 kind_small Length = omega arith
 
 kinds_small : (ks : List Kind) → length (kinds_bytes ks) ≤ 17 * length ks
@@ -78,7 +77,7 @@ all_small form [] p = omega arith
 all_small form (o ∷ ns) p = omega (arith, length-append (note_bytes form o) (flat_map (note_bytes form) ns), note_small form o p.0, all_small form ns p.1)
 
 pub notes_small : (form : NotesForm) (ns : List (Option StateKinds)) → IsNotes form ns → length (notes_bytes form ns) ≤ 778244
-notes_small form ns p = omega (arith, length-append (short_bytes (length ns)) (flat_map (note_bytes form) ns), length-short (length ns), all_small form ns p.each, p.few)
+notes_small form ns p = omega (arith, length-append (number_bytes 4 (length ns)) (flat_map (note_bytes form) ns), length-number_bytes 4 (length ns), all_small form ns p.each, p.few)
 
 -- ---- values
 

@@ -5,7 +5,7 @@ use Rattle.bq_insn.specs.Slots.{spelling}
 use Rattle.bq_state.specs.Kinds.{StateKinds}
 use Rattle.bq_check.specs.Spelling.{notes_bytes}
 use Rattle.sc_msg.specs.declared.version.Version.{Version}
-use Rattle.sc_msg.specs.Numbers.{number_bytes}
+use Rattle.spelling.specs.Numbers.{number_bytes}
 use Rattle.q_replay.specs.declared.raw_entry.RawEntry.{RawEntry}
 use Rattle.q_replay.specs.declared.raw_entry.RawEntry.TheVariants.{Register}
 use Rattle.q_replay.specs.Spelling.{code, form_of, body_bytes, event_bytes}

@@ -2,7 +2,7 @@
 use Rattle.std.specs.Prelude.{◌≡◌, ◌≢◌, ℕ, zero, suc, List, [], ◌∷◌, ◌++◌, length, Option, Some, None, Result, Ok}
 use Rattle.std.specs.List.{flat_map, AllByRecursion}
 use Rattle.sc_members.specs.Members.{IsConfig}
-use Rattle.bq_check.specs.Spelling.{BeginsNone}
+use Rattle.spelling.specs.Codes.{BeginsNone}
 use Rattle.q_session.specs.Right.{IsRight}
 use Rattle.q_session.specs.declared.job.Job.{Job}
 use Rattle.q_desk.specs.Desks.{running_job}

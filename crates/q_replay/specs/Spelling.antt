@@ -8,7 +8,7 @@ use Rattle.bq_check.specs.declared.form.NotesForm.TheVariants as forms
 use Rattle.sc_members.specs.Members.{Config}
 use Rattle.sc_msg.specs.declared.version.Version.{Version}
 use Rattle.sc_msg.specs.declared.version.Version.TheVariants.{First, Second}
-use Rattle.sc_msg.specs.Numbers.{number_bytes}
+use Rattle.spelling.specs.Numbers.{number_bytes}
 use Rattle.sc_msg.specs.Values.{version_byte, IsLength}
 use Rattle.sc_msg.specs.Messages.{message_bytes, IsMessage}
 use Rattle.q_replay.specs.declared.raw_entry.RawEntry.{RawEntry}

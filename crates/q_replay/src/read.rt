@@ -1,7 +1,7 @@
 //! Bytes to heads and events.
 
 ghost use Rattle.std.specs.Prelude.{◌≡◌, ◌++◌, IfOk, IfErr};
-ghost use Rattle.bq_check.specs.Spelling.{BeginsNone};
+ghost use Rattle.spelling.specs.Codes.{BeginsNone};
 ghost use Rattle.q_replay.specs.Spelling.{head_bytes, event_bytes, IsHead, IsWritten};
 ghost use Rattle.q_replay.specs.Reading.{of_text, of_notes, of_message};
 

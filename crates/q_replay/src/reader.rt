@@ -1,8 +1,8 @@
 //! The parts of heads and events, read from left to right.
 
 ghost use Rattle.std.specs.Prelude.{◌≡◌, ◌<◌, ◌^◌, ◌++◌, ◌∷◌, [], length, List, ℕ, option_map, IfOk, IfErr, OnOk, OnErr};
-ghost use Rattle.bq_check.specs.Spelling.{BeginsNone};
-ghost use Rattle.sc_msg.specs.Numbers.{number_bytes};
+ghost use Rattle.spelling.specs.Codes.{BeginsNone};
+ghost use Rattle.spelling.specs.Numbers.{number_bytes};
 ghost use Rattle.sc_msg.specs.Values.{version_byte};
 ghost use Rattle.q_replay.specs.Spelling.{config_bytes, start_bytes, AreShort, AreFounders};
 ghost use Rattle.q_replay.specs.Reading.{config_of, ids_bytes, AreIds};
@@ -10,6 +10,7 @@ ghost use Rattle.q_replay.specs.Reading.{config_of, ids_bytes, AreIds};
 use crate::head::Fraction;
 use crate::read::ReadFault;
 use sc_msg::Version;
+use spelling::{take_byte, take_front, take_u16, take_u32, take_u64};
 use std::alloc::Global;
 
 /// The version that the fourth byte of a journal tells.
@@ -35,53 +36,34 @@ impl<'a> Reader<'a> {
         ensures parts { IfOk result (λ b. self.old.rest.now ≡ b ∷ self.new.rest.now) }
         ensures none { OnErr result (self.old.rest.now ≡ []) }
     {
-        let [byte, rest @ ..] = self.rest else {
-            return Err(ReadFault::Form);
-        };
-        self.rest = rest;
-        Ok(*byte)
+        take_byte(&mut self.rest).ok_or(ReadFault::Form)
     }
 
     /// A number of two bytes.
-    #[tactic(auto, unfolding(sc_msg::specs::Numbers::number_bytes))]
     fn short(&mut self) -> Result<u16, ReadFault>
         ensures fits { IfOk result (λ n. n < 2 ^ 16) }
         ensures parts { IfOk result (λ n. self.old.rest.now ≡ number_bytes 2 n ++ self.new.rest.now) }
         ensures none { OnErr result (length self.old.rest.now < 2) }
     {
-        let [a, b, rest @ ..] = self.rest else {
-            return Err(ReadFault::Form);
-        };
-        self.rest = rest;
-        Ok(u16::from_le_bytes([*a, *b]))
+        take_u16(&mut self.rest).ok_or(ReadFault::Form)
     }
 
     /// A number of four bytes.
-    #[tactic(auto, unfolding(sc_msg::specs::Numbers::number_bytes))]
     pub(crate) fn word(&mut self) -> Result<u32, ReadFault>
         ensures fits { IfOk result (λ n. n < 2 ^ 32) }
         ensures parts { IfOk result (λ n. self.old.rest.now ≡ number_bytes 4 n ++ self.new.rest.now) }
         ensures none { OnErr result (length self.old.rest.now < 4) }
     {
-        let [a, b, c, d, rest @ ..] = self.rest else {
-            return Err(ReadFault::Form);
-        };
-        self.rest = rest;
-        Ok(u32::from_le_bytes([*a, *b, *c, *d]))
+        take_u32(&mut self.rest).ok_or(ReadFault::Form)
     }
 
     /// A number of eight bytes.
-    #[tactic(auto, unfolding(sc_msg::specs::Numbers::number_bytes))]
     pub(crate) fn number(&mut self) -> Result<u64, ReadFault>
         ensures fits { IfOk result (λ n. n < 2 ^ 64) }
         ensures parts { IfOk result (λ n. self.old.rest.now ≡ number_bytes 8 n ++ self.new.rest.now) }
         ensures none { OnErr result (length self.old.rest.now < 8) }
     {
-        let [a, b, c, d, e, f, g, h, rest @ ..] = self.rest else {
-            return Err(ReadFault::Form);
-        };
-        self.rest = rest;
-        Ok(u64::from_le_bytes([*a, *b, *c, *d, *e, *f, *g, *h]))
+        take_u64(&mut self.rest).ok_or(ReadFault::Form)
     }
 
     /// The next bytes, so many.
@@ -90,12 +72,7 @@ impl<'a> Reader<'a> {
         ensures parts { IfOk result (λ front. self.old.rest.now ≡ front.now ++ self.new.rest.now) }
         ensures few { OnErr result (length self.old.rest.now < count) }
     {
-        if self.rest.len() < count {
-            return Err(ReadFault::Form);
-        }
-        let (front, rest) = self.rest.split_at(count);
-        self.rest = rest;
-        Ok(front)
+        take_front(&mut self.rest, count).ok_or(ReadFault::Form)
     }
 
     /// Nothing more.

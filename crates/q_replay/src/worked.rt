@@ -4,7 +4,7 @@ ghost use Rattle.std.specs.Prelude.{◌≡◌, ◌++◌, [], ◌∷◌, ℕ, Lis
 ghost use Rattle.bq_insn.specs.declared.insn.Insn.TheVariants as insn;
 ghost use Rattle.bq_state.specs.Kinds.{state_of, all_lengths};
 ghost use Rattle.bq_state.specs.declared.kind.Kind.TheVariants as kind;
-ghost use Rattle.bq_check.specs.Spelling.{BeginsNone};
+ghost use Rattle.spelling.specs.Codes.{BeginsNone};
 ghost use Rattle.sc_msg.specs.declared.version.Version.{Version};
 ghost use Rattle.sc_msg.specs.declared.message.Body.TheVariants as body;
 ghost use Rattle.sc_msg.specs.declared.version.Version.TheVariants.{First, Second};
@@ -18,14 +18,14 @@ ghost use Rattle.q_replay.specs.declared.raw_entry.RawEntry.TheVariants as writt
 
 /// What the definitions say at telling operands: the bytes of entries, and that the event which is named is not one that
 /// was taken.
-#[tactic(auto, unfolding(sc_msg::specs::Numbers::number_bytes))]
+#[tactic(auto, unfolding(spelling::specs::Numbers::number_bytes))]
 pub fn worked()
     ensures entries { (version : Version) → entries_bytes version (entry.HandOut ∷ entry.Leave ∷ entry.Post 0 (record { acc = 1; steps = 3 }) ∷ []) ≡ 6 ∷ 0 ∷ 0 ∷ 0 ∷ 0 ∷ 1 ∷ 0 ∷ 0 ∷ 0 ∷ 0 ∷ 7 ∷ 0x18 ∷ 0 ∷ 0 ∷ 0 ∷ 0 ∷ 0 ∷ 0 ∷ 0 ∷ 0 ∷ 0 ∷ 0 ∷ 0 ∷ 1 ∷ 0 ∷ 0 ∷ 0 ∷ 0 ∷ 0 ∷ 0 ∷ 0 ∷ 3 ∷ 0 ∷ 0 ∷ 0 ∷ 0 ∷ 0 ∷ 0 ∷ 0 ∷ [] }
     ensures not_the_first { (h : Head) → IsHead h → IsFault (head_bytes h ++ (1 ∷ 0 ∷ 0 ∷ 0 ∷ 0 ∷ 9 ∷ [])) (Form 1) → ⊥ }
 {}
 
 /// What the definitions say of the bytes of a head and of events.
-#[tactic(auto, unfolding(sc_msg::specs::Numbers::number_bytes, bq_check::specs::Spelling::short_bytes, bq_insn::specs::Insn::unit_bytes))]
+#[tactic(auto, unfolding(spelling::specs::Numbers::number_bytes, bq_insn::specs::Insn::unit_bytes))]
 pub fn worked_bytes()
     ensures head_of_a_founder { head_bytes (record { version = Second; id = 1; config = record { beta_num = 4; beta_den = 5; gamma_num = 4; gamma_den = 5 }; founders = Some (1 ∷ []) }) ≡ 0x42 ∷ 0x51 ∷ 0x4a ∷ 2 ∷ 1 ∷ 0 ∷ 0 ∷ 0 ∷ 0 ∷ 0 ∷ 0 ∷ 0 ∷ 4 ∷ 0 ∷ 5 ∷ 0 ∷ 4 ∷ 0 ∷ 5 ∷ 0 ∷ 0 ∷ 1 ∷ 0 ∷ 1 ∷ 0 ∷ 0 ∷ 0 ∷ 0 ∷ 0 ∷ 0 ∷ 0 ∷ [] }
     ensures head_of_a_founder_v1 { head_bytes (record { version = First; id = 1; config = record { beta_num = 4; beta_den = 5; gamma_num = 4; gamma_den = 5 }; founders = Some (1 ∷ []) }) ≡ 0x42 ∷ 0x51 ∷ 0x4a ∷ 1 ∷ 1 ∷ 0 ∷ 0 ∷ 0 ∷ 0 ∷ 0 ∷ 0 ∷ 0 ∷ 4 ∷ 0 ∷ 5 ∷ 0 ∷ 4 ∷ 0 ∷ 5 ∷ 0 ∷ 0 ∷ 1 ∷ 0 ∷ 1 ∷ 0 ∷ 0 ∷ 0 ∷ 0 ∷ 0 ∷ 0 ∷ 0 ∷ [] }

@@ -4,7 +4,7 @@ ghost use Rattle.std.specs.Prelude.{◌≡◌, ◌<◌, ◌^◌, ◌++◌, ◌�
 ghost use Rattle.std.specs.List.{flat_map, AllByRecursion};
 ghost use Rattle.bq_sound.specs.Passes.{AreSuited};
 ghost use Rattle.bq_check.specs.Spelling.{notes_bytes, IsNotes};
-ghost use Rattle.sc_msg.specs.Numbers.{number_bytes};
+ghost use Rattle.spelling.specs.Numbers.{number_bytes};
 ghost use Rattle.sc_msg.specs.Values.{IsLength};
 ghost use Rattle.sc_msg.specs.Lengths.{Fits};
 ghost use Rattle.q_replay.specs.Spelling.{config_bytes, head_bytes, event_bytes, form_of, AreShort, IsHead, IsWritten};
@@ -17,6 +17,7 @@ use bq_insn::Text;
 use sc_members::Config;
 use sc_msg::{Message, Version, encode_fitting};
 use sc_view::Value;
+use spelling::{put_u16, put_u32, put_u64};
 use std::alloc::{AllocError, Global};
 use std::marker::Model;
 
@@ -48,30 +49,27 @@ impl Bytes {
     }
 
     /// A number in two bytes.
-    #[tactic(auto, unfolding(sc_msg::specs::Numbers::number_bytes))]
     fn short(&mut self, number: u16) -> Result<(), AllocError>
         ensures fits { number < 2 ^ 16 }
         ensures spelled { OnOk result (self.new ≡ self.old ++ number_bytes 2 number) }
     {
-        self.append(&number.to_le_bytes())
+        put_u16(&mut self.bytes, number)
     }
 
     /// A number in four bytes.
-    #[tactic(auto, unfolding(sc_msg::specs::Numbers::number_bytes))]
     fn word(&mut self, number: u32) -> Result<(), AllocError>
         ensures fits { number < 2 ^ 32 }
         ensures spelled { OnOk result (self.new ≡ self.old ++ number_bytes 4 number) }
     {
-        self.append(&number.to_le_bytes())
+        put_u32(&mut self.bytes, number)
     }
 
     /// A number in eight bytes.
-    #[tactic(auto, unfolding(sc_msg::specs::Numbers::number_bytes))]
     fn number(&mut self, number: u64) -> Result<(), AllocError>
         ensures fits { number < 2 ^ 64 }
         ensures spelled { OnOk result (self.new ≡ self.old ++ number_bytes 8 number) }
     {
-        self.append(&number.to_le_bytes())
+        put_u64(&mut self.bytes, number)
     }
 
     fn config(&mut self, config: Config) -> Result<(), AllocError>

@@ -64,6 +64,3 @@ name_test _ = refl
 
 pub name_lacks_space : (c : Command) → Lacks 32 (name c)
 name_lacks_space c = lacks_by_test 32 (name c) (name_test c)
-
-pub nodes_lack_space : Lacks 32 (codes "nodes")
-nodes_lack_space = lacks_by_test 32 (codes "nodes") refl

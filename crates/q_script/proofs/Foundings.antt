@@ -1,20 +1,17 @@
--- The line that founds: what is no such line founds nothing.
-use Rattle.std.proofs.Common.{◌≡◌, ℕ, Bool, true, false, not, List, ◌∷◌, ap, sym, ◌∙◌, subst, arith, lit<}
-use Rattle.std.specs.Prelude.{codes}
-use Rattle.std.specs.Str.{bytes_eq}
+-- The first line of a text: what is none, and that a line is one at most.
+use Rattle.std.proofs.Common.{◌≡◌, ℕ, ◌^◌, ◌<◌, List, ◌∷◌, ◌++◌, refl, ap, sym, ◌∙◌, subst, arith, lit<}
 use Rattle.std.specs.Fmt.{decimal}
-use Rattle.std.proofs.lemmas.Slice.Eq.{bytes_eq-Decides}
+use Rattle.std.proofs.lemmas.Fmt.{decimal_injective}
 use Rattle.q_script.specs.declared.founding.Fraction.{Fraction}
-use Rattle.q_script.specs.declared.founding.Founding.{Founding}
 use Rattle.q_script.specs.Words.{Lacks, IsFollowed, IsPair}
-use Rattle.q_script.specs.Founding.{SpellsFraction, SpellsFounding}
+use Rattle.q_script.specs.Founding.{SpellsFraction, SpellsFirst}
 use Rattle.q_script.proofs.Parts.{IsCut, cut_once, never_cut, lacks_append}
 use Rattle.q_script.proofs.Numbers.{decimal_lacks}
-use Rattle.q_script.proofs.Pairs.{followed_once}
-use Rattle.q_script.proofs.Commands.{nodes_lack_space}
+use Rattle.q_script.proofs.Pairs.{followed_once, number_once}
 
-true_false : (b : Bool) → b ≡ true → b ≡ false → ⊥
-true_false b h k = absurd cc
+-- a number and two fractions
+abbrev First : Type 0
+First = ℕ × Fraction × Fraction
 
 pub no_fraction : (s : List ℕ) → ((p : ℕ × ℕ) → IsPair 47 s p → ⊥) → (f : Fraction) → SpellsFraction s f → ⊥
 no_fraction s n f h = n (f.numerator, f.denominator) h
@@ -23,35 +20,80 @@ fraction_lacks : (s : List ℕ) (f : Fraction) → SpellsFraction s f → Lacks 
 fraction_lacks s f h =
     subst (Lacks 32) (sym h.2) (lacks_append 32 (decimal f.numerator) (47 ∷ decimal f.denominator) (decimal_lacks 32 f.numerator (lit< tt) h.0) (λ e. omega arith, decimal_lacks 32 f.denominator (lit< tt) h.1))
 
-pub no_word : (s : List ℕ) → Lacks 32 s → (f : Founding) → SpellsFounding s f → ⊥
-no_word s e f h = never_cut 32 s (codes "nodes") h.rest e (nodes_lack_space, h.parts)
+-- a line as it is written, of a word, a number and four numbers of fractions
+pub first_of : (w : List ℕ) (n a b c d : ℕ) → n < 2 ^ 64 → a < 2 ^ 64 → b < 2 ^ 64 → c < 2 ^ 64 → d < 2 ^ 64
+    → SpellsFirst w (w ++ (32 ∷ (decimal n ++ (32 ∷ ((decimal a ++ (47 ∷ decimal b)) ++ (32 ∷ (decimal c ++ (47 ∷ decimal d)))))))) (n, record { numerator = a; denominator = b }, record { numerator = c; denominator = d })
+first_of w n a b c d ln la lb lc ld = record {
+  rest = decimal n ++ (32 ∷ ((decimal a ++ (47 ∷ decimal b)) ++ (32 ∷ (decimal c ++ (47 ∷ decimal d)))));
+  fractions = (decimal a ++ (47 ∷ decimal b)) ++ (32 ∷ (decimal c ++ (47 ∷ decimal d)));
+  beta = decimal a ++ (47 ∷ decimal b);
+  gamma = decimal c ++ (47 ∷ decimal d);
+  parts = refl;
+  number = (ln, refl);
+  both = refl;
+  is_beta = (la, lb, refl);
+  is_gamma = (lc, ld, refl);
+}
 
-word_rest : (s a b : List ℕ) → IsCut 32 s a b → (f : Founding) (h : SpellsFounding s f) → (a ≡ codes "nodes") × (b ≡ h.rest)
-word_rest s a b e f h = cut_once 32 s a b (codes "nodes") h.rest e (nodes_lack_space, h.parts)
+-- ---- where the line is cut
 
-pub other_word : (s a b : List ℕ) → IsCut 32 s a b → (a ≡ codes "nodes" → ⊥) → (f : Founding) → SpellsFounding s f → ⊥
-other_word s a b e n f h = n (word_rest s a b e f h).0
+word_rest : (w s a b : List ℕ) (f : First) → Lacks 32 w → IsCut 32 s a b → (h : SpellsFirst w s f) → (a ≡ w) × (b ≡ h.rest)
+word_rest w s a b f l e h = cut_once 32 s a b w h.rest e (l, h.parts)
 
-pub no_count : (s a b : List ℕ) → IsCut 32 s a b → ((p : ℕ × List ℕ) → IsFollowed 32 b p → ⊥) → (f : Founding) → SpellsFounding s f → ⊥
-no_count s a b e n f h = n (f.count, h.fractions) (subst (λ x. IsFollowed 32 x (f.count, h.fractions)) (sym (word_rest s a b e f h).1) h.count)
+behind : (w s a b : List ℕ) (f : First) → Lacks 32 w → IsCut 32 s a b → (h : SpellsFirst w s f) → IsFollowed 32 b (f.0, h.fractions)
+behind w s a b f l e h = subst (λ x. IsFollowed 32 x (f.0, h.fractions)) (sym (word_rest w s a b f l e h).1) h.number
 
-same_fractions : (s a b : List ℕ) (p : ℕ × List ℕ) → IsCut 32 s a b → IsFollowed 32 b p → (f : Founding) (h : SpellsFounding s f) → p.1 ≡ h.fractions
-same_fractions s a b p e k f h =
-    followed_once 32 b p (f.count, h.fractions) (lit< tt) k (subst (λ x. IsFollowed 32 x (f.count, h.fractions)) (sym (word_rest s a b e f h).1) h.count)
+same_fractions : (w s a b : List ℕ) (p : ℕ × List ℕ) (f : First) → Lacks 32 w → IsCut 32 s a b → IsFollowed 32 b p → (h : SpellsFirst w s f) → p.1 ≡ h.fractions
+same_fractions w s a b p f l e k h = followed_once 32 b p (f.0, h.fractions) (lit< tt) k (behind w s a b f l e h)
 
-pub no_second : (s a b : List ℕ) (p : ℕ × List ℕ) → IsCut 32 s a b → IsFollowed 32 b p → Lacks 32 p.1 → (f : Founding) → SpellsFounding s f → ⊥
-no_second s a b p e k l f h = never_cut 32 p.1 h.beta h.gamma l (fraction_lacks h.beta f.beta h.is_beta, same_fractions s a b p e k f h ∙ h.both)
+both_cut : (w s a b : List ℕ) (p : ℕ × List ℕ) (f : First) → Lacks 32 w → IsCut 32 s a b → IsFollowed 32 b p → (h : SpellsFirst w s f) → IsCut 32 p.1 h.beta h.gamma
+both_cut w s a b p f l e k h = (fraction_lacks h.beta f.1 h.is_beta, same_fractions w s a b p f l e k h ∙ h.both)
 
-same_both : (s a b x y : List ℕ) (p : ℕ × List ℕ) → IsCut 32 s a b → IsFollowed 32 b p → IsCut 32 p.1 x y → (f : Founding) (h : SpellsFounding s f) → (x ≡ h.beta) × (y ≡ h.gamma)
-same_both s a b x y p e k l f h = cut_once 32 p.1 x y h.beta h.gamma l (fraction_lacks h.beta f.beta h.is_beta, same_fractions s a b p e k f h ∙ h.both)
+-- ---- what is no such line
 
-pub no_beta : (s a b x y : List ℕ) (p : ℕ × List ℕ) → IsCut 32 s a b → IsFollowed 32 b p → IsCut 32 p.1 x y → ((f : Fraction) → SpellsFraction x f → ⊥) → (f : Founding) → SpellsFounding s f → ⊥
-no_beta s a b x y p e k l n f h = n f.beta (subst (λ t. SpellsFraction t f.beta) (sym (same_both s a b x y p e k l f h).0) h.is_beta)
+pub no_word : (w s : List ℕ) → Lacks 32 w → Lacks 32 s → (f : First) → SpellsFirst w s f → ⊥
+no_word w s l e f h = never_cut 32 s w h.rest e (l, h.parts)
 
-pub no_gamma : (s a b x y : List ℕ) (p : ℕ × List ℕ) → IsCut 32 s a b → IsFollowed 32 b p → IsCut 32 p.1 x y → ((f : Fraction) → SpellsFraction y f → ⊥) → (f : Founding) → SpellsFounding s f → ⊥
-no_gamma s a b x y p e k l n f h = n f.gamma (subst (λ t. SpellsFraction t f.gamma) (sym (same_both s a b x y p e k l f h).1) h.is_gamma)
+pub other_word : (w s a b : List ℕ) → Lacks 32 w → IsCut 32 s a b → (a ≡ w → ⊥) → (f : First) → SpellsFirst w s f → ⊥
+other_word w s a b l e n f h = n (word_rest w s a b f l e h).0
 
-pub not_nodes : (a : List ℕ) (b : Bool) → b ≡ not (bytes_eq a (codes "nodes")) → b ≡ true → a ≡ codes "nodes" → ⊥
-not_nodes a b e t k =
-    let same : bytes_eq a (codes "nodes") ≡ true = (bytes_eq-Decides a (codes "nodes")).1 k in
-    true_false b t (e ∙ ap not same)
+pub no_number : (w s a b : List ℕ) → Lacks 32 w → IsCut 32 s a b → ((p : ℕ × List ℕ) → IsFollowed 32 b p → ⊥) → (f : First) → SpellsFirst w s f → ⊥
+no_number w s a b l e n f h = n (f.0, h.fractions) (behind w s a b f l e h)
+
+pub no_second : (w s a b : List ℕ) (p : ℕ × List ℕ) → Lacks 32 w → IsCut 32 s a b → IsFollowed 32 b p → Lacks 32 p.1 → (f : First) → SpellsFirst w s f → ⊥
+no_second w s a b p l e k none f h = never_cut 32 p.1 h.beta h.gamma none (both_cut w s a b p f l e k h)
+
+same_both : (w s a b x y : List ℕ) (p : ℕ × List ℕ) (f : First) → Lacks 32 w → IsCut 32 s a b → IsFollowed 32 b p → IsCut 32 p.1 x y → (h : SpellsFirst w s f) → (x ≡ h.beta) × (y ≡ h.gamma)
+same_both w s a b x y p f l e k c h = cut_once 32 p.1 x y h.beta h.gamma c (both_cut w s a b p f l e k h)
+
+pub no_beta : (w s a b x y : List ℕ) (p : ℕ × List ℕ) → Lacks 32 w → IsCut 32 s a b → IsFollowed 32 b p → IsCut 32 p.1 x y → ((f : Fraction) → SpellsFraction x f → ⊥) → (f : First) → SpellsFirst w s f → ⊥
+no_beta w s a b x y p l e k c n f h = n f.1 (subst (λ t. SpellsFraction t f.1) (sym (same_both w s a b x y p f l e k c h).0) h.is_beta)
+
+pub no_gamma : (w s a b x y : List ℕ) (p : ℕ × List ℕ) → Lacks 32 w → IsCut 32 s a b → IsFollowed 32 b p → IsCut 32 p.1 x y → ((f : Fraction) → SpellsFraction y f → ⊥) → (f : First) → SpellsFirst w s f → ⊥
+no_gamma w s a b x y p l e k c n f h = n f.2 (subst (λ t. SpellsFraction t f.2) (sym (same_both w s a b x y p f l e k c h).1) h.is_gamma)
+
+-- ---- a line is one such line
+
+fraction_once : (s : List ℕ) (f g : Fraction) → SpellsFraction s f → SpellsFraction s g → f ≡ g
+fraction_once s f g h k =
+    let hf : IsFollowed 47 s (f.numerator, decimal f.denominator) = (h.0, h.2) in
+    let kf : IsFollowed 47 s (g.numerator, decimal g.denominator) = (k.0, k.2) in
+    let first : f.numerator ≡ g.numerator = number_once 47 s (f.numerator, decimal f.denominator) (g.numerator, decimal g.denominator) (lit< tt) hf kf in
+    let second : f.denominator ≡ g.denominator = decimal_injective f.denominator g.denominator h.1 k.1 (followed_once 47 s (f.numerator, decimal f.denominator) (g.numerator, decimal g.denominator) (lit< tt) hf kf) in
+    ap (λ (n : ℕ). let x : Fraction = record { numerator = n; denominator = f.denominator } in x) first
+    ∙ ap (λ (n : ℕ). let x : Fraction = record { numerator = g.numerator; denominator = n } in x) second
+
+pub first_once : (w s : List ℕ) (f g : First) → Lacks 32 w → SpellsFirst w s f → SpellsFirst w s g → f ≡ g
+first_once w s f g l h k =
+    let cut : IsCut 32 s w h.rest = (l, h.parts) in
+    let number : f.0 ≡ g.0 = number_once 32 h.rest (f.0, h.fractions) (g.0, k.fractions) (lit< tt) h.number (behind w s w h.rest g l cut k) in
+    let both = same_both w s w h.rest h.beta h.gamma (f.0, h.fractions) g l cut h.number (both_cut w s w h.rest (f.0, h.fractions) f l cut h.number h) k in
+    let beta : f.1 ≡ g.1 = fraction_once h.beta f.1 g.1 h.is_beta (subst (λ x. SpellsFraction x g.1) (sym both.0) k.is_beta) in
+    let gamma : f.2 ≡ g.2 = fraction_once h.gamma f.2 g.2 h.is_gamma (subst (λ x. SpellsFraction x g.2) (sym both.1) k.is_gamma) in
+    ap (λ (n : ℕ). let x : First = (n, f.1, f.2) in x) number
+    ∙ ap (λ (b : Fraction). let x : First = (g.0, b, f.2) in x) beta
+    ∙ ap (λ (c : Fraction). let x : First = (g.0, g.1, c) in x) gamma
+
+-- beta stands before gamma
+pub beta_first : (w s : List ℕ) (n m : ℕ) (a b c d : Fraction) → Lacks 32 w → (a.numerator ≡ c.numerator → ⊥) → SpellsFirst w s (n, a, b) → SpellsFirst w s (m, c, d) → ⊥
+beta_first w s n m a b c d l other h k = other (ap (λ (f : First). f.1.numerator) (first_once w s (n, a, b) (m, c, d) l h k))

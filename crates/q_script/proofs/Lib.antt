@@ -10,7 +10,6 @@ pub mod Values
 pub mod Learning
 pub mod Faults
 pub mod Words
-pub mod Headings
 pub mod Nodes
 pub mod Lists
 pub mod Once

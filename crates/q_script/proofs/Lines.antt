@@ -14,7 +14,7 @@ use Rattle.std.proofs.lemmas.List.{take-append-drop, drop_more}
 use Rattle.std.proofs.lemmas.List.Splits.{slice_split-cons_no, slice_split-cons_yes}
 use Rattle.q_script.specs.Words.{Lacks}
 use Rattle.q_script.specs.Lines.{parts_of, IsFirst}
-use Rattle.q_script.specs.Script.{IsOther}
+use Rattle.q_script.specs.Script.{IsNone}
 
 -- ---- parts between line feeds
 
@@ -48,18 +48,19 @@ pieces_at all front i x f l e =
     sym (take-append-drop i all) ∙ ap (λ u. u ++ drop i all) (sym f)
     ∙ ap (λ u. front ++ u) (drop_more all i x l ∙ ap (λ y. y ∷ drop (i + 1) all) (sym e))
 
-first_from : {L : Type 0} (spells : List ℕ → L → Type 0) (b : ℕ) (done : List (List ℕ)) (v : List L) (t : List ℕ) (rest : List (List ℕ)) → AllZip spells done v → ((w : L) → spells t w → ⊥) → IsFirst (IsOther spells) (suc b) (done ++ t ∷ rest) (b + length v + 2)
+first_from : {L : Type 0} (spells : List ℕ → L → Type 0) (b : ℕ) (done : List (List ℕ)) (v : List L) (t : List ℕ) (rest : List (List ℕ)) → AllZip spells done v → IsNone spells b t → IsFirst (IsNone spells) b (done ++ t ∷ rest) (b + length v + 1)
 first_from spells b [] [] t rest h n = inl (n, omega arith)
 first_from spells b [] (y ∷ v) t rest h n = absurd h
 first_from spells b (x ∷ done) [] t rest h n = absurd h
 first_from spells b (x ∷ done) (y ∷ v) t rest h n =
-    inr (λ f. f y h.0, subst (IsFirst (IsOther spells) (suc (suc b)) (done ++ t ∷ rest)) (omega arith) (first_from spells (suc b) done v t rest h.1 n))
+    inr (λ f. f y h.0, subst (IsFirst (IsNone spells) (suc b) (done ++ t ∷ rest)) (omega arith) (first_from spells (suc b) done v t rest h.1 n))
 
-pub first_other : {L : Type 0} (spells : List ℕ → L → Type 0) (texts done : List (List ℕ)) (items : List L) (t : List ℕ) (i k : ℕ) → done ≡ take i texts → i < length texts → t ≡ get_or texts i t
-    → AllZip spells done items → ((w : L) → spells t w → ⊥) → k ≡ length items → IsFirst (IsOther spells) 1 texts (k + 2)
-first_other spells texts done items t i k f l e h n d =
-    let here = first_from spells 0 done items t (drop (i + 1) texts) h n in
-    subst (λ u. IsFirst (IsOther spells) 1 u (k + 2)) (sym (pieces_at texts done i t f l e)) (subst (IsFirst (IsOther spells) 1 (done ++ t ∷ drop (i + 1) texts)) (omega (arith, d)) here)
+-- the least line that is of another form
+pub first_other : {L : Type 0} (spells : List ℕ → L → Type 0) (b : ℕ) (texts done : List (List ℕ)) (items : List L) (t : List ℕ) (i k : ℕ) → done ≡ take i texts → i < length texts → t ≡ get_or texts i t
+    → AllZip spells done items → IsNone spells b t → k ≡ length items → IsFirst (IsNone spells) b texts (b + k + 1)
+first_other spells b texts done items t i k f l e h n d =
+    let here = first_from spells b done items t (drop (i + 1) texts) h n in
+    subst (λ u. IsFirst (IsNone spells) b u (b + k + 1)) (sym (pieces_at texts done i t f l e)) (subst (IsFirst (IsNone spells) b (done ++ t ∷ drop (i + 1) texts)) (omega (arith, d)) here)
 
 pushed : {X E : Type 0} (items new : List X) (x : X) (r : Result (Unit {0}) E) → new ≡ cond (is_ok r) (items ++ x ∷ []) items → is_err r ≡ false → new ≡ items ++ x ∷ []
 pushed items new x (Ok u) e f = e

@@ -6,8 +6,8 @@ use Rattle.std.specs.Fmt.{decimal}
 use Rattle.std.proofs.lemmas.Bool.{and_parts}
 use Rattle.std.proofs.lemmas.Bool.Decides.{nat_tests}
 use Rattle.std.proofs.lemmas.Fmt.{digits_decimal}
-use Rattle.decimal.specs.Natural.{natural_at}
-use Rattle.decimal.proofs.Numbers.{own, natural_decimal, natural_sound}
+use Rattle.spelling.specs.Natural.{natural_at}
+use Rattle.spelling.proofs.Decimal.{own, natural_decimal, natural_sound}
 use Rattle.q_script.specs.Words.{Lacks, Reads, IsNumeral}
 
 pub reads_as : (text : List ℕ) (o : Option ℕ) → o ≡ natural_at text → Reads IsNumeral text o

@@ -1,6 +1,7 @@
 -- Numbers with a character between.
 use Rattle.std.proofs.Common.{◌≡◌, ℕ, ◌<◌, List, ◌∷◌, ◌++◌, Option, None, ap, sym, ◌∙◌, subst}
 use Rattle.std.specs.Fmt.{decimal}
+use Rattle.std.proofs.lemmas.Fmt.{decimal_injective}
 use Rattle.q_script.specs.Words.{Lacks, Reads, IsNumeral, IsFollowed, IsPair}
 use Rattle.q_script.proofs.Parts.{IsCut, cut_once, never_cut}
 use Rattle.q_script.proofs.Numbers.{decimal_lacks}
@@ -24,6 +25,9 @@ leading_is c n s a b e h = (h.0, e.1 ∙ ap (λ x. x ++ (c ∷ b)) h.1)
 -- a number in front and what follows it are the only ones
 pub followed_once : (c : ℕ) (s : List ℕ) (p q : ℕ × List ℕ) → c < 48 → IsFollowed c s p → IsFollowed c s q → p.1 ≡ q.1
 followed_once c s p q l h k = (cut_once c s (decimal p.0) p.1 (decimal q.0) q.1 (followed_cut c s p l h) (followed_cut c s q l k)).1
+
+pub number_once : (c : ℕ) (s : List ℕ) (p q : ℕ × List ℕ) → c < 48 → IsFollowed c s p → IsFollowed c s q → p.0 ≡ q.0
+number_once c s p q l h k = decimal_injective p.0 q.0 h.0 k.0 (cut_once c s (decimal p.0) p.1 (decimal q.0) q.1 (followed_cut c s p l h) (followed_cut c s q l k)).0
 
 pub not_pair : (c : ℕ) (s : List ℕ) (p : ℕ × List ℕ) → c < 48 → IsFollowed c s p → ((n : ℕ) → IsNumeral p.1 n → ⊥) → (q : ℕ × ℕ) → IsPair c s q → ⊥
 not_pair c s p l h n q k = n q.1 (k.1, followed_once c s p (q.0, decimal q.1) l h (k.0, k.2))

@@ -1,5 +1,5 @@
 -- Scripts from their first line and the lines behind it.
-use Rattle.std.proofs.Common.{◌≡◌, ℕ, List, [], ◌∷◌, ap, sym, ◌∙◌, subst, inl, inr, refl}
+use Rattle.std.proofs.Common.{◌≡◌, ℕ, suc, List, [], ◌∷◌, ap, sym, ◌∙◌, subst, inl, inr, refl}
 use Rattle.std.specs.Prelude.{Result, Ok, Err, IfErr}
 use Rattle.std.specs.Result.{IsErrAnd}
 use Rattle.std.specs.List.{AllZip}
@@ -9,7 +9,7 @@ use Rattle.q_script.specs.declared.script.ScriptFault.TheVariants.{Syntax, OutOf
 use Rattle.q_script.specs.Words.{Lacks}
 use Rattle.q_script.specs.Lines.{without_last_feed, parts_of, lines_of, IsFirst}
 use Rattle.q_script.specs.Founding.{SpellsFounding}
-use Rattle.q_script.specs.Script.{AreLines, IsScriptOf, IsNoFounding, IsOther, IsFaultOf, IsLaterFault}
+use Rattle.q_script.specs.Script.{AreLines, IsScriptOf, IsNoFounding, IsOther, IsFaultBehind, IsFaultOf, IsNone}
 use Rattle.q_script.proofs.Parts.{IsCut}
 use Rattle.q_script.proofs.Lines.{one_part, first_part}
 
@@ -29,8 +29,14 @@ fault_alone spells source body fault e l h = first_fault spells source body [] f
 pub fault_first : {L : Type 0} (spells : List ℕ → L → Type 0) (source body a b : List ℕ) (fault : ScriptFault) → body ≡ without_last_feed source → IsCut 10 body a b → (fault ≡ Syntax 1) × IsNoFounding a → IsFaultOf spells source fault
 fault_first spells source body a b fault e l h = first_fault spells source a (parts_of b) fault (more_lines source body a b e l) h
 
-pub fault_later : {L : Type 0} (spells : List ℕ → L → Type 0) (source body a b : List ℕ) (f : Founding) (fault : ScriptFault) → body ≡ without_last_feed source → IsCut 10 body a b → SpellsFounding a f → IsLaterFault spells b fault → IsFaultOf spells source fault
-fault_later spells source body a b f (Syntax line) e l s h = subst (λ u. IsFirst (IsOther spells) 0 u line) (sym (more_lines source body a b e l)) (inr (λ n. n f s, h))
+-- what is no line is none behind the first
+behind_first : {L : Type 0} (spells : List ℕ → L → Type 0) (b : ℕ) (lines : List (List ℕ)) (n : ℕ) → IsFirst (IsNone spells) (suc b) lines n → IsFirst (IsOther spells) (suc b) lines n
+behind_first spells b [] n h = h
+behind_first spells b (l ∷ lines) n (inl h) = inl h
+behind_first spells b (l ∷ lines) n (inr h) = inr (h.0, behind_first spells (suc b) lines n h.1)
+
+pub fault_later : {L : Type 0} (spells : List ℕ → L → Type 0) (source body a b : List ℕ) (f : Founding) (fault : ScriptFault) → body ≡ without_last_feed source → IsCut 10 body a b → SpellsFounding a f → IsFaultBehind spells 1 b fault → IsFaultOf spells source fault
+fault_later spells source body a b f (Syntax line) e l s h = subst (λ u. IsFirst (IsOther spells) 0 u line) (sym (more_lines source body a b e l)) (inr (λ n. n f s, behind_first spells 0 (parts_of b) line h))
 fault_later spells source body a b f OutOfMemory e l s h = tt
 
 pub script_alone : {L : Type 0} (spells : List ℕ → L → Type 0) (source body : List ℕ) (f : Founding) (lines : List L) → body ≡ without_last_feed source → Lacks 10 body → SpellsFounding body f → lines ≡ [] → IsScriptOf spells source f lines

@@ -6,6 +6,9 @@ use Rattle.std.proofs.lemmas.Slice.Eq.{bytes_eq-Decides}
 use Rattle.q_script.specs.Words.{Lacks}
 use Rattle.q_script.specs.NodeLine.{node_word}
 
+pub founding_word_lacks_space : Lacks 32 (codes "nodes")
+founding_word_lacks_space = search rules
+
 pub heading_word_lacks_space : Lacks 32 (codes "cluster")
 heading_word_lacks_space = search rules
 

@@ -1,4 +1,4 @@
--- The first line of a script.
+-- The first line of a script, and of any text that begins as one does.
 use Rattle.std.specs.Prelude.{◌≡◌, ℕ, List, ◌∷◌, ◌++◌, codes}
 use Rattle.q_script.specs.declared.founding.Fraction.{Fraction}
 use Rattle.q_script.specs.declared.founding.Founding.{Founding}
@@ -8,14 +8,18 @@ use Rattle.q_script.specs.Words.{IsPair, IsFollowed}
 abbrev pub SpellsFraction : List ℕ → Fraction → Type 0
 SpellsFraction text f = IsPair 47 text (f.numerator, f.denominator)
 
--- `nodes`, how many founders, and the two fractions, with one space between
-pub record SpellsFounding (text : List ℕ) (f : Founding) : Type 0 where
+-- a word, a number, and two fractions, with one space between
+pub record SpellsFirst (word text : List ℕ) (first : ℕ × Fraction × Fraction) : Type 0 where
   pub rest : List ℕ
   pub fractions : List ℕ
   pub beta : List ℕ
   pub gamma : List ℕ
-  pub parts : text ≡ codes "nodes" ++ (32 ∷ rest)
-  pub count : IsFollowed 32 rest (f.count, fractions)
+  pub parts : text ≡ word ++ (32 ∷ rest)
+  pub number : IsFollowed 32 rest (first.0, fractions)
   pub both : fractions ≡ beta ++ (32 ∷ gamma)
-  pub is_beta : SpellsFraction beta f.beta
-  pub is_gamma : SpellsFraction gamma f.gamma
+  pub is_beta : SpellsFraction beta first.1
+  pub is_gamma : SpellsFraction gamma first.2
+
+-- `nodes`, how many founders, and the two fractions
+abbrev pub SpellsFounding : List ℕ → Founding → Type 0
+SpellsFounding text f = SpellsFirst (codes "nodes") text (f.count, f.beta, f.gamma)

@@ -2,21 +2,13 @@
 use Rattle.std.specs.Prelude.{◌≡◌, ℕ, Bool, true, false, List, ◌∷◌, ◌++◌, codes}
 use Rattle.std.specs.Net.Grammar.{IsSocketText}
 use Rattle.q_script.specs.Words.{IsFollowed}
-use Rattle.q_script.specs.Founding.{SpellsFraction}
+use Rattle.q_script.specs.Founding.{SpellsFirst}
 use Rattle.q_script.specs.declared.node_line.Heading.{Heading}
 use Rattle.q_script.specs.declared.node_line.NodeLine.{NodeLine}
 
--- `cluster`, the number of the run, and the two fractions, with one space between
-pub record SpellsHeading (text : List ℕ) (h : Heading) : Type 0 where
-  pub rest : List ℕ
-  pub fractions : List ℕ
-  pub beta : List ℕ
-  pub gamma : List ℕ
-  pub parts : text ≡ codes "cluster" ++ (32 ∷ rest)
-  pub number : IsFollowed 32 rest (h.number, fractions)
-  pub both : fractions ≡ beta ++ (32 ∷ gamma)
-  pub is_beta : SpellsFraction beta h.beta
-  pub is_gamma : SpellsFraction gamma h.gamma
+-- `cluster`, the number of the run, and the two fractions
+abbrev pub SpellsHeading : List ℕ → Heading → Type 0
+SpellsHeading text h = SpellsFirst (codes "cluster") text (h.number, h.beta, h.gamma)
 
 -- the word that begins the line of a founder, or of another node
 abbrev pub node_word : Bool → List ℕ

@@ -45,10 +45,14 @@ IsFaultOf spells source OutOfMemory = Unit {0}
 abbrev pub IsFault : List ℕ → ScriptFault → Type 0
 IsFault source fault = IsFaultOf Spells source fault
 
--- what is first wrong with the lines behind the first
-abbrev pub IsLaterFault : {L : Type 0} → (List ℕ → L → Type 0) → List ℕ → ScriptFault → Type 0
-IsLaterFault spells text (Syntax line) = IsFirst (IsOther spells) 1 (parts_of text) line
-IsLaterFault spells text OutOfMemory = Unit {0}
+-- a text that spells no line, however many lines stand before it
+abbrev pub IsNone : {L : Type 0} → (List ℕ → L → Type 0) → ℕ → List ℕ → Type 0
+IsNone {L} spells before text = (line : L) → spells text line → ⊥
+
+-- what is first wrong with lines before which so many stand
+abbrev pub IsFaultBehind : {L : Type 0} → (List ℕ → L → Type 0) → ℕ → List ℕ → ScriptFault → Type 0
+IsFaultBehind spells before text (Syntax line) = IsFirst (IsNone spells) before (parts_of text) line
+IsFaultBehind spells before text OutOfMemory = Unit {0}
 
 -- ---- the reasons by which faults are told
 

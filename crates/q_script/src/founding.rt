@@ -1,8 +1,8 @@
 //! The line that founds a cluster.
 
 ghost use Rattle.std.specs.Prelude.{◌≡◌};
-ghost use Rattle.q_script.specs.Words.{Reads};
-ghost use Rattle.q_script.specs.Founding.{SpellsFraction, SpellsFounding};
+ghost use Rattle.q_script.specs.Words.{Lacks, Reads};
+ghost use Rattle.q_script.specs.Founding.{SpellsFirst, SpellsFraction, SpellsFounding};
 
 use crate::numeral::{leading, pair};
 use crate::text::cut;
@@ -29,6 +29,22 @@ impl Fraction {
     }
 }
 
+/// The number and the fractions beta and gamma of a line that begins with this word, with one space between.
+pub(crate) fn first_line(text: &str, word: &str) -> Option<(u64, Fraction, Fraction)>
+    requires { Lacks 32 word.now }
+    ensures { Reads (SpellsFirst word.now) text.now result }
+{
+    let (first, rest) = cut(text, ' ')?;
+    if first != word {
+        return None;
+    }
+    let (number, fractions) = leading(rest, ' ')?;
+    let (beta, gamma) = cut(fractions, ' ')?;
+    let beta = Fraction::read(beta)?;
+    let gamma = Fraction::read(gamma)?;
+    Some((number, beta, gamma))
+}
+
 /// How a cluster is founded.
 #[derive(Clone, Copy)]
 pub struct Founding {
@@ -45,14 +61,7 @@ impl Founding {
     pub fn read(text: &str) -> Option<Founding>
         ensures { Reads SpellsFounding text.now result }
     {
-        let (word, rest) = cut(text, ' ')?;
-        if word != "nodes" {
-            return None;
-        }
-        let (count, fractions) = leading(rest, ' ')?;
-        let (beta, gamma) = cut(fractions, ' ')?;
-        let beta = Fraction::read(beta)?;
-        let gamma = Fraction::read(gamma)?;
+        let (count, beta, gamma) = first_line(text, "nodes")?;
         Some(Founding { count, beta, gamma })
     }
 }

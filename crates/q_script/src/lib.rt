@@ -6,7 +6,7 @@
 //! - [`Script::read`] reads a script. Its first line founds the cluster, as `nodes 3 4/5 4/5`: founders 1 to 3 and the
 //!   fractions beta and gamma. Each other line is an event ([`ScriptLine`]). Refused is 9 Syntax, with the least line
 //!   that is of another form; an empty text is one empty line.
-//! - [`read_script`] reads the first line and then lines of any other kind ([`Line`]).
+//! - [`read_script`] reads the first line and then lines of any other kind ([`Line`]), [`read_lines`] such lines alone.
 //! - [`read_records`] reads lines `ID SEQ VALUE`, one for each record of a view, and gives the view. An empty text has
 //!   no line. Refused is what is wrong with the least faulty line, with its number: in this order 9 Syntax, 75 Unsorted
 //!   for an id not above the one before, 77 BadField for a sequence number 0, 50 BadValue for a record (16 bytes, and
@@ -72,5 +72,5 @@ pub use node_line::{Heading, NodeLine};
 pub use numeral::{leading, number, pair};
 pub use operands::{code, value};
 pub use records::{RecordFault, RecordsFault, read_records, value_bytes};
-pub use script::{Script, ScriptFault, read_script};
+pub use script::{Script, ScriptFault, read_lines, read_script};
 pub use text::without_last_feed;

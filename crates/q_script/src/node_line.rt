@@ -2,11 +2,10 @@
 
 ghost use Rattle.std.specs.Prelude.{◌≡◌};
 ghost use Rattle.q_script.specs.Words.{Reads};
-ghost use Rattle.q_script.specs.Founding.{SpellsFraction};
 ghost use Rattle.q_script.specs.NodeLine.{IsNodeWord, SpellsHeading, SpellsNode};
 
-use crate::founding::Fraction;
-use crate::numeral::{leading, pair};
+use crate::founding::{Fraction, first_line};
+use crate::numeral::leading;
 use crate::text::cut;
 use std::net::SocketAddr;
 
@@ -32,31 +31,13 @@ pub struct NodeLine {
     pub address: SocketAddr,
 }
 
-/// A fraction as `4/5`.
-fn fraction(text: &str) -> Option<Fraction>
-    ensures { Reads SpellsFraction text.now result }
-{
-    let (numerator, denominator) = pair(text, '/')?;
-    Some(Fraction {
-        numerator,
-        denominator,
-    })
-}
-
 impl Heading {
     /// What a line as `cluster 7310582 2/3 2/3` spells, with beta before gamma. Whether the fractions are good is not
     /// judged here.
     pub fn read(text: &str) -> Option<Heading>
         ensures { Reads SpellsHeading text.now result }
     {
-        let (word, rest) = cut(text, ' ')?;
-        if word != "cluster" {
-            return None;
-        }
-        let (number, fractions) = leading(rest, ' ')?;
-        let (beta, gamma) = cut(fractions, ' ')?;
-        let beta = fraction(beta)?;
-        let gamma = fraction(gamma)?;
+        let (number, beta, gamma) = first_line(text, "cluster")?;
         Some(Heading {
             number,
             beta,

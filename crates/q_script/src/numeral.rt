@@ -4,7 +4,7 @@ ghost use Rattle.std.specs.Prelude.{◌≡◌, ◌<◌, option_map};
 ghost use Rattle.q_script.specs.Words.{Reads, IsNumeral, IsPair, IsFollowed};
 
 use crate::text::cut;
-use decimal::natural;
+use spelling::natural;
 
 /// The number below 2^64 that a text spells in decimal, with no zero in front of other digits and no sign.
 pub fn number(text: &str) -> Option<u64>

@@ -1,8 +1,8 @@
 //! Scripts.
 
-ghost use Rattle.std.specs.Prelude.{◌≡◌, IfOk, IfErr, MatchResult};
+ghost use Rattle.std.specs.Prelude.{◌≡◌, ◌≤◌, IfOk, IfErr, MatchResult};
 ghost use Rattle.q_script.specs.Founding.{SpellsFounding};
-ghost use Rattle.q_script.specs.Script.{AreLines, IsFault, IsFaultOf, IsLaterFault, IsNoFounding, IsScript, IsScriptOf, reason};
+ghost use Rattle.q_script.specs.Script.{AreLines, IsFault, IsFaultBehind, IsFaultOf, IsNoFounding, IsScript, IsScriptOf, reason};
 
 use crate::founding::Founding;
 use crate::line::{Line, LineFault, ScriptLine};
@@ -50,10 +50,12 @@ fn found(text: &str) -> Result<Founding, ScriptFault>
     }
 }
 
-/// What these lines spell, of which the first is line 2 of a script.
-fn read_lines<L: Line>(alloc: Global, text: &str) -> Result<Vec<L>, ScriptFault>
+/// What the lines of a text spell, before which so many stand: none or one. Refused are 9 Syntax, with the least line that
+/// is of another form, and 99.
+pub fn read_lines<L: Line>(alloc: Global, text: &str, before: usize) -> Result<Vec<L>, ScriptFault>
+    requires { before ≤ 1 }
     ensures read { IfOk result (λ lines. AreLines L.spells text.now lines.items) }
-    ensures fault { IfErr result (IsLaterFault L.spells text.now) }
+    ensures fault { IfErr result (IsFaultBehind L.spells before text.now) }
 {
     let mut lines = Vec::new(alloc);
     for part in text.split('\n') {
@@ -61,7 +63,7 @@ fn read_lines<L: Line>(alloc: Global, text: &str) -> Result<Vec<L>, ScriptFault>
             Ok(line) => line,
             Err(LineFault::Form) => {
                 return Err(ScriptFault::Syntax {
-                    line: lines.len() + 2,
+                    line: before + lines.len() + 1,
                 });
             }
             Err(LineFault::OutOfMemory) => return Err(ScriptFault::OutOfMemory),
@@ -85,7 +87,7 @@ pub fn read_script<L: Line>(alloc: Global, source: &str) -> Result<(Founding, Ve
         return Ok((founding, Vec::new(alloc)));
     };
     let founding = found(first)?;
-    let lines = read_lines(alloc, rest)?;
+    let lines = read_lines(alloc, rest, 1)?;
     Ok((founding, lines))
 }
 

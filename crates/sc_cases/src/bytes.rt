@@ -28,20 +28,19 @@ fn tell_facts(rt: &impl Print, facts: &Facts) -> io::Result<()> {
 fn tell_body(rt: &impl Print, body: &Body) -> io::Result<()> {
     match body {
         Body::Enter | Body::Join | Body::Leave => Ok(()),
-        Body::EnterEcho {
-            to,
-            joined,
-            facts,
-            view,
-        } => {
-            print!(rt; " to {to}{}", if *joined { " joined" } else { "" })?;
-            tell_facts(rt, facts)?;
-            tell_view(rt, view)
+        Body::EnterEcho(echo) => {
+            print!(rt;
+                " to {}{}",
+                echo.to,
+                if echo.joined { " joined" } else { "" }
+            )?;
+            tell_facts(rt, &echo.facts)?;
+            tell_view(rt, &echo.view)
         }
         Body::JoinEcho { about } | Body::LeaveEcho { about } => print!(rt; " about {about}"),
-        Body::Store { tag, view } => {
-            print!(rt; " tag {tag}")?;
-            tell_view(rt, view)
+        Body::Store(store) => {
+            print!(rt; " tag {}", store.tag)?;
+            tell_view(rt, &store.view)
         }
         Body::StoreAck(ack) => print!(rt; " to {} tag {}", ack.to, ack.tag),
         Body::StoreEcho { view } => tell_view(rt, view),

@@ -1,11 +1,11 @@
 //! Messages that are written and read again, and bytes that are read and written again.
 
 ghost use Rattle.std.specs.Prelude.{◌≡◌, ◌↔◌, IfOk, IfErr, IsErrOf};
-ghost use Rattle.sc_msg.specs.Messages.{message_bytes};
+ghost use Rattle.sc_msg.specs.Messages.{message_bytes, IsMessage};
 ghost use Rattle.sc_msg.specs.Fault.{IsFault};
 ghost use Rattle.sc_msg.specs.Lengths.{Fits};
 
-use crate::decoder::{decode, decode_v1};
+use crate::decoder::{decode, decode_as, decode_v1};
 use sc_msg::{EncodeFault, Message, MessageFault, Version, encode, encode_v1};
 use std::alloc::{AllocError, Global};
 
@@ -14,7 +14,21 @@ pub fn written_and_read(alloc: Global, message: &Message) -> Result<Message, All
     ensures { IfOk result (λ m. m ≡ message.now) }
 {
     let bytes = encode(alloc, message)?;
-    match decode(alloc, &bytes) {
+    read_again(alloc, Version::Second, message, &bytes)
+}
+
+// The message that was written to these bytes. The one error is that memory ran out.
+fn read_again(
+    alloc: Global,
+    version: Version,
+    message: &Message,
+    bytes: &[u8],
+) -> Result<Message, AllocError>
+    requires legal { IsMessage version message.now }
+    requires spelled { bytes.now ≡ message_bytes version message.now }
+    ensures { IfOk result (λ m. m ≡ message.now) }
+{
+    match decode_as(alloc, version, bytes) {
         Ok(read) => Ok(read),
         Err(MessageFault::OutOfMemory) => Err(AllocError),
         Err(_) => unreachable!(),
@@ -27,11 +41,7 @@ pub fn written_and_read_v1(alloc: Global, message: &Message) -> Result<Message, 
     ensures value { IsErrOf result EncodeFault.BadValue ↔ (Fits Version.First message.now → ⊥) }
 {
     let bytes = encode_v1(alloc, message)?;
-    match decode_v1(alloc, &bytes) {
-        Ok(read) => Ok(read),
-        Err(MessageFault::OutOfMemory) => Err(EncodeFault::OutOfMemory),
-        Err(_) => unreachable!(),
-    }
+    Ok(read_again(alloc, Version::First, message, &bytes)?)
 }
 
 /// Bytes that were read and written again are the same. The faults are those of [`decode`].

@@ -1,17 +1,18 @@
 -- A list of entries has one spelling and at most one fault, and what is spelled has none.
-use Rattle.std.proofs.Common.{◌≡◌, ℕ, suc, ◌+◌, ◌<◌, ◌≤◌, ◌^◌, ◌==◌, true, false, nat_lt, List, [], ◌∷◌, ◌++◌, length, map, take, drop, Option, Some, None, refl, sym, ap, subst, ◌∙◌, arith, append_assoc, length-append, inl, inr}
+use Rattle.std.proofs.Common.{◌≡◌, ℕ, suc, ◌+◌, ◌<◌, ◌≤◌, ◌^◌, ◌==◌, true, false, nat_lt, List, [], ◌∷◌, ◌++◌, length, map, drop, Option, Some, None, refl, sym, ap, subst, ◌∙◌, arith, append_assoc, length-append, inl, inr}
 use Rattle.std.proofs.lemmas.Bool.{le-ltb, ne_eqb}
-use Rattle.std.proofs.lemmas.List.{take_at, drop_at}
 use Rattle.std.specs.List.{flat_map, AllByRecursion}
 use Rattle.sc_view.specs.declared.view.Stored.{Stored}
 use Rattle.sc_msg.specs.declared.fault.MessageFault.{MessageFault}
 use Rattle.sc_msg.specs.declared.version.Version.{Version}
 use Rattle.sc_msg.specs.declared.version.Version.TheVariants.{First, Second}
-use Rattle.sc_msg.specs.Numbers.{number_bytes, first_number}
+use Rattle.spelling.specs.Numbers.{number_bytes, first_number}
 use Rattle.sc_msg.specs.Values.{value_bytes, value_fault, first_of, IsLength}
 use Rattle.sc_msg.specs.Entries.{Layout, ids_layout, view_layout, IsStored, stored_bytes, stored_fault, entry_bytes, list_bytes, IsEntry, IsRising, last_of, is_above, count_fault, entry_fault}
 use Rattle.sc_msg.specs.Fields.{IsListFault}
-use Rattle.sc_msg.proofs.Numbers.{length-number_bytes, first_number-number_bytes}
+use Rattle.spelling.specs.Codes.{IsPrefixCode}
+use Rattle.spelling.proofs.Numbers.{length-number_bytes, first_number-number_bytes}
+use Rattle.spelling.proofs.Codes.{one_byte, same_front, number_front, once}
 use Rattle.sc_msg.proofs.Lists.{id_sound, behind_id}
 
 no_fault : (e : MessageFault) → None ≡ Some e → ⊥
@@ -19,17 +20,6 @@ no_fault e h = cc
 
 pub some_is : (d e : MessageFault) → Some d ≡ Some e → d ≡ e
 some_is d e h = cc
-
--- bytes that begin with parts of one length
-pub same_front : (xs ys x y : List ℕ) (n : ℕ) → length xs ≡ n → length ys ≡ n → xs ++ x ≡ ys ++ y → (xs ≡ ys) × (x ≡ y)
-same_front xs ys x y n p q e =
-    (sym (take_at xs x n p) ∙ ap (take n) e ∙ take_at ys y n q, sym (drop_at xs x n p) ∙ ap (drop n) e ∙ drop_at ys y n q)
-
-pub number_front : (width m n : ℕ) (x y : List ℕ) → m < 256 ^ width → n < 256 ^ width → number_bytes width m ++ x ≡ number_bytes width n ++ y → (m ≡ n) × (x ≡ y)
-number_front width m n x y p q e = (
-  sym (first_number-number_bytes width m x p) ∙ ap (first_number width) e ∙ first_number-number_bytes width n y q,
-  (same_front (number_bytes width m) (number_bytes width n) x y width (length-number_bytes width m) (length-number_bytes width n) e).1,
-)
 
 -- what a list of entries needs of what stands behind its ids
 pub record IsLayout {A : Type 0} (layout : Layout A) : Type 0 where
@@ -56,14 +46,8 @@ module _ {A : Type 0} (layout : Layout A) (law : IsLayout layout) where
   on : (a : A) (es : List A) (x : List ℕ) → all_bytes (a ∷ es) ++ x ≡ entry_bytes layout a ++ (all_bytes es ++ x)
   on a es x = append_assoc (entry_bytes layout a) (all_bytes es) x
 
-  entries_front : (es fs : List A) (x y : List ℕ) → AllByRecursion (IsEntry layout) es → AllByRecursion (IsEntry layout) fs → length es ≡ length fs → all_bytes es ++ x ≡ all_bytes fs ++ y → (es ≡ fs) × (x ≡ y)
-  entries_front [] [] x y p q len e = (refl, e)
-  entries_front [] (f ∷ fs) x y p q len e = absurd (omega (arith, len))
-  entries_front (a ∷ es) [] x y p q len e = absurd (omega (arith, len))
-  entries_front (a ∷ es) (b ∷ fs) x y p q len e =
-      let h = entry_front a b (all_bytes es ++ x) (all_bytes fs ++ y) p.0 q.0 (sym (on a es x) ∙ e ∙ on b fs y) in
-      let t = entries_front es fs x y p.1 q.1 (omega (arith, len)) h.1 in
-      (ap (λ (c : A). c ∷ es) h.0 ∙ ap (λ (l : List A). b ∷ l) t.0, t.1)
+  entries_are_code : IsPrefixCode (entry_bytes layout) (IsEntry layout)
+  entries_are_code = record { one = λ a b x y p q e. entry_front a b x y p q e }
 
   -- ---- one spelling
 
@@ -73,7 +57,7 @@ module _ {A : Type 0} (layout : Layout A) (law : IsLayout layout) where
   pub list_front : (es fs : List A) (x y : List ℕ) → AllByRecursion (IsEntry layout) es → AllByRecursion (IsEntry layout) fs → length es ≤ layout.most → length fs ≤ layout.most → list_bytes layout es ++ x ≡ list_bytes layout fs ++ y → (es ≡ fs) × (x ≡ y)
   list_front es fs x y p q few fewer e =
       let count = number_front 2 (length es) (length fs) (all_bytes es ++ x) (all_bytes fs ++ y) (omega (arith, law.few)) (omega (arith, law.few)) (sym (counted es x) ∙ e ∙ counted fs y) in
-      entries_front es fs x y p q count.0 count.1
+      once (entry_bytes layout) (IsEntry layout) entries_are_code es fs x y p q count.0 count.1
 
   -- ---- no fault in what is spelled
 
@@ -127,12 +111,9 @@ ids_law = record { few = omega arith; front = λ a b x y same p q e. (same, e); 
 pub stored_is : (d e : Stored) → d.number ≡ e.number → d.value ≡ e.value → d ≡ e
 stored_is d e p q = λ i. record { number = p i; value = q i }
 
-heads : (m n : ℕ) (x y : List ℕ) → m ∷ x ≡ n ∷ y → (m ≡ n) × (x ≡ y)
-heads m n x y e = (cc, cc)
-
 value_front : (version : Version) (v w x y : List ℕ) → IsLength version (length v) → IsLength version (length w) → value_bytes version v ++ x ≡ value_bytes version w ++ y → (v ≡ w) × (x ≡ y)
 value_front First v w x y p q e = same_front v w x y (length w) (omega (arith, p.least, p.most, q.least, q.most)) refl e
-value_front Second v w x y p q e = let h = heads (length v) (length w) (v ++ x) (w ++ y) e in same_front v w x y (length w) h.0 refl h.1
+value_front Second v w x y p q e = let h = one_byte (length v) (length w) (v ++ x) (w ++ y) e in same_front v w x y (length w) h.0 refl h.1
 
 value_sound : (version : Version) (v x : List ℕ) → IsLength version (length v) → value_fault version (value_bytes version v ++ x) ≡ None
 value_sound First v x p =

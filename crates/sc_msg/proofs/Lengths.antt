@@ -28,8 +28,8 @@ records_fit : (version : Version) (v : ViewMap) → AreRecords version v → Has
 records_fit version v are = within_by_entries (value_lengths version) v (all_within version (fin.entries v) are.fit)
 
 body_fits : (version : Version) (b : Body) → AllByRecursion IsField (fields version b) → BodyFits version b
-body_fits version (bodies.EnterEcho to joined facts v) h = records_fit version v h.1.1.1.1.1.0
-body_fits version (bodies.Store tag v) h = records_fit version v h.1.0
+body_fits version (bodies.EnterEcho e) h = records_fit version e.view h.1.1.1.1.1.0
+body_fits version (bodies.Store s) h = records_fit version s.view h.1.0
 body_fits version (bodies.StoreEcho v) h = records_fit version v h.0
 body_fits version (bodies.CollectReply r) h = records_fit version r.view h.1.1.0
 body_fits version b h = tt

@@ -1,4 +1,3 @@
-pub mod Numbers
 pub mod Parts
 pub mod Lists
 pub mod Rising

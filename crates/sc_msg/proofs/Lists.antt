@@ -4,8 +4,8 @@ use Rattle.std.proofs.lemmas.List.{append-nil, drop_at, map-id, nil_from_length}
 use Rattle.std.proofs.lemmas.List.Concat.{flat_map-append}
 use Rattle.std.specs.List.{flat_map, AllByRecursion}
 use Rattle.sc_msg.specs.declared.fault.MessageFault.{MessageFault}
-use Rattle.sc_msg.specs.declared.fault.MessageFault.TheVariants.{BadHead, Short, TooLong, BadKind, Unsorted, Extra, BadField, OutOfMemory}
-use Rattle.sc_msg.specs.Numbers.{number_bytes, first_number}
+use Rattle.sc_msg.specs.declared.fault.MessageFault.TheVariants.{OutOfMemory}
+use Rattle.spelling.specs.Numbers.{number_bytes, first_number}
 use Rattle.std.specs.FinMap as fin
 use Rattle.std.specs.FinSet as set
 use Rattle.sc_members.specs.Ids.{Ids}
@@ -17,7 +17,8 @@ use Rattle.std.proofs.lemmas.Bool.{le-ltb}
 use Rattle.sc_view.specs.declared.view.ViewFault.{ViewFault}
 use Rattle.sc_view.specs.declared.view.ViewFault.TheVariants as views
 use Rattle.sc_msg.specs.Fault.{view_fault}
-use Rattle.sc_msg.proofs.Numbers.{length-number_bytes, first_number-number_bytes}
+use Rattle.spelling.proofs.Codes.{all_push}
+use Rattle.spelling.proofs.Numbers.{length-number_bytes, first_number-number_bytes}
 use Rattle.sc_msg.proofs.Rising.{rising_made, len_made, entries-put}
 use Rattle.sc_msg.specs.declared.version.Version.{Version}
 use Rattle.sc_msg.specs.Values.{first_of}
@@ -25,24 +26,12 @@ use Rattle.sc_msg.specs.Entries.{id_fault, view_bytes, AreIds, IsStored, ids_byt
 use Rattle.sc_msg.specs.Fields.{IsListFault, OrMemory}
 
 pub or_memory : (P : MessageFault → Type 0) (e : MessageFault) → P e → OrMemory P e
-or_memory P BadHead p = p
-or_memory P Short p = p
-or_memory P TooLong p = p
-or_memory P BadKind p = p
-or_memory P Unsorted p = p
-or_memory P Extra p = p
-or_memory P BadField p = p
 or_memory P OutOfMemory p = tt
+or_memory P e p = p
 
 pub or_memory_map : (P Q : MessageFault → Type 0) (e : MessageFault) → ((d : MessageFault) → P d → Q d) → OrMemory P e → OrMemory Q e
-or_memory_map P Q BadHead f p = f BadHead p
-or_memory_map P Q Short f p = f Short p
-or_memory_map P Q TooLong f p = f TooLong p
-or_memory_map P Q BadKind f p = f BadKind p
-or_memory_map P Q Unsorted f p = f Unsorted p
-or_memory_map P Q Extra f p = f Extra p
-or_memory_map P Q BadField f p = f BadField p
 or_memory_map P Q OutOfMemory f p = tt
+or_memory_map P Q e f p = f e p
 
 -- ---- rising ids, and one more
 
@@ -57,10 +46,6 @@ last_of-push last (x ∷ ids) id = last_of-push (Some x) ids id
 map-push : {A B : Type 0} (f : A → B) (xs : List A) (x : A) → map f (xs ++ x ∷ []) ≡ map f xs ++ f x ∷ []
 map-push f [] x = refl
 map-push f (y ∷ xs) x = ap (λ l. f y ∷ l) (map-push f xs x)
-
-pub all-push : {A : Type 0} (P : A → Type 0) (xs : List A) (x : A) → AllByRecursion P xs → P x → AllByRecursion P (xs ++ x ∷ [])
-all-push P [] x h p = (p, tt)
-all-push P (y ∷ xs) x h p = (h.0, all-push P xs x h.1 p)
 
 -- ---- reading
 
@@ -80,7 +65,7 @@ module _ {A : Type 0} (layout : Layout A) (count : ℕ) (bytes : List ℕ) where
       let ids : map layout.id_of (es ++ e ∷ []) ≡ map layout.id_of es ++ layout.id_of e ∷ [] = map-push layout.id_of es e in
       let spelled : flat_map (entry_bytes layout) (es ++ e ∷ []) ≡ flat_map (entry_bytes layout) es ++ entry_bytes layout e = flat_map-append (entry_bytes layout) es (e ∷ []) ∙ ap (λ (l : List ℕ). flat_map (entry_bytes layout) es ++ l) (append-nil (entry_bytes layout e)) in
       record {
-        entries = all-push (IsEntry layout) es e r.entries is;
+        entries = all_push (IsEntry layout) es e r.entries is;
         rising = subst (IsRising None) (sym ids) (IsRising-push None (map layout.id_of es) (layout.id_of e) r.rising (ap (λ o. is_above o (layout.id_of e)) r.ended ∙ above));
         ended = ap (last_of None) ids ∙ last_of-push None (map layout.id_of es) (layout.id_of e);
         parts = r.parts ∙ ap (λ (l : List ℕ). number_bytes 2 count ++ l) (ap (λ (l : List ℕ). flat_map (entry_bytes layout) es ++ l) parts ∙ sym (append_assoc (flat_map (entry_bytes layout) es) (entry_bytes layout e) after) ∙ ap (λ (l : List ℕ). l ++ after) (sym spelled));

@@ -1,5 +1,7 @@
 -- What is first wrong behind a number that was read, and behind the length of a value.
-use Rattle.std.proofs.Common.{◌≡◌, ℕ, suc, ◌+◌, ◌<◌, ◌≤◌, true, false, cond, List, ◌∷◌, ◌++◌, length, drop, Some, None, refl, sym, ap, ◌∙◌, arith, append_assoc, eqb, nat_lt}
+use Rattle.std.proofs.Common.{◌≡◌, ℕ, suc, ◌+◌, ◌<◌, ◌≤◌, ◌^◌, true, false, cond, List, ◌∷◌, ◌++◌, length, drop, Option, Some, None, IfSome, Result, refl, sym, ap, ◌∙◌, arith, append_assoc, eqb, nat_lt}
+use Rattle.std.specs.Prelude.{IfOk, OnOk}
+use Rattle.std.specs.Option.{ok_or}
 use Rattle.std.proofs.lemmas.Bool.{lt-ltb, le-ltb, ne_eqb}
 use Rattle.std.proofs.lemmas.List.{drop_at}
 use Rattle.sc_view.specs.Values.{most_bytes}
@@ -7,10 +9,10 @@ use Rattle.sc_msg.specs.declared.fault.MessageFault.{MessageFault}
 use Rattle.sc_msg.specs.declared.fault.MessageFault.TheVariants.{Short}
 use Rattle.sc_msg.specs.declared.version.Version.{Version}
 use Rattle.sc_msg.specs.declared.version.Version.TheVariants.{First, Second}
-use Rattle.sc_msg.specs.Numbers.{number_bytes, first_number}
+use Rattle.spelling.specs.Numbers.{number_bytes, first_number}
 use Rattle.sc_msg.specs.Values.{length_bytes, value_bytes, length_width, told_length, length_fault, value_fault, first_of, IsLength}
 use Rattle.sc_msg.specs.Entries.{stored_fault}
-use Rattle.sc_msg.proofs.Numbers.{length-number_bytes}
+use Rattle.spelling.proofs.Numbers.{length-number_bytes, number_leads}
 
 -- ---- the length of a value
 
@@ -45,3 +47,10 @@ pub value_parts : (version : Version) (n : ℕ) (v old middle rest : List ℕ) �
 value_parts version n v old middle rest len front back =
     front ∙ ap (λ (k : ℕ). length_bytes version k ++ middle) (sym len) ∙ ap (λ (l : List ℕ). length_bytes version (length v) ++ l) back
     ∙ sym (append_assoc (length_bytes version (length v)) v rest)
+
+-- ---- a number that stands in front
+
+pub led_by : (width : ℕ) (bytes rest : List ℕ) (o : Option ℕ) (r : Result ℕ MessageFault) → r ≡ ok_or o Short → IfSome o (λ n. n < 256 ^ width) → IfSome o (λ n. bytes ≡ number_bytes width n ++ rest)
+    → IfOk r (λ n. first_number width bytes ≡ n) × OnOk r (width ≤ length bytes)
+led_by width bytes rest None r is fits parts = rw is (tt, tt)
+led_by width bytes rest (Some n) r is fits parts = rw is (number_leads width n bytes rest fits parts)

@@ -13,11 +13,12 @@ use Rattle.sc_view.specs.Views.{ViewMap}
 use Rattle.sc_msg.specs.declared.version.Version.{Version}
 use Rattle.sc_msg.specs.declared.version.Version.TheVariants.{First, Second}
 use Rattle.sc_msg.specs.Entries.{ids_layout, view_layout, view_bytes, IsRising, AreRecords}
-use Rattle.sc_msg.specs.Numbers.{number_bytes}
+use Rattle.spelling.specs.Numbers.{number_bytes}
 use Rattle.sc_msg.specs.Fields.{Slot, number_slot, flag_slot, ids_slot, view_slot, Field, number, flag, ids, view, slot_of, field_bytes, fields_bytes, IsField, IsFieldFault, IsFieldsFault}
-use Rattle.sc_msg.proofs.Numbers.{length-number_bytes}
+use Rattle.spelling.proofs.Numbers.{length-number_bytes}
 use Rattle.sc_msg.proofs.Rising.{rising_rising, entries_rising, len_made}
-use Rattle.sc_msg.proofs.Entries.{some_is, number_front, list_front, no_list_fault, one_list_fault, ids_law, view_law}
+use Rattle.sc_msg.proofs.Entries.{some_is, list_front, no_list_fault, one_list_fault, ids_law, view_law}
+use Rattle.spelling.proofs.Codes.{number_front}
 
 no_fault : (e : MessageFault) → None ≡ Some e → ⊥
 no_fault e h = cc

@@ -17,15 +17,16 @@ use Rattle.sc_msg.specs.declared.version.Version.TheVariants.{First, Second}
 use Rattle.sc_msg.specs.declared.fault.MessageFault.{MessageFault}
 use Rattle.sc_msg.specs.declared.fault.MessageFault.TheVariants.{BadHead, Short, TooLong, BadKind, Unsorted, Extra, BadField, OutOfMemory}
 use Rattle.sc_msg.specs.Kinds.{code, kind_of, kind_at}
-use Rattle.sc_msg.specs.Numbers.{number_bytes}
+use Rattle.spelling.specs.Numbers.{number_bytes}
 use Rattle.sc_msg.specs.Values.{version_byte, value_bytes, IsLength}
 use Rattle.sc_msg.specs.Entries.{entry_bytes, ids_layout, view_layout, ids_bytes, view_bytes, AreIds, AreRecords, IsEntry, stored_bytes}
 use Rattle.sc_msg.specs.Fields.{Field, number, flag, ids, view, Slot, number_slot, flag_slot, ids_slot, view_slot, slots, slot_of, field_bytes, fields, fields_bytes, IsField, IsFieldsFault, OrMemory}
 use Rattle.sc_msg.specs.Messages.{head_bytes, message_bytes, most_message, IsMessage}
 use Rattle.sc_msg.specs.Fault.{most_bytes, head_fault, IsBodyFault, IsFirstFault, IsFault}
-use Rattle.sc_msg.proofs.Numbers.{length-number_bytes}
+use Rattle.spelling.proofs.Numbers.{length-number_bytes}
 use Rattle.sc_msg.proofs.Codes.{kind_at-code}
-use Rattle.sc_msg.proofs.Entries.{some_is, number_front}
+use Rattle.sc_msg.proofs.Entries.{some_is}
+use Rattle.spelling.proofs.Codes.{number_front}
 use Rattle.sc_msg.proofs.Sound.{len-rising, fields_front, no_fields_fault, one_fields_fault}
 
 no_fault : (e : MessageFault) → None ≡ Some e → ⊥
@@ -55,12 +56,12 @@ length-head_bytes version k f = omega (arith, length-number_bytes 8 f)
 
 -- the body of a kind that has these fields, and of others any
 back : MessageKind → List Field → Body
-back kinds.EnterEcho (number to ∷ flag joined ∷ ids entered ∷ ids members ∷ ids left ∷ view version v ∷ []) = bodies.EnterEcho to joined (record { entered = entered; joined = members; left = left }) v
+back kinds.EnterEcho (number to ∷ flag joined ∷ ids entered ∷ ids members ∷ ids left ∷ view version v ∷ []) = bodies.EnterEcho (record { to = to; joined = joined; facts = record { entered = entered; joined = members; left = left }; view = v })
 back kinds.Join fs = bodies.Join
 back kinds.JoinEcho (number about ∷ []) = bodies.JoinEcho about
 back kinds.Leave fs = bodies.Leave
 back kinds.LeaveEcho (number about ∷ []) = bodies.LeaveEcho about
-back kinds.Store (number tag ∷ view version v ∷ []) = bodies.Store tag v
+back kinds.Store (number tag ∷ view version v ∷ []) = bodies.Store (record { tag = tag; view = v })
 back kinds.StoreAck (number to ∷ number tag ∷ []) = bodies.StoreAck (record { to = to; tag = tag })
 back kinds.StoreEcho (view version v ∷ []) = bodies.StoreEcho v
 back kinds.CollectQuery (number tag ∷ []) = bodies.CollectQuery tag
@@ -71,12 +72,12 @@ back _ _ = bodies.Enter
 laid_out : (version : Version) (b : Body) → (slots version (kind_of b) ≡ map slot_of (fields version b)) × (back (kind_of b) (fields version b) ≡ b)
 unfolding back
 laid_out version bodies.Enter = (refl, refl)
-laid_out version (bodies.EnterEcho to joined facts v) = (refl, refl)
+laid_out version (bodies.EnterEcho e) = (refl, refl)
 laid_out version bodies.Join = (refl, refl)
 laid_out version (bodies.JoinEcho about) = (refl, refl)
 laid_out version bodies.Leave = (refl, refl)
 laid_out version (bodies.LeaveEcho about) = (refl, refl)
-laid_out version (bodies.Store tag v) = (refl, refl)
+laid_out version (bodies.Store s) = (refl, refl)
 laid_out version (bodies.StoreAck a) = (refl, refl)
 laid_out version (bodies.StoreEcho v) = (refl, refl)
 laid_out version (bodies.CollectQuery tag) = (refl, refl)

@@ -3,9 +3,9 @@ use Rattle.std.proofs.Common.{◌≡◌, ℕ, List, [], ◌∷◌, ◌++◌, len
 use Rattle.std.proofs.lemmas.List.{append-nil}
 use Rattle.std.proofs.lemmas.List.Concat.{flat_map-append}
 use Rattle.std.specs.List.{flat_map, AllByRecursion}
-use Rattle.sc_msg.specs.Numbers.{number_bytes}
+use Rattle.spelling.specs.Numbers.{number_bytes}
 use Rattle.sc_msg.specs.Entries.{Layout, entry_bytes, list_bytes, IsEntry}
-use Rattle.sc_msg.proofs.Lists.{all-push}
+use Rattle.spelling.proofs.Codes.{all_push}
 
 -- of the entries all but rest are written behind old
 pub record WrittenTo {A : Type 0} (layout : Layout A) (count : ℕ) (entries : List A) (old new : List ℕ) (rest : List A) : Type 0 where
@@ -26,7 +26,7 @@ module _ {A : Type 0} (layout : Layout A) (count : ℕ) (entries : List A) (old 
       record {
         done = w.done ++ e ∷ [];
         split = w.split ∙ sym (append_assoc w.done (e ∷ []) rest);
-        legal = all-push (IsEntry layout) w.done e w.legal is;
+        legal = all_push (IsEntry layout) w.done e w.legal is;
         written = more ∙ ap (λ (l : List ℕ). l ++ entry_bytes layout e) w.written ∙ append_assoc old (number_bytes 2 count ++ flat_map (entry_bytes layout) w.done) (entry_bytes layout e)
             ∙ ap (λ (l : List ℕ). old ++ l) (append_assoc (number_bytes 2 count) (flat_map (entry_bytes layout) w.done) (entry_bytes layout e) ∙ ap (λ (l : List ℕ). number_bytes 2 count ++ l) (sym spelled));
       }

@@ -10,7 +10,7 @@ use Rattle.sc_view.specs.declared.view.Stored.{Stored}
 use Rattle.sc_msg.specs.declared.fault.MessageFault.{MessageFault}
 use Rattle.sc_msg.specs.declared.fault.MessageFault.TheVariants.{Short, Unsorted, BadField}
 use Rattle.sc_msg.specs.declared.version.Version.{Version}
-use Rattle.sc_msg.specs.Numbers.{number_bytes, first_number}
+use Rattle.spelling.specs.Numbers.{number_bytes, first_number}
 use Rattle.sc_msg.specs.Values.{value_bytes, value_fault, first_of, IsLength}
 
 -- a list of entries: how many there are at most, the id of each, how what stands behind the id is spelled, which entries

@@ -11,7 +11,7 @@ use Rattle.sc_msg.specs.declared.kind.MessageKind.TheVariants as kinds
 use Rattle.sc_msg.specs.declared.fault.MessageFault.{MessageFault}
 use Rattle.sc_msg.specs.declared.fault.MessageFault.TheVariants.{Short, BadField, OutOfMemory}
 use Rattle.sc_msg.specs.declared.version.Version.{Version}
-use Rattle.sc_msg.specs.Numbers.{number_bytes}
+use Rattle.spelling.specs.Numbers.{number_bytes}
 use Rattle.sc_msg.specs.Entries.{ids_bytes, view_bytes, ids_layout, view_layout, AreIds, AreRecords, IsEntryFault, Layout, count_fault}
 
 pub data Slot : Type 0 where
@@ -51,12 +51,12 @@ facts_fields f = ids f.entered ∷ ids f.joined ∷ ids f.left ∷ []
 
 abbrev pub fields : Version → Body → List Field
 fields version bodies.Enter = []
-fields version (bodies.EnterEcho to joined facts v) = number to ∷ flag joined ∷ facts_fields facts ++ view version v ∷ []
+fields version (bodies.EnterEcho e) = number e.to ∷ flag e.joined ∷ facts_fields e.facts ++ view version e.view ∷ []
 fields version bodies.Join = []
 fields version (bodies.JoinEcho about) = number about ∷ []
 fields version bodies.Leave = []
 fields version (bodies.LeaveEcho about) = number about ∷ []
-fields version (bodies.Store tag v) = number tag ∷ view version v ∷ []
+fields version (bodies.Store s) = number s.tag ∷ view version s.view ∷ []
 fields version (bodies.StoreAck a) = number a.to ∷ number a.tag ∷ []
 fields version (bodies.StoreEcho v) = view version v ∷ []
 fields version (bodies.CollectQuery tag) = number tag ∷ []

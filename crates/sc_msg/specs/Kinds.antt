@@ -7,12 +7,12 @@ use Rattle.sc_msg.specs.declared.kind.MessageKind.TheVariants.{Enter, EnterEcho,
 
 abbrev pub kind_of : Body → MessageKind
 kind_of bodies.Enter = Enter
-kind_of (bodies.EnterEcho to joined facts view) = EnterEcho
+kind_of (bodies.EnterEcho e) = EnterEcho
 kind_of bodies.Join = Join
 kind_of (bodies.JoinEcho about) = JoinEcho
 kind_of bodies.Leave = Leave
 kind_of (bodies.LeaveEcho about) = LeaveEcho
-kind_of (bodies.Store tag view) = Store
+kind_of (bodies.Store s) = Store
 kind_of (bodies.StoreAck a) = StoreAck
 kind_of (bodies.StoreEcho view) = StoreEcho
 kind_of (bodies.CollectQuery tag) = CollectQuery

@@ -11,8 +11,8 @@ use Rattle.sc_msg.specs.Values.{value_lengths}
 
 -- the view that a body tells
 abbrev pub view_of : Body → Option ViewMap
-view_of (bodies.EnterEcho to joined facts v) = Some v
-view_of (bodies.Store tag v) = Some v
+view_of (bodies.EnterEcho e) = Some e.view
+view_of (bodies.Store s) = Some s.view
 view_of (bodies.StoreEcho v) = Some v
 view_of (bodies.CollectReply r) = Some r.view
 view_of b = None

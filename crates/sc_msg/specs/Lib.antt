@@ -1,5 +1,4 @@
 -- Messages, their bytes and the first fault of other bytes.
-pub mod Numbers
 pub mod Values
 pub mod Kinds
 pub mod Entries

@@ -7,7 +7,7 @@ ghost use Rattle.sc_msg.specs.Fault.{head_fault, most_bytes};
 
 use crate::fault::MessageFault;
 use crate::kind::MessageKind;
-use crate::message::{Body, CollectReply, MOST_MESSAGE_BYTES, StoreAck};
+use crate::message::{Body, CollectReply, EnterEcho, MOST_MESSAGE_BYTES, Store, StoreAck};
 use crate::reader::Reader;
 use crate::version::Version;
 use std::alloc::Global;
@@ -48,12 +48,12 @@ impl<'a> Reader<'a> {
         let joined = self.flag()?;
         let facts = self.facts(alloc)?;
         let view = self.view(alloc, version)?;
-        Ok(Body::EnterEcho {
+        Ok(Body::EnterEcho(EnterEcho {
             to,
             joined,
             facts,
             view,
-        })
+        }))
     }
 
     fn store(&mut self, alloc: Global, version: Version) -> Result<Body, MessageFault>
@@ -62,7 +62,7 @@ impl<'a> Reader<'a> {
     {
         let tag = self.number()?;
         let view = self.view(alloc, version)?;
-        Ok(Body::Store { tag, view })
+        Ok(Body::Store(Store { tag, view }))
     }
 
     fn store_ack(&mut self, version: Version) -> Result<Body, MessageFault>

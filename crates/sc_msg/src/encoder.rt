@@ -6,7 +6,7 @@ ghost use Rattle.std.specs.FinSet as set;
 ghost use Rattle.sc_members.specs.Members.{most_facts};
 ghost use Rattle.sc_view.specs.Values.{most_bytes as longest_value};
 ghost use Rattle.sc_view.specs.Views.{HasValuesWithin};
-ghost use Rattle.sc_msg.specs.Numbers.{number_bytes};
+ghost use Rattle.spelling.specs.Numbers.{number_bytes};
 ghost use Rattle.sc_msg.specs.Values.{length_bytes, value_bytes, value_lengths, IsLength};
 ghost use Rattle.sc_msg.specs.Entries.{ids_bytes, stored_bytes, view_bytes, AreIds, AreRecords, IsStored};
 ghost use Rattle.sc_msg.specs.Fields.{fields, fields_bytes, facts_fields, IsField};
@@ -16,10 +16,10 @@ ghost use Rattle.sc_msg.specs.Lengths.{BodyFits, Fits};
 
 use crate::message::{Body, Message};
 use crate::version::Version;
-use byteorder::{ByteOrder, LittleEndian};
 use reasons::{Reason, told};
 use sc_members::{Facts, IdSet};
 use sc_view::{Stored, Value, View};
+use spelling::{put_u16, put_u64};
 use std::alloc::{AllocError, Global};
 
 /// Why a message has no bytes.
@@ -53,24 +53,11 @@ impl From<AllocError> for EncodeFault {
 
 // After an error the vector may hold a part of what was to be written.
 
-#[tactic(auto, unfolding(crate::specs::Numbers::number_bytes))]
-fn push_number(out: &mut Vec<u8>, number: u64) -> Result<(), AllocError>
-    ensures fits { number < 2 ^ 64 }
-    ensures spelled { OnOk result (out.new.items ≡ out.old.items ++ number_bytes 8 number) }
-{
-    let mut bytes = [0; 8];
-    LittleEndian::write_u64(&mut bytes, number);
-    out.extend_from_slice(&bytes)
-}
-
-#[tactic(auto, unfolding(crate::specs::Numbers::number_bytes))]
 fn push_count(out: &mut Vec<u8>, count: usize) -> Result<(), AllocError>
     requires { count < 2 ^ 16 }
     ensures { OnOk result (out.new.items ≡ out.old.items ++ number_bytes 2 count) }
 {
-    let mut bytes = [0; 2];
-    LittleEndian::write_u16(&mut bytes, count as u16);
-    out.extend_from_slice(&bytes)
+    put_u16(out, count as u16)
 }
 
 fn push_ids(out: &mut Vec<u8>, ids: &IdSet) -> Result<(), AllocError>
@@ -80,7 +67,7 @@ fn push_ids(out: &mut Vec<u8>, ids: &IdSet) -> Result<(), AllocError>
 {
     push_count(out, ids.len())?;
     for id in ids.iter() {
-        push_number(out, id)?;
+        put_u64(out, id)?;
     }
     Ok(())
 }
@@ -110,7 +97,7 @@ fn push_stored(out: &mut Vec<u8>, version: Version, stored: &Stored) -> Result<(
     ensures legal { OnOk result (IsStored version stored.now) }
     ensures spelled { OnOk result (out.new.items ≡ out.old.items ++ stored_bytes version stored.now) }
 {
-    push_number(out, stored.number())?;
+    put_u64(out, stored.number())?;
     push_value(out, version, stored.value())
 }
 
@@ -121,7 +108,7 @@ fn push_view(out: &mut Vec<u8>, version: Version, view: &View) -> Result<(), All
 {
     push_count(out, view.len())?;
     for (id, stored) in view.records() {
-        push_number(out, id)?;
+        put_u64(out, id)?;
         push_stored(out, version, stored)?;
     }
     Ok(())
@@ -143,32 +130,27 @@ fn push_body(out: &mut Vec<u8>, version: Version, body: &Body) -> Result<(), All
 {
     match body {
         Body::Enter | Body::Join | Body::Leave => Ok(()),
-        Body::EnterEcho {
-            to,
-            joined,
-            facts,
-            view,
-        } => {
-            push_number(out, *to)?;
-            out.push(u8::from(*joined))?;
-            push_facts(out, facts)?;
-            push_view(out, version, view)
+        Body::EnterEcho(echo) => {
+            put_u64(out, echo.to)?;
+            out.push(u8::from(echo.joined))?;
+            push_facts(out, &echo.facts)?;
+            push_view(out, version, &echo.view)
         }
-        Body::JoinEcho { about } => push_number(out, *about),
-        Body::LeaveEcho { about } => push_number(out, *about),
-        Body::Store { tag, view } => {
-            push_number(out, *tag)?;
-            push_view(out, version, view)
+        Body::JoinEcho { about } => put_u64(out, *about),
+        Body::LeaveEcho { about } => put_u64(out, *about),
+        Body::Store(store) => {
+            put_u64(out, store.tag)?;
+            push_view(out, version, &store.view)
         }
         Body::StoreAck(ack) => {
-            push_number(out, ack.to)?;
-            push_number(out, ack.tag)
+            put_u64(out, ack.to)?;
+            put_u64(out, ack.tag)
         }
         Body::StoreEcho { view } => push_view(out, version, view),
-        Body::CollectQuery { tag } => push_number(out, *tag),
+        Body::CollectQuery { tag } => put_u64(out, *tag),
         Body::CollectReply(reply) => {
-            push_number(out, reply.to)?;
-            push_number(out, reply.tag)?;
+            put_u64(out, reply.to)?;
+            put_u64(out, reply.tag)?;
             push_view(out, version, &reply.view)
         }
     }
@@ -189,7 +171,7 @@ pub fn encode_fitting(
 {
     let mut out = Vec::new(alloc);
     out.extend_from_slice(&[0x42, 0x51, version.byte(), message.kind().byte()])?;
-    push_number(&mut out, message.from)?;
+    put_u64(&mut out, message.from)?;
     push_body(&mut out, version, &message.body)?;
     Ok(out)
 }

@@ -40,5 +40,5 @@ pub use encoder::{EncodeFault, encode, encode_fitting, encode_v1};
 pub use fault::MessageFault;
 pub use front::first_message;
 pub use kind::MessageKind;
-pub use message::{Body, CollectReply, MOST_MESSAGE_BYTES, Message, StoreAck};
+pub use message::{Body, CollectReply, EnterEcho, MOST_MESSAGE_BYTES, Message, Store, StoreAck};
 pub use version::Version;

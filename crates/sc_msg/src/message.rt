@@ -11,6 +11,28 @@ use std::alloc::AllocError;
 /// The most bytes of a message that are read. No message is written with more than 57,629.
 pub const MOST_MESSAGE_BYTES: usize = 60_000;
 
+/// What the sender of a [`Body::EnterEcho`] knows.
+#[derive(Drop)]
+pub struct EnterEcho {
+    /// The node that enters.
+    pub to: u64,
+    /// Whether the sender has joined.
+    pub joined: bool,
+    /// Who entered, joined and left, as the sender knows.
+    pub facts: Facts,
+    /// The sender's view.
+    pub view: View,
+}
+
+/// What the sender of a [`Body::Store`] stores.
+#[derive(Drop)]
+pub struct Store {
+    /// Its operation.
+    pub tag: u64,
+    /// The view that it stores.
+    pub view: View,
+}
+
 /// What the sender of a [`Body::StoreAck`] has learned.
 #[derive(Drop, Clone, Copy)]
 pub struct StoreAck {
@@ -37,39 +59,23 @@ pub enum Body {
     /// The sender enters.
     Enter,
     /// Tells an entering node what the sender knows, and whether the sender has joined.
-    EnterEcho {
-        to: u64,
-        joined: bool,
-        facts: Facts,
-        view: View,
-    },
+    EnterEcho(EnterEcho),
     /// The sender has joined.
     Join,
     /// A node has joined, as the sender heard.
-    JoinEcho {
-        about: u64,
-    },
+    JoinEcho { about: u64 },
     /// The sender leaves.
     Leave,
     /// A node leaves, as the sender heard.
-    LeaveEcho {
-        about: u64,
-    },
+    LeaveEcho { about: u64 },
     /// The view that an operation of the sender stores, or stores back.
-    Store {
-        tag: u64,
-        view: View,
-    },
+    Store(Store),
     /// The sender has learned what that operation of the node stores.
     StoreAck(StoreAck),
     /// What the sender knows after a store.
-    StoreEcho {
-        view: View,
-    },
+    StoreEcho { view: View },
     /// An operation of the sender asks for views.
-    CollectQuery {
-        tag: u64,
-    },
+    CollectQuery { tag: u64 },
     /// The sender's view, for that operation of the node.
     CollectReply(CollectReply),
 }
@@ -95,8 +101,9 @@ impl Body {
         ensures { option_copied result ≡ view_of self.now }
     {
         match self {
-            Body::EnterEcho { view, .. } | Body::Store { view, .. } | Body::StoreEcho { view } =>
-                Some(view),
+            Body::EnterEcho(echo) => Some(&echo.view),
+            Body::Store(store) => Some(&store.view),
+            Body::StoreEcho { view } => Some(view),
             Body::CollectReply(reply) => Some(&reply.view),
             _ => None,
         }
@@ -142,6 +149,30 @@ fn view_fits(view: &View, version: Version) -> bool
     }
 }
 
+impl Clone for EnterEcho {
+    ghost is_clone = { λ echo copy. copy ≡ echo };
+
+    fn clone(&self) -> Result<EnterEcho, AllocError> {
+        Ok(EnterEcho {
+            to: self.to,
+            joined: self.joined,
+            facts: self.facts.clone()?,
+            view: self.view.clone()?,
+        })
+    }
+}
+
+impl Clone for Store {
+    ghost is_clone = { λ store copy. copy ≡ store };
+
+    fn clone(&self) -> Result<Store, AllocError> {
+        Ok(Store {
+            tag: self.tag,
+            view: self.view.clone()?,
+        })
+    }
+}
+
 impl Clone for CollectReply {
     ghost is_clone = { λ reply copy. copy ≡ reply };
 
@@ -160,25 +191,12 @@ impl Clone for Body {
     fn clone(&self) -> Result<Body, AllocError> {
         Ok(match self {
             Body::Enter => Body::Enter,
-            Body::EnterEcho {
-                to,
-                joined,
-                facts,
-                view,
-            } => Body::EnterEcho {
-                to: *to,
-                joined: *joined,
-                facts: facts.clone()?,
-                view: view.clone()?,
-            },
+            Body::EnterEcho(echo) => Body::EnterEcho(echo.clone()?),
             Body::Join => Body::Join,
             Body::JoinEcho { about } => Body::JoinEcho { about: *about },
             Body::Leave => Body::Leave,
             Body::LeaveEcho { about } => Body::LeaveEcho { about: *about },
-            Body::Store { tag, view } => Body::Store {
-                tag: *tag,
-                view: view.clone()?,
-            },
+            Body::Store(store) => Body::Store(store.clone()?),
             Body::StoreAck(ack) => Body::StoreAck(*ack),
             Body::StoreEcho { view } => Body::StoreEcho {
                 view: view.clone()?,

@@ -1,7 +1,7 @@
 //! The parts of a message, read from left to right.
 
 ghost use Rattle.std.specs.Prelude.{◌≡◌, ◌≤◌, ◌<◌, ◌^◌, ◌++◌, [], ◌∷◌, Some, length, All, true, IfOk, IfErr, OnOk, OnErr, if◌then◌else◌};
-ghost use Rattle.sc_msg.specs.Numbers.{first_number, number_bytes};
+ghost use Rattle.spelling.specs.Numbers.{first_number, number_bytes};
 ghost use Rattle.sc_view.specs.Values.{most_bytes};
 ghost use Rattle.sc_msg.specs.Values.{length_bytes, length_fault, value_bytes, value_fault, IsLength};
 ghost use Rattle.sc_msg.specs.Entries.{count_fault, id_fault, is_above, ids_bytes, ids_layout, stored_bytes, stored_fault, view_bytes, view_layout, AreIds, AreRecords, IsStored};
@@ -9,24 +9,10 @@ ghost use Rattle.sc_msg.specs.Fields.{facts_fields, facts_slots, fields_bytes, f
 
 use crate::fault::MessageFault;
 use crate::version::Version;
-use byteorder::{ByteOrder, LittleEndian};
 use sc_members::{Facts, IdSet, MOST_FACTS};
 use sc_view::{MOST_ENTRIES, MOST_VALUE_BYTES, Stored, VALUE_LENGTH, Value, View};
+use spelling::{take_front, take_u16, take_u64};
 use std::alloc::Global;
-
-/// The first bytes, so many, and those behind them.
-fn split(bytes: &[u8], count: usize) -> Result<(&[u8], &[u8]), MessageFault>
-    ensures len { IfOk result (λ x. length x.0.now ≡ count) }
-    ensures parts { IfOk result (λ x. bytes.now ≡ x.0.now ++ x.1.now) }
-    ensures bytes { IfOk result (λ x. All (λ b. b < 256) x.0.now) }
-    ensures short { IfErr result (λ e. e ≡ MessageFault.Short) }
-    ensures few { OnErr result (length bytes.now < count) }
-{
-    if bytes.len() < count {
-        return Err(MessageFault::Short);
-    }
-    Ok(bytes.split_at(count))
-}
 
 /// What is left of the bytes of a message. After a fault it is not used again.
 #[derive(Drop)]
@@ -43,9 +29,7 @@ impl<'a> Reader<'a> {
         ensures short { IfErr result (λ e. e ≡ MessageFault.Short) }
         ensures few { OnErr result (length self.old.rest.now < count) }
     {
-        let (front, rest) = split(self.rest, count)?;
-        self.rest = rest;
-        Ok(front)
+        take_front(&mut self.rest, count).ok_or(MessageFault::Short)
     }
 
     /// A number of two bytes.
@@ -56,8 +40,7 @@ impl<'a> Reader<'a> {
         ensures short { IfErr result (λ e. e ≡ MessageFault.Short) }
         ensures few { OnErr result (length self.old.rest.now < 2) }
     {
-        let front = self.take(2)?;
-        Ok(LittleEndian::read_u16(front))
+        take_u16(&mut self.rest).ok_or(MessageFault::Short)
     }
 
     /// A number of eight bytes.
@@ -69,8 +52,7 @@ impl<'a> Reader<'a> {
         ensures short { IfErr result (λ e. e ≡ MessageFault.Short) }
         ensures few { OnErr result (length self.old.rest.now < 8) }
     {
-        let front = self.take(8)?;
-        Ok(LittleEndian::read_u64(front))
+        take_u64(&mut self.rest).ok_or(MessageFault::Short)
     }
 
     /// A byte that is 0 or 1.

@@ -18,7 +18,7 @@ ghost use Rattle.sc_msg.specs.declared.version.Version.TheVariants.{First, Secon
 
 /// What the definitions say of kinds, of the messages by which node 3 enters and tells that node 7 joined or that it
 /// knows of no store, of the values that messages tell, and of bytes that are none.
-#[tactic(auto, unfolding(crate::specs::Numbers::number_bytes, crate::specs::Numbers::first_number))]
+#[tactic(auto, unfolding(spelling::specs::Numbers::number_bytes, spelling::specs::Numbers::first_number))]
 pub fn worked()
     ensures kind_of_join_echo { kind_of (body.JoinEcho 7) ≡ kind.JoinEcho }
     ensures kind_of_leave_echo { kind_of (body.LeaveEcho 7) ≡ kind.LeaveEcho }

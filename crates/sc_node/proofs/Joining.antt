@@ -10,6 +10,7 @@ use Rattle.sc_members.specs.declared.facts.FactsFault.{FactsFault}
 use Rattle.sc_members.specs.declared.facts.FactsFault.TheVariants as facts
 use Rattle.sc_view.specs.Views.{ViewMap, most_entries, merge}
 use Rattle.sc_msg.specs.declared.message.Body.TheVariants.{EnterEcho}
+use Rattle.sc_msg.specs.declared.message.EnterEcho.{EnterEcho as EchoFields}
 use Rattle.sc_node.specs.declared.answer.Delivered.{Delivered}
 use Rattle.reasons.specs.declared.Reason.{Reason}
 use Rattle.reasons.specs.declared.Reason.TheVariants as reasons
@@ -57,15 +58,15 @@ overfull_after false f id is = is
 is_room : (a b : ℕ) → (a < b → ⊥) → nat_lt a b ≡ false
 is_room a b h = grind (arith, h)
 
--- an echo for this node with too many facts is refused, whether the node joins or not
-pub too_many : (n : NodeState) (from : ℕ) (j : Bool) (f : Facts) (v : ViewMap) → n.gone ≡ false → (most_entries < fin.len (merge n.view v) → ⊥)
-    → is_overfull (union_facts n.facts f) ≡ true → delivered n (message_from from (EnterEcho n.id j f v)) ≡ Err reasons.FactsFull
-too_many n from j f v here room over =
-    let said = EnterEcho n.id j f v in
+-- an echo with too many facts is refused, whether the node joins or not
+pub too_many : (n : NodeState) (from : ℕ) (e : EchoFields) → n.gone ≡ false → (most_entries < fin.len (merge n.view e.view) → ⊥)
+    → is_overfull (union_facts n.facts e.facts) ≡ true → delivered n (message_from from (EnterEcho e)) ≡ Err reasons.FactsFull
+too_many n from e here room over =
+    let said = EnterEcho e in
     let taken : Result (Delivered × NodeState) Reason = Ok (delivery n from said, node_after n from said) in
-    tested_pass ((not n.gone, reasons.Gone) ∷ fitting (merge n.view v)) (tested ((not (is_overfull (facts_after n from said)), reasons.FactsFull) ∷ []) taken)
-    (ap not here, (ap not (is_room most_entries (fin.len (merge n.view v)) room), tt))
-    ∙ ap (λ b. cond (not b) taken (Err reasons.FactsFull)) (overfull_after (joins n from said) (union_facts n.facts f) n.id over)
+    tested_pass ((not n.gone, reasons.Gone) ∷ fitting (merge n.view e.view)) (tested ((not (is_overfull (facts_after n from said)), reasons.FactsFull) ∷ []) taken)
+    (ap not here, (ap not (is_room most_entries (fin.len (merge n.view e.view)) room), tt))
+    ∙ ap (λ b. cond (not b) taken (Err reasons.FactsFull)) (overfull_after (joins n from said) (union_facts n.facts e.facts) n.id over)
 
 -- a call that facts refuse
 pub refused : (said : Result (Delivered × NodeState) Reason) (n : NodeState) (why : FactsFault) (r : Result Delivered Reason)

@@ -26,7 +26,7 @@ use Rattle.sc_node.specs.declared.answer.Begun.{Begun}
 use Rattle.sc_node.specs.declared.answer.Delivered.{Delivered}
 use Rattle.sc_node.specs.Sessions.{apply, advanced_by, with_phase, open_phase, stored, ends, ended_by, ended_at, ended_with, querying, storing, count_sender, is_reached}
 use Rattle.sc_node.specs.State.{NodeState}
-use Rattle.sc_node.specs.Nodes.{fresh, founded, entered, store_begun, collect_begun, left, delivered, delivery, node_after, view_after, is_reply, sessions_after, session_moved, ended_session, progress_of, ack_progress, reply_progress, ack_for, reply_for, answers, store_of, store_back, joins, message_from, beta_threshold, hearing, opening, fitting, leaving, stored_view, store_session, collect_session, next_stored}
+use Rattle.sc_node.specs.Nodes.{fresh, founded, entered, store_begun, collect_begun, left, delivered, delivery, node_after, view_after, is_reply, sessions_after, session_moved, ended_session, progress_of, ack_progress, reply_progress, ack_for, reply_for, store_under, answers, store_of, store_back, joins, message_from, beta_threshold, hearing, opening, fitting, leaving, stored_view, store_session, collect_session, next_stored}
 use Rattle.sc_node.specs.Lengths.{SessionHasValuesWithin, TableHasValuesWithin, NodeHasValuesWithin, BegunHasValuesWithin, AdvanceHasValuesWithin, ProgressHasValuesWithin, EndedHasValuesWithin, DeliveryHasValuesWithin}
 
 -- a call that passed its tests does this
@@ -110,8 +110,8 @@ module _ (l : Lengths) where
   view_if false v w h k = k
 
   view_kept : (s : NodeState) (b : Body) → NodeHasValuesWithin l s → BodyHasValuesWithin l b → HasValuesWithin l (view_after s b)
-  view_kept s (EnterEcho to j f v) h told = merge_within l s.view v h.view told
-  view_kept s (Store t v) h told = merge_within l s.view v h.view told
+  view_kept s (EnterEcho e) h told = merge_within l s.view e.view h.view told
+  view_kept s (Store t) h told = merge_within l s.view t.view h.view told
   view_kept s (StoreEcho v) h told = merge_within l s.view v h.view told
   view_kept s (CollectReply r) h told = view_if (is_reply s r) (merge s.view r.view) s.view (merge_within l s.view r.view h.view told) h.view
   view_kept s b h told = h.view
@@ -154,10 +154,10 @@ module _ (l : Lengths) where
 
   answers_told : (s : NodeState) (from : ℕ) (b : Body) → NodeHasValuesWithin l s → BodyHasValuesWithin l b → AllByRecursion (BodyHasValuesWithin l) (answers s from b)
   answers_told s from Enter h told = (h.view, tt)
-  answers_told s from (EnterEcho to j f v) h told = bodies_if (joins s from (EnterEcho to j f v)) (Join ∷ []) (tt, tt)
+  answers_told s from (EnterEcho e) h told = bodies_if (joins s from (EnterEcho e)) (Join ∷ []) (tt, tt)
   answers_told s from Join h told = (tt, tt)
   answers_told s from Leave h told = (tt, tt)
-  answers_told s from (Store t v) h told = bodies_if s.joined (StoreAck (ack_for from t) ∷ StoreEcho (merge s.view v) ∷ []) (tt, (merge_within l s.view v h.view told, tt))
+  answers_told s from (Store t) h told = bodies_if s.joined (StoreAck (ack_for from t.tag) ∷ StoreEcho (merge s.view t.view) ∷ []) (tt, (merge_within l s.view t.view h.view told, tt))
   answers_told s from (CollectQuery t) h told = bodies_if s.joined (CollectReply (reply_for s from t) ∷ []) (h.view, tt)
   answers_told s from (CollectReply r) h told = stored_back (progress_of s from (CollectReply r)) (progress_told s from (CollectReply r) h told)
   answers_told s from b h told = tt
@@ -200,7 +200,7 @@ module _ (l : Lengths) where
       subst (λ (a : Begun × NodeState). NodeHasValuesWithin l a.1 × BegunHasValuesWithin l a.0)
       (does (opening s ++ fitting (stored_view s value)) _ (b, t) is) (
         record { view = view; sessions = table_with s.sessions s.operations (store_session s value) h.sessions session },
-        record { session = session; outs = outs_of s.id (Store s.operations (stored_view s value) ∷ []) (view, tt) },
+        record { session = session; outs = outs_of s.id (Store (store_under s.operations (stored_view s value)) ∷ []) (view, tt) },
       )
 
   pub collect_kept : (s t : NodeState) (b : Begun) → NodeHasValuesWithin l s → collect_begun s ≡ Ok (b, t) → NodeHasValuesWithin l t × BegunHasValuesWithin l b

@@ -12,6 +12,8 @@ use Rattle.sc_members.specs.Members.{Facts, Config, is_overfull, no_facts, found
 use Rattle.sc_msg.specs.declared.message.Message.{Message}
 use Rattle.sc_msg.specs.declared.message.Body.{Body}
 use Rattle.sc_msg.specs.declared.message.CollectReply.{CollectReply as ReplyFields}
+use Rattle.sc_msg.specs.declared.message.EnterEcho.{EnterEcho as EchoFields}
+use Rattle.sc_msg.specs.declared.message.Store.{Store as StoreFields}
 use Rattle.sc_msg.specs.declared.message.StoreAck.{StoreAck as AckFields}
 use Rattle.sc_msg.specs.declared.message.Body.TheVariants.{Enter, EnterEcho, Join, JoinEcho, Leave, LeaveEcho, Store, StoreAck, StoreEcho, CollectQuery, CollectReply}
 use Rattle.sc_operations.specs.declared.session.Phase.{Phase}
@@ -56,7 +58,7 @@ message_from id body = record { from = id; body = body }
 -- the message tells who entered, joined or left
 abbrev pub tells_facts : Body → Bool
 tells_facts Enter = true
-tells_facts (EnterEcho to j f v) = true
+tells_facts (EnterEcho e) = true
 tells_facts Join = true
 tells_facts (JoinEcho q) = true
 tells_facts Leave = true
@@ -66,7 +68,7 @@ tells_facts b = false
 -- the facts with those that a message tells
 abbrev pub facts_heard : NodeState → ℕ → Body → Facts
 facts_heard n from Enter = with_entered n.facts from
-facts_heard n from (EnterEcho to j f v) = union_facts n.facts f
+facts_heard n from (EnterEcho e) = union_facts n.facts e.facts
 facts_heard n from Join = with_joined n.facts from
 facts_heard n from (JoinEcho q) = with_joined n.facts q
 facts_heard n from Leave = with_left n.facts from
@@ -79,16 +81,16 @@ is_reply n r = r.to == n.id && is_some (querying (fin.get n.sessions r.tag))
 
 -- the message's view is merged
 abbrev pub tells_view : NodeState → Body → Bool
-tells_view n (EnterEcho to j f v) = true
-tells_view n (Store t v) = true
+tells_view n (EnterEcho e) = true
+tells_view n (Store s) = true
 tells_view n (StoreEcho v) = true
 tells_view n (CollectReply r) = is_reply n r
 tells_view n b = false
 
 -- the view after a message
 abbrev pub view_after : NodeState → Body → ViewMap
-view_after n (EnterEcho to j f v) = merge n.view v
-view_after n (Store t v) = merge n.view v
+view_after n (EnterEcho e) = merge n.view e.view
+view_after n (Store s) = merge n.view s.view
 view_after n (StoreEcho v) = merge n.view v
 view_after n (CollectReply r) = if is_reply n r then merge n.view r.view else n.view
 view_after n b = n.view
@@ -108,14 +110,14 @@ progress_of n from b = None
 
 -- the echoes that are counted by a node that waits to join
 abbrev pub echoes_after : NodeState → ℕ → Body → Ids
-echoes_after n from (EnterEcho to j f v) = if to == n.id && not n.joined then set.insert n.echoes from else n.echoes
+echoes_after n from (EnterEcho e) = if e.to == n.id && not n.joined then set.insert n.echoes from else n.echoes
 echoes_after n from b = n.echoes
 
 -- the first echo of a joined node sets how many a node waits for, by those present now
 abbrev pub join_threshold_after : NodeState → ℕ → Body → Option ℕ
-join_threshold_after n from (EnterEcho to j f v) =
-    if to == n.id && (not n.joined && (j && is_none n.join_threshold))
-    then Some (gamma_threshold n (union_facts n.facts f))
+join_threshold_after n from (EnterEcho e) =
+    if e.to == n.id && (not n.joined && (e.joined && is_none n.join_threshold))
+    then Some (gamma_threshold n (union_facts n.facts e.facts))
     else n.join_threshold
 join_threshold_after n from b = n.join_threshold
 
@@ -125,16 +127,20 @@ is_met (Some t) ids = nat_le t (set.len ids)
 
 -- the node joins at this message
 abbrev pub joins : NodeState → ℕ → Body → Bool
-joins n from (EnterEcho to j f v) =
-    to == n.id && (not n.joined && is_met (join_threshold_after n from (EnterEcho to j f v)) (echoes_after n from (EnterEcho to j f v)))
+joins n from (EnterEcho e) =
+    e.to == n.id && (not n.joined && is_met (join_threshold_after n from (EnterEcho e)) (echoes_after n from (EnterEcho e)))
 joins n from b = false
 
 -- all facts after a message, its own join among them
 abbrev pub facts_after : NodeState → ℕ → Body → Facts
 facts_after n from b = if joins n from b then with_joined (facts_heard n from b) n.id else facts_heard n from b
 
+-- what an operation with this tag stores
+abbrev pub store_under : ℕ → ViewMap → StoreFields
+store_under tag view = record { tag = tag; view = view }
+
 abbrev pub store_of : ℕ → Advance → List Body
-store_of tag (advance.Turned next view) = Store tag view ∷ []
+store_of tag (advance.Turned next view) = Store (store_under tag view) ∷ []
 store_of tag a = []
 
 -- what a collect that ended its query phase stores back
@@ -154,13 +160,17 @@ ack_for from tag = record { to = from; tag = tag }
 abbrev pub reply_for : NodeState → ℕ → ℕ → ReplyFields
 reply_for n from tag = record { to = from; tag = tag; view = n.view }
 
+-- what the node tells that node, which enters, where these are the facts
+abbrev pub echo_for : NodeState → ℕ → Facts → EchoFields
+echo_for n from f = record { to = from; joined = n.joined; facts = f; view = n.view }
+
 -- what a node answers
 abbrev pub answers : NodeState → ℕ → Body → List Body
-answers n from Enter = EnterEcho from n.joined (facts_heard n from Enter) n.view ∷ []
-answers n from (EnterEcho to j f v) = if joins n from (EnterEcho to j f v) then Join ∷ [] else []
+answers n from Enter = EnterEcho (echo_for n from (facts_heard n from Enter)) ∷ []
+answers n from (EnterEcho e) = if joins n from (EnterEcho e) then Join ∷ [] else []
 answers n from Join = JoinEcho from ∷ []
 answers n from Leave = LeaveEcho from ∷ []
-answers n from (Store t v) = if n.joined then StoreAck (ack_for from t) ∷ StoreEcho (merge n.view v) ∷ [] else []
+answers n from (Store s) = if n.joined then StoreAck (ack_for from s.tag) ∷ StoreEcho (merge n.view s.view) ∷ [] else []
 answers n from (CollectQuery t) = if n.joined then CollectReply (reply_for n from t) ∷ [] else []
 answers n from (CollectReply r) = store_back (progress_of n from (CollectReply r))
 answers n from b = []
@@ -237,7 +247,7 @@ joining n from threshold f v =
 -- the node stores back what a collect learned, and has that view from then on
 abbrev pub query_ended : NodeState → ℕ → ℕ → ViewMap → Delivered × NodeState
 query_ended n from tag view = (
-  record { outs = message_from n.id (Store tag view) ∷ []; progress = Some (turned n from tag view); ended = None },
+  record { outs = message_from n.id (Store (store_under tag view)) ∷ []; progress = Some (turned n from tag view); ended = None },
   record n { view = view; sessions = sessions_after n.sessions (Some (turned n from tag view)) },
 )
 
@@ -280,13 +290,13 @@ waiting_store threshold e view = session.Store e (back_begun view threshold)
 
 -- the store of a value is opened, with which the node's view is this
 abbrev pub store_opened : NodeState → Stored → ViewMap → Begun × NodeState
-store_opened n e view = (begun n (session_of n e view) (Store n.operations view), opened n view (n.stores + 1) (session_of n e view))
+store_opened n e view = (begun n (session_of n e view) (Store (store_under n.operations view)), opened n view (n.stores + 1) (session_of n e view))
 
 -- the node begins to store a value
 abbrev pub store_begun : NodeState → List ℕ → Result (Begun × NodeState) Reason
 store_begun n value =
     tested (opening n ++ fitting (stored_view n value)) (Ok (
-      begun n (store_session n value) (Store n.operations (stored_view n value)),
+      begun n (store_session n value) (Store (store_under n.operations (stored_view n value))),
       opened n (stored_view n value) (n.stores + 1) (store_session n value),
     ))
 

@@ -20,7 +20,7 @@
 //! ```rust
 //! pub fn first_store(alloc: Global, config: Config, id: u64, value: &Value) -> Result<(Node, Begun), NodeFault>
 //!     ensures view { IfOk result (λ r. r.0.view ≡ put fin.empty id (record { number = 1; value = value.now })) }
-//!     ensures sent { IfOk result (λ r. r.1.outs ≡ message_from id (Store 0 r.0.view) ∷ []) }
+//!     ensures sent { IfOk result (λ r. r.1.outs ≡ message_from id (Store (store_under 0 r.0.view)) ∷ []) }
 //! {
 //!     let mut node = Node::founder(alloc, config, id, &[id])?;
 //!     let begun = node.begin_store(value)?;

@@ -9,6 +9,7 @@ use Rattle.sc_msg.specs.declared.message.Message.{Message}
 use Rattle.sc_msg.specs.declared.message.Body.{Body}
 use Rattle.sc_msg.specs.declared.message.Body.TheVariants.{Store, StoreAck, CollectQuery, CollectReply}
 use Rattle.sc_msg.specs.declared.message.CollectReply.{CollectReply as ReplyFields}
+use Rattle.sc_msg.specs.declared.message.Store.{Store as StoreFields}
 use Rattle.sc_msg.specs.declared.message.StoreAck.{StoreAck as AckFields}
 use Rattle.sc_operations.specs.declared.session.OperationKind.TheVariants as kind
 use Rattle.sc_node.specs.Sessions.{kind_of, stored, repliers, ackers}
@@ -32,7 +33,7 @@ EndedBefore o c = (e : ℕ) × (o.end ≡ Some e) × (e < c.begin)
 
 -- an operation's tag, where a message belongs to it
 abbrev pub IsBodyAbout : ℕ → Body → ℕ → ℕ → Type 0
-IsBodyAbout from (Store t v) node tag = (from ≡ node) × (t ≡ tag)
+IsBodyAbout from (Store s) node tag = (from ≡ node) × (s.tag ≡ tag)
 IsBodyAbout from (StoreAck a) node tag = (a.to ≡ node) × (a.tag ≡ tag)
 IsBodyAbout from (CollectQuery t) node tag = (from ≡ node) × (t ≡ tag)
 IsBodyAbout from (CollectReply r) node tag = (r.to ≡ node) × (r.tag ≡ tag)
@@ -89,8 +90,8 @@ pub data OpFrom (w w' : WorldState) (o' : Op) : Type 0 where
 
 -- what is known of a message of q as it is sent
 abbrev pub IsBodySent : WorldState → WorldState → ℕ → Body → Type 0
-IsBodySent w w' q (Store t v) = (o : Op) → Among o w'.ops → o.node ≡ q → o.tag ≡ t → stored o.session ≡ Some v
-IsBodySent w w' q (StoreAck a) = (v : ViewMap) × Among (message_from a.to (Store a.tag v)) w.sent × IsBelow v (view_at w' q)
+IsBodySent w w' q (Store s) = (o : Op) → Among o w'.ops → o.node ≡ q → o.tag ≡ s.tag → stored o.session ≡ Some s.view
+IsBodySent w w' q (StoreAck a) = (s : StoreFields) × Among (message_from a.to (Store s)) w.sent × (s.tag ≡ a.tag) × IsBelow s.view (view_at w' q)
 IsBodySent w w' q (CollectReply r) = Among (message_from r.to (CollectQuery r.tag)) w.sent × IsBelow (view_at w q) r.view
 IsBodySent w w' q b = Unit {0}
 
@@ -119,7 +120,7 @@ pub record IsSound (w : WorldState) : Type 0 where
   pub numbers : (o : Op) → Among o w.ops → HasNumber o
   pub began : (o : Op) → Among o w.ops → o.begin < clock w
   pub acked : (o : Op) (v : ViewMap) (q : ℕ) → Among o w.ops → stored o.session ≡ Some v → Has (ackers o.session) q → IsBelow v (view_at w q)
-  pub stores : (p t : ℕ) (v : ViewMap) → Among (message_from p (Store t v)) w.sent → (o : Op) → Among o w.ops → o.node ≡ p → o.tag ≡ t → stored o.session ≡ Some v
+  pub stores : (p : ℕ) (s : StoreFields) → Among (message_from p (Store s)) w.sent → (o : Op) → Among o w.ops → o.node ≡ p → o.tag ≡ s.tag → stored o.session ≡ Some s.view
   pub acks : (q : ℕ) (a : AckFields) → Among (message_from q (StoreAck a)) w.sent → (o : Op) → Among o w.ops → o.node ≡ a.to → o.tag ≡ a.tag → (v : ViewMap) × (stored o.session ≡ Some v) × IsBelow v (view_at w q)
   pub replies : (q : ℕ) (r : ReplyFields) → Among (message_from q (CollectReply r)) w.sent → (c : Op) → Among c w.ops → c.node ≡ r.to → c.tag ≡ r.tag → KnownBy w c q r.view
   pub gathering : (c : Op) (q : ℕ) → Among c w.ops → stored c.session ≡ None → Has (repliers c.session) q → KnownBy w c q (view_at w c.node)

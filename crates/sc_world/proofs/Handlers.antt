@@ -23,7 +23,7 @@ use Rattle.sc_world.specs.declared.act.Opened.{Opened}
 use Rattle.sc_node.specs.Sessions.{back_of, stored, view_in, open_phase, counted, advanced_by, apply, ends, is_reached, count_sender, querying, storing}
 use Rattle.sc_node.specs.State.{NodeState}
 use Rattle.sc_node.specs.Nodes as node
-use Rattle.sc_node.specs.Nodes.{message_from, is_reply, view_after, progress_of, sessions_after, ack_progress, reply_progress, beta_threshold, joins, ack_for, reply_for, answers, store_back, store_of, delivery, node_after, begun, opened, store_session, collect_session, stored_view, next_stored, entered, entering}
+use Rattle.sc_node.specs.Nodes.{message_from, is_reply, view_after, progress_of, sessions_after, ack_progress, reply_progress, beta_threshold, joins, ack_for, reply_for, store_under, answers, store_back, store_of, delivery, node_after, begun, opened, store_session, collect_session, stored_view, next_stored, entered, entering}
 use Rattle.sc_world.specs.declared.event.WorldEvent.{WorldEvent}
 use Rattle.sc_world.specs.declared.op.Op.{Op}
 use Rattle.sc_world.specs.State.{WorldState}
@@ -41,7 +41,7 @@ heard n from b = of_delivered (delivery n from b, node_after n from b)
 
 abbrev pub store_outcome : NodeState → List ℕ → Outcome
 store_outcome n value =
-    of_begun (begun n (store_session n value) (Store n.operations (stored_view n value)), opened n (stored_view n value) (n.stores + 1) (store_session n value))
+    of_begun (begun n (store_session n value) (Store (store_under n.operations (stored_view n value))), opened n (stored_view n value) (n.stores + 1) (store_session n value))
 
 abbrev pub collect_outcome : NodeState → Outcome
 collect_outcome n = of_begun (begun n (collect_session n) (CollectQuery n.operations), opened n n.view n.stores (collect_session n))
@@ -57,8 +57,8 @@ below_if true v u h = h
 below_if false v u h = below_refl v
 
 view_grows : (n : NodeState) (b : Body) → IsBelow n.view (view_after n b)
-view_grows n (EnterEcho to j f v) = below_merge n.view v
-view_grows n (Store t v) = below_merge n.view v
+view_grows n (EnterEcho e) = below_merge n.view e.view
+view_grows n (Store s) = below_merge n.view s.view
 view_grows n (StoreEcho v) = below_merge n.view v
 view_grows n (CollectReply r) = below_if (is_reply n r) n.view (merge n.view r.view) (below_merge n.view r.view)
 view_grows n b = below_refl n.view
@@ -226,13 +226,13 @@ module _ (w : WorldState) (e : WorldEvent) (q : ℕ) (n : NodeState) (at : fin.g
 
   answers_sent : (b : Body) → Among (message_from from b) w.sent → Each (IsBodySent w (after w e q (heard n from b)) q) (answers n from b)
   answers_sent Enter sent = (tt, tt)
-  answers_sent (EnterEcho to j f v) sent = each_if (IsBodySent w (after w e q (heard n from (EnterEcho to j f v))) q) (joins n from (EnterEcho to j f v)) (Join ∷ []) (tt, tt)
+  answers_sent (EnterEcho f) sent = each_if (IsBodySent w (after w e q (heard n from (EnterEcho f))) q) (joins n from (EnterEcho f)) (Join ∷ []) (tt, tt)
   answers_sent Join sent = (tt, tt)
   answers_sent Leave sent = (tt, tt)
-  answers_sent (Store t v) sent =
-      let r : Outcome = heard n from (Store t v) in
-      each_if (IsBodySent w (after w e q r) q) n.joined (StoreAck (ack_for from t) ∷ StoreEcho (merge n.view v) ∷ [])
-      ((v, sent, subst (λ (y : ViewMap). IsBelow v y) (sym (view_next w e q n r at linked (heard_moves n from (Store t v)))) (merge_above n.view v)), (tt, tt))
+  answers_sent (Store s) sent =
+      let r : Outcome = heard n from (Store s) in
+      each_if (IsBodySent w (after w e q r) q) n.joined (StoreAck (ack_for from s.tag) ∷ StoreEcho (merge n.view s.view) ∷ [])
+      ((s, sent, refl, subst (λ (y : ViewMap). IsBelow s.view y) (sym (view_next w e q n r at linked (heard_moves n from (Store s)))) (merge_above n.view s.view)), (tt, tt))
   answers_sent (CollectQuery t) sent =
       each_if (IsBodySent w (after w e q (heard n from (CollectQuery t))) q) n.joined (CollectReply (reply_for n from t) ∷ [])
       ((sent, subst (λ (y : ViewMap). IsBelow y n.view) (sym (ap view_of at)) (below_refl n.view)), tt)
@@ -258,13 +258,13 @@ module _ (w : WorldState) (e : WorldEvent) (q : ℕ) (n : NodeState) (at : fin.g
 
   answers_known : (b : Body) → Among (message_from from b) w.sent → Each (IsBodyKnown (after w e q (heard n from b)) q) (answers n from b)
   answers_known Enter sent = ((λ p t about. absurd about), tt)
-  answers_known (EnterEcho to j f v) sent = each_if (IsBodyKnown (after w e q (heard n from (EnterEcho to j f v))) q) (joins n from (EnterEcho to j f v)) (Join ∷ []) ((λ p t about. absurd about), tt)
+  answers_known (EnterEcho f) sent = each_if (IsBodyKnown (after w e q (heard n from (EnterEcho f))) q) (joins n from (EnterEcho f)) (Join ∷ []) ((λ p t about. absurd about), tt)
   answers_known Join sent = ((λ p t about. absurd about), tt)
   answers_known Leave sent = ((λ p t about. absurd about), tt)
-  answers_known (Store t v) sent =
-      let r : Outcome = heard n from (Store t v) in
-      each_if (IsBodyKnown (after w e q r) q) n.joined (StoreAck (ack_for from t) ∷ StoreEcho (merge n.view v) ∷ [])
-      ((λ node tag about. let h = linked.known (message_from from (Store t v)) sent node tag about in known_next w e q n r at linked (heard_moves n from (Store t v)) node tag h.0 h.1 h.2), ((λ p t about. absurd about), tt))
+  answers_known (Store s) sent =
+      let r : Outcome = heard n from (Store s) in
+      each_if (IsBodyKnown (after w e q r) q) n.joined (StoreAck (ack_for from s.tag) ∷ StoreEcho (merge n.view s.view) ∷ [])
+      ((λ node tag about. let h = linked.known (message_from from (Store s)) sent node tag about in known_next w e q n r at linked (heard_moves n from (Store s)) node tag h.0 h.1 h.2), ((λ p t about. absurd about), tt))
   answers_known (CollectQuery t) sent =
       let r : Outcome = heard n from (CollectQuery t) in
       each_if (IsBodyKnown (after w e q r) q) n.joined (CollectReply (reply_for n from t) ∷ [])
@@ -343,14 +343,14 @@ module _ (w : WorldState) (e : WorldEvent) (q : ℕ) (n : NodeState) (at : fin.g
   pub store_change : (value : List ℕ) → IsChange w (after w e q (store_outcome n value))
   store_change value =
       is_change w e q n (store_outcome n value) at linked (store_moves n value) tt (record { replied = refl; acked = refl; number = store_number value })
-      (Store n.operations (stored_view n value) ∷ []) (own_name (Store n.operations (stored_view n value))) (store_sent value, tt)
+      (Store (store_under n.operations (stored_view n value)) ∷ []) (own_name (Store (store_under n.operations (stored_view n value)))) (store_sent value, tt)
 
   begun_known : (r : Outcome) (node tag : ℕ) → n.operations < r.node.operations → (q ≡ node) × (n.operations ≡ tag) → (m : NodeState) × (fin.get (after w e q r).nodes node ≡ Some m) × (tag < m.operations)
   begun_known r node tag lt about = (r.node, ap (fin.get (fin.insert w.nodes q r.node)) (sym about.0) ∙ get-insert_same w.nodes q r.node, omega (arith, about.1, lt))
 
   pub store_linked : (value : List ℕ) → IsLinked (after w e q (store_outcome n value))
   store_linked value =
-      is_linked w e q n (store_outcome n value) at linked (store_moves n value) tt (Store n.operations (stored_view n value) ∷ []) (own_name (Store n.operations (stored_view n value)))
+      is_linked w e q n (store_outcome n value) at linked (store_moves n value) tt (Store (store_under n.operations (stored_view n value)) ∷ []) (own_name (Store (store_under n.operations (stored_view n value))))
       ((λ p t about. begun_known (store_outcome n value) p t (omega arith) about), tt)
 
   pub collect_change : IsChange w (after w e q (collect_outcome n))

@@ -8,7 +8,7 @@ use Rattle.sc_msg.specs.declared.message.Message.{Message}
 use Rattle.sc_msg.specs.declared.message.Body.{Body}
 use Rattle.sc_msg.specs.declared.message.Body.TheVariants.{Enter, Leave, Store, CollectQuery}
 use Rattle.sc_node.specs.State.{NodeState}
-use Rattle.sc_node.specs.Nodes.{message_from, answers, stored_view}
+use Rattle.sc_node.specs.Nodes.{message_from, answers, store_under, stored_view}
 use Rattle.sc_world.specs.declared.event.WorldEvent.{WorldEvent}
 use Rattle.sc_world.specs.declared.event.WorldEvent.TheVariants as event
 use Rattle.sc_world.specs.declared.event.WorldStep.{WorldStep}
@@ -79,7 +79,7 @@ module _ (w : WorldState) (linked : IsLinked w) where
       taken_sends (event.Leave q) q leaves a w' k (left_outcome k.node) (leaves-ok k.node k.outcome k.gives) (one_own q k.node.id Leave (name_at q k.node k.at))
   step_sends (event.Store q value) a w' h =
       let k = acts-ok w (event.Store q value) q (stores value) a w' h in
-      taken_sends (event.Store q value) q (stores value) a w' k (store_outcome k.node value) (stores-ok value k.node k.outcome k.gives) (one_own q k.node.id (Store k.node.operations (stored_view k.node value)) (name_at q k.node k.at))
+      taken_sends (event.Store q value) q (stores value) a w' k (store_outcome k.node value) (stores-ok value k.node k.outcome k.gives) (one_own q k.node.id (Store (store_under k.node.operations (stored_view k.node value))) (name_at q k.node k.at))
   step_sends (event.Collect q) a w' h =
       let k = acts-ok w (event.Collect q) q collects a w' h in
       taken_sends (event.Collect q) q collects a w' k (collect_outcome k.node) (collects-ok k.node k.outcome k.gives) (one_own q k.node.id (CollectQuery k.node.operations) (name_at q k.node k.at))

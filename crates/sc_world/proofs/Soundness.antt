@@ -8,6 +8,7 @@ use Rattle.sc_members.specs.Ids.{Ids, Has}
 use Rattle.sc_msg.specs.declared.message.Message.{Message}
 use Rattle.sc_msg.specs.declared.message.Body.TheVariants.{Store, StoreAck, CollectQuery, CollectReply}
 use Rattle.sc_msg.specs.declared.message.CollectReply.{CollectReply as ReplyFields}
+use Rattle.sc_msg.specs.declared.message.Store.{Store as StoreFields}
 use Rattle.sc_msg.specs.declared.message.StoreAck.{StoreAck as AckFields}
 use Rattle.sc_node.specs.Sessions.{stored, repliers, ackers}
 use Rattle.sc_node.specs.Nodes.{message_from}
@@ -106,16 +107,16 @@ module _ (w w' : WorldState) (x : IsChange w w') (s : IsSound w) where
   origin c m sent about (Acknowledged o v q a k r) = record { op = o; was = a; node = r.same.node; tag = r.same.tag; begin = r.same.begin }
   origin c m sent about (Replied o v q a k r) = record { op = o; was = a; node = r.same.node; tag = r.same.tag; begin = r.same.begin }
 
-  store_old : (p t : ℕ) (v : ViewMap) → Among (message_from p (Store t v)) w.sent → (o : Op) → o.node ≡ p → o.tag ≡ t → OpFrom w w' o → stored o.session ≡ Some v
-  store_old p t v sent o np tt' (Kept h) = s.stores p t v sent o h np tt'
-  store_old p t v sent o np tt' (Begun b) = absurd (b.fresh (message_from p (Store t v)) sent (sym np, sym tt'))
-  store_old p t v sent o np tt' (Acknowledged o0 u q a k r) = let was : stored o0.session ≡ Some v = s.stores p t v sent o0 a (sym r.same.node ∙ np) (sym r.same.tag ∙ tt') in cc
-  store_old p t v sent o np tt' (Replied o0 u q a k r) = let was : stored o0.session ≡ Some v = s.stores p t v sent o0 a (sym r.same.node ∙ np) (sym r.same.tag ∙ tt') in absurd (cc)
+  store_old : (p : ℕ) (m : StoreFields) → Among (message_from p (Store m)) w.sent → (o : Op) → o.node ≡ p → o.tag ≡ m.tag → OpFrom w w' o → stored o.session ≡ Some m.view
+  store_old p m sent o np tt' (Kept h) = s.stores p m sent o h np tt'
+  store_old p m sent o np tt' (Begun b) = absurd (b.fresh (message_from p (Store m)) sent (sym np, sym tt'))
+  store_old p m sent o np tt' (Acknowledged o0 u q a k r) = let was : stored o0.session ≡ Some m.view = s.stores p m sent o0 a (sym r.same.node ∙ np) (sym r.same.tag ∙ tt') in cc
+  store_old p m sent o np tt' (Replied o0 u q a k r) = let was : stored o0.session ≡ Some m.view = s.stores p m sent o0 a (sym r.same.node ∙ np) (sym r.same.tag ∙ tt') in absurd (cc)
 
-  stores' : (p t : ℕ) (v : ViewMap) → Among (message_from p (Store t v)) w'.sent → (o : Op) → Among o w'.ops → o.node ≡ p → o.tag ≡ t → stored o.session ≡ Some v
-  stores' p t v sent o in' np tt' =
-      elim (x.sent (message_from p (Store t v)) sent) [
-        | inl old ↦ store_old p t v old o np tt' (x.ops o in')
+  stores' : (p : ℕ) (m : StoreFields) → Among (message_from p (Store m)) w'.sent → (o : Op) → Among o w'.ops → o.node ≡ p → o.tag ≡ m.tag → stored o.session ≡ Some m.view
+  stores' p m sent o in' np tt' =
+      elim (x.sent (message_from p (Store m)) sent) [
+        | inl old ↦ store_old p m old o np tt' (x.ops o in')
         | inr new ↦ new o in' np tt'
       ]
 
@@ -129,7 +130,7 @@ module _ (w w' : WorldState) (x : IsChange w w') (s : IsSound w) where
   acks' q a sent o in' np tt' =
       elim (x.sent (message_from q (StoreAck a)) sent) [
         | inl old ↦ ack_old q a old o np tt' (x.ops o in')
-        | inr new ↦ (new.0, store_old a.to a.tag new.0 new.1 o np tt' (x.ops o in'), new.2)
+        | inr new ↦ (new.0.view, store_old a.to new.0 new.1 o np (tt' ∙ sym new.2) (x.ops o in'), new.3)
       ]
 
   -- what q had acknowledged before c began is in q's view

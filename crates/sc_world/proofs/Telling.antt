@@ -15,7 +15,7 @@ use Rattle.sc_operations.specs.declared.progress.Progress.{Progress}
 use Rattle.sc_world.specs.declared.act.Opened.{Opened}
 use Rattle.sc_node.specs.Sessions.{kind_of, stored, open_phase, with_phase, advanced_by, is_reached, count_sender, querying}
 use Rattle.sc_node.specs.State.{NodeState}
-use Rattle.sc_node.specs.Nodes.{message_from, is_reply, view_after, progress_of, reply_progress, beta_threshold, joins, ack_for, reply_for, answers, store_back, store_of, store_session, collect_session, stored_view, next_stored}
+use Rattle.sc_node.specs.Nodes.{message_from, is_reply, view_after, progress_of, reply_progress, beta_threshold, joins, ack_for, reply_for, store_under, answers, store_back, store_of, store_session, collect_session, stored_view, next_stored}
 use Rattle.sc_world.specs.declared.event.WorldEvent.{WorldEvent}
 use Rattle.sc_world.specs.declared.op.Op.{Op}
 use Rattle.sc_world.specs.State.{WorldState}
@@ -117,8 +117,8 @@ module _ (w : WorldState) (e : WorldEvent) (q : ℕ) (n : NodeState) (at : fin.g
 
   -- the view after a message, before the world moves on
   view_true : (from : ℕ) (b : Body) → Among (message_from from b) w.sent → IsTrue w (clock w) (view_after n b)
-  view_true from (EnterEcho to j f v) sent = true_merge w (clock w) n.view v own (t.sent (message_from from (EnterEcho to j f v)) sent v refl)
-  view_true from (Store tag v) sent = true_merge w (clock w) n.view v own (t.sent (message_from from (Store tag v)) sent v refl)
+  view_true from (EnterEcho f) sent = true_merge w (clock w) n.view f.view own (t.sent (message_from from (EnterEcho f)) sent f.view refl)
+  view_true from (Store m) sent = true_merge w (clock w) n.view m.view own (t.sent (message_from from (Store m)) sent m.view refl)
   view_true from (StoreEcho v) sent = true_merge w (clock w) n.view v own (t.sent (message_from from (StoreEcho v)) sent v refl)
   view_true from (CollectReply r) sent =
       true_if w (clock w) (is_reply n r) (merge n.view r.view) n.view (true_merge w (clock w) n.view r.view own (t.sent (message_from from (CollectReply r)) sent r.view refl)) own
@@ -159,12 +159,12 @@ module _ (w : WorldState) (e : WorldEvent) (q : ℕ) (n : NodeState) (at : fin.g
     where
       some_is : {x y : ViewMap} → Some x ≡ Some y → x ≡ y
       some_is h = cc
-  answers_true u from (EnterEcho to j f v) sent lifts = each_if (TellsOf u) (joins n from (EnterEcho to j f v)) (Join ∷ []) ((λ y is. absurd (cc)), tt)
+  answers_true u from (EnterEcho f) sent lifts = each_if (TellsOf u) (joins n from (EnterEcho f)) (Join ∷ []) ((λ y is. absurd (cc)), tt)
   answers_true u from Join sent lifts = ((λ y is. absurd (cc)), tt)
   answers_true u from Leave sent lifts = ((λ y is. absurd (cc)), tt)
-  answers_true u from (Store tag v) sent lifts =
-      each_if (TellsOf u) n.joined (StoreAck (ack_for from tag) ∷ StoreEcho (merge n.view v) ∷ [])
-      ((λ y is. absurd (cc)), ((λ y is. let same : merge n.view v ≡ y = cc in lifts y (subst (IsTrue w (clock w)) same (view_true from (Store tag v) sent))), tt))
+  answers_true u from (Store m) sent lifts =
+      each_if (TellsOf u) n.joined (StoreAck (ack_for from m.tag) ∷ StoreEcho (merge n.view m.view) ∷ [])
+      ((λ y is. absurd (cc)), ((λ y is. let same : merge n.view m.view ≡ y = cc in lifts y (subst (IsTrue w (clock w)) same (view_true from (Store m) sent))), tt))
   answers_true u from (CollectQuery tag) sent lifts =
       each_if (TellsOf u) n.joined (CollectReply (reply_for n from tag) ∷ []) ((λ y is. let same : n.view ≡ y = cc in lifts y (subst (IsTrue w (clock w)) same own)), tt)
   answers_true u from (CollectReply r) sent lifts = back_true u (progress_of n from (CollectReply r)) (λ c k y is st. lifts y (reply_true from r sent c k y is st))
@@ -192,7 +192,7 @@ module _ (w : WorldState) (e : WorldEvent) (q : ℕ) (n : NodeState) (at : fin.g
       let r : Outcome = store_outcome n value in
       let u : WorldState = after w e q r in
       told w e q n r at linked (store_moves n value) s t tt (record { replied = refl; acked = refl; number = store_number w e q n at linked value })
-      (Store n.operations (stored_view n value) ∷ []) (own_name w e q n at linked (Store n.operations (stored_view n value)))
+      (Store (store_under n.operations (stored_view n value)) ∷ []) (own_name w e q n at linked (Store (store_under n.operations (stored_view n value))))
       (store_view value)
       ((λ y is. let same : stored_view n value ≡ y = cc in subst (IsTrue u (clock u)) same (store_view value)), tt)
       (λ y v is st.

@@ -27,8 +27,8 @@ pub record IsTrue (w : WorldState) (place : ℕ) (v : ViewMap) : Type 0 where
 
 -- the view in a message
 abbrev pub body_view : Body → Option ViewMap
-body_view (EnterEcho to j f v) = Some v
-body_view (Store t v) = Some v
+body_view (EnterEcho e) = Some e.view
+body_view (Store s) = Some s.view
 body_view (StoreEcho v) = Some v
 body_view (CollectReply r) = Some r.view
 body_view b = None

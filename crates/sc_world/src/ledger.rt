@@ -1,5 +1,5 @@
-//! What a world keeps beside its nodes: which of them crashed, the accepted events, every message that was ever sent and
-//! the record of each operation.
+//! What a world keeps beside its nodes: which of them crashed, the accepted events, every message that was ever sent
+//! and the record of each operation.
 
 ghost use Rattle.std.specs.Prelude.{◌≡◌, ◌++◌, length, true, IfOk, OnOk, OnErr, vec_len, vec_capacity, ◌<◌};
 ghost use Rattle.std.specs.FinSet as set;

@@ -4,7 +4,7 @@ ghost use Rattle.std.specs.Prelude.{◌≡◌, false, ◌&&◌, is_none, [], Som
 ghost use Rattle.std.specs.FinSet as set;
 ghost use Rattle.forms.specs.Calls.{Steps};
 ghost use Rattle.reasons.specs.declared.Reason.TheVariants as reasons;
-ghost use Rattle.sc_node.specs.Nodes.{message_from, delivered, learned, joining, echo_counted, saying, gamma_threshold, is_met, query_ended};
+ghost use Rattle.sc_node.specs.Nodes.{message_from, delivered, echo_for, store_under, learned, joining, echo_counted, saying, gamma_threshold, is_met, query_ended};
 ghost use Rattle.sc_msg.specs.declared.message.Body.TheVariants as bodies;
 
 use super::Node;
@@ -13,7 +13,7 @@ use crate::copies::Copies;
 use crate::node::NodeFault;
 use crate::outs::Outs;
 use sc_members::Facts;
-use sc_msg::{Body, CollectReply, StoreAck};
+use sc_msg::{Body, CollectReply, EnterEcho, Store, StoreAck};
 use sc_view::View;
 use std::alloc::AllocError;
 
@@ -30,16 +30,16 @@ impl Node {
 
     // Tells a node that enters what this one knows, where these are the facts.
     fn enter_echo(&self, to: u64, facts: &Facts) -> Result<Delivered, AllocError>
-        ensures { IfOk result (λ told. told ≡ saying self.now.id (bodies.EnterEcho to self.now.joined facts.now self.now.view)) }
+        ensures { IfOk result (λ told. told ≡ saying self.now.id (bodies.EnterEcho (echo_for self.now to facts.now))) }
     {
         let facts = facts.clone()?;
         let view = self.held.view.clone()?;
-        Ok(self.sends(Body::EnterEcho {
+        Ok(self.sends(Body::EnterEcho(EnterEcho {
             to,
             joined: self.joined,
             facts,
             view,
-        }))
+        })))
     }
 
     pub(super) fn on_join(&mut self, from: u64) -> Result<Delivered, NodeFault>
@@ -75,23 +75,21 @@ impl Node {
     }
 
     /// Learns the view, and acknowledges it.
-    pub(super) fn on_store(
-        &mut self,
-        from: u64,
-        tag: u64,
-        view: &View,
-    ) -> Result<Delivered, NodeFault>
+    pub(super) fn on_store(&mut self, from: u64, store: &Store) -> Result<Delivered, NodeFault>
         requires { self.old.gone ≡ false }
-        ensures { Steps reasons.OutOfMemory (delivered self.old (message_from from (bodies.Store tag view.now))) self.old self.new result }
+        ensures { Steps reasons.OutOfMemory (delivered self.old (message_from from (bodies.Store store.now))) self.old self.new result }
     {
-        let learned = self.held.view.merged(view)?;
+        let learned = self.held.view.merged(&store.view)?;
         if !self.joined {
             self.held.view = learned;
             return Ok(self.silent());
         }
         let told = learned.clone()?;
         self.held.view = learned;
-        let ack = self.says(Body::StoreAck(StoreAck { to: from, tag }));
+        let ack = self.says(Body::StoreAck(StoreAck {
+            to: from,
+            tag: store.tag,
+        }));
         let echo = self.says(Body::StoreEcho { view: told });
         Ok(Delivered::sending(Outs::two(self.alloc, ack, echo)))
     }
@@ -123,18 +121,15 @@ impl Node {
     pub(super) fn on_enter_echo(
         &mut self,
         from: u64,
-        to: u64,
-        joined: bool,
-        facts: &Facts,
-        view: &View,
+        echo: &EnterEcho,
     ) -> Result<Delivered, NodeFault>
         requires { self.old.gone ≡ false }
-        ensures { Steps reasons.OutOfMemory (delivered self.old (message_from from (bodies.EnterEcho to joined facts.now view.now))) self.old self.new result }
+        ensures { Steps reasons.OutOfMemory (delivered self.old (message_from from (bodies.EnterEcho echo.now))) self.old self.new result }
     {
-        if to == self.id && !self.joined {
-            return self.on_own_enter_echo(from, joined, facts, view);
+        if echo.to == self.id && !self.joined {
+            return self.on_own_enter_echo(from, echo);
         }
-        self.learn(facts, view)?;
+        self.learn(&echo.facts, &echo.view)?;
         Ok(self.silent())
     }
 
@@ -149,20 +144,15 @@ impl Node {
     }
 
     // The echo is for this node, which has not joined. At enough echoes it joins.
-    fn on_own_enter_echo(
-        &mut self,
-        from: u64,
-        joined: bool,
-        facts: &Facts,
-        view: &View,
-    ) -> Result<Delivered, NodeFault>
+    fn on_own_enter_echo(&mut self, from: u64, echo: &EnterEcho) -> Result<Delivered, NodeFault>
+        requires own { echo.now.to ≡ self.old.id }
         requires here { self.old.gone ≡ false }
         requires waits { self.old.joined ≡ false }
-        ensures { Steps reasons.OutOfMemory (delivered self.old (message_from from (bodies.EnterEcho self.old.id joined facts.now view.now))) self.old self.new result }
+        ensures { Steps reasons.OutOfMemory (delivered self.old (message_from from (bodies.EnterEcho echo.now))) self.old self.new result }
     {
-        let learned = self.held.view.merged(view)?;
-        let heard = self.facts.united(facts)?;
-        let threshold = self.join_threshold_with(joined, &heard);
+        let learned = self.held.view.merged(&echo.view)?;
+        let heard = self.facts.united(&echo.facts)?;
+        let threshold = self.join_threshold_with(echo.joined, &heard);
         if self.is_met_with(threshold, from) {
             return self.join(from, threshold, &heard, learned);
         }
@@ -286,7 +276,7 @@ impl Node {
         let copies = Copies::of(&view)?;
         self.held.turn(self.alloc, tag, from, threshold, view)?;
         let Copies { shown, told } = copies;
-        let store = self.says(Body::Store { tag, view: told });
+        let store = self.says(Body::Store(Store { tag, view: told }));
         let turned = Advance::Turned {
             threshold,
             view: shown,

@@ -1,14 +1,13 @@
 -- print_answers: prints the recorded answers of queries, by their numbers.
-use Rattle.std.proofs.Common.{rules, ◌≡◌, ◌+◌, ◌++◌, [], ◌∷◌, length, take, string_bytes}
+use Rattle.std.proofs.Common.{rules, ℕ, refl, string_bytes}
 use Rattle.std.proofs.lemmas.List.{take_more, length-take}
-use Rattle.q_command.proofs.Auditing.{more_answers}
+use Rattle.q_session.specs.declared.query.Query.{Query}
+use Rattle.q_desk.specs.Desks.{answer_in}
+use Rattle.q_command.specs.Audit.{answer_line, answer_lines}
+use Rattle.q_command.proofs.Answering.{more_answers}
 use Rattle.q_command.proofs.auditor.print_answers.Goals as goal
 
 pub loop-number-preserved : goal.loop-number-preserved
 loop-number-preserved c =
-    let queries = c.args.queries.now in
-    let i = c.loop-number.number in
-    let more : take (i + 1) queries ≡ take i queries ++ c.index-queries-number.result ∷ [] = search (rules, take_more) in
-    let count : length (take i queries) ≡ i = search (rules, length-take) in
-    more_answers (take i queries) (take (i + 1) queries) i c.index-queries-number.result (string_bytes c.args.lines.now) (string_bytes c.loop-number.lines) (string_bytes c.print_answer.new.lines)
-    more count c.loop-number.invariant c.in_ok-print_answer.ensures
+    more_answers (λ (n : ℕ) (q : Query). answer_line n (answer_in q.phase)) answer_lines (λ n. refl) (λ n q qs. refl) c.args.queries.now c.loop-number.number c.index-queries-number.result (string_bytes c.args.lines.now) (string_bytes c.loop-number.lines) (string_bytes c.print_answer.new.lines)
+    (search (rules, take_more)) (search (rules, length-take)) c.loop-number.invariant c.in_ok-print_answer.ensures

@@ -4,4 +4,4 @@ use Rattle.q_command.proofs.Telling.{all_true}
 use Rattle.q_command.proofs.laws.every_gathered_answer_is_true.Goals as goal
 
 pub returns : goal.returns
-returns c = all_true c.every_answer_is_true.ensures c.every_world_is_a_history.ensures c.regular.ensures.regular
+returns c = all_true

@@ -3,6 +3,6 @@ use Rattle.q_command.proofs.words.node_command.Goals as goal
 
 pub returns : goal.returns
 returns c =
-    let operands = c.with_argument-id.ensures _ _ (c.with_argument-file.ensures _ _ c.new_command-command.ensures c.operand.ensures) c.operand-2.ensures in
+    let operands = c.with_argument-id.ensures _ _ c.file_command-file.ensures c.operand.ensures in
     let places = c.with_argument-journal.ensures _ _ (c.with_argument-clients.ensures _ _ operands c.demanded.ensures) c.demanded-2.ensures in
     c.with_argument.ensures _ _ (c.with_argument-runners.ensures _ _ places c.option.ensures) c.flag.ensures

@@ -1,6 +1,6 @@
 -- worked_heard: what the definitions say of datagrams that are heard or are not, and of a place that is no address.
 use Rattle.std.proofs.Common.{◌≡◌, ◌≤◌, ℕ, List, Some, get_or, ap, refl, arith}
-use Rattle.sc_msg.specs.Numbers.{first_number}
+use Rattle.spelling.specs.Numbers.{first_number}
 use Rattle.q_doors.proofs.worked.worked_heard.Goals as goal
 
 pub returns-clause-elsewhere : goal.returns-clause-elsewhere

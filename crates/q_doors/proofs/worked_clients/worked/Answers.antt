@@ -3,7 +3,7 @@ use Rattle.std.proofs.Common.{◌≡◌, ℕ, List, [], ◌∷◌, ◌++◌, len
 use Rattle.std.specs.FinMap as fin
 use Rattle.std.specs.List.{AllZip}
 use Rattle.std.specs.Ordering.{nat_cmp}
-use Rattle.bq_check.specs.Spelling.{long_bytes}
+use Rattle.spelling.specs.Numbers.{number_bytes}
 use Rattle.sc_msg.specs.declared.version.Version.{Version}
 use Rattle.q_net.specs.declared.request.Request.{Request}
 use Rattle.q_net.specs.declared.request.Request.TheVariants.{Register, Ask, Store, Answer, StoreOf}
@@ -33,8 +33,8 @@ returns-clause-none_unanswered c = λ version before after h.
 
 -- an answer is asked for by as many bytes as these are
 no_second : (rs : List Request) (bs : List Reply) (q : Request) → AllZip (IsTold 1 gives_all) rs bs
-    → 4 ∷ long_bytes 7 ≡ (spellings rs ++ spelling q) ++ [] → 0 ∷ 0 ∷ [] ≡ (replies_bytes bs ++ []) → ⊥
-unfolding long_bytes
+    → 4 ∷ number_bytes 8 7 ≡ (spellings rs ++ spelling q) ++ [] → 0 ∷ 0 ∷ [] ≡ (replies_bytes bs ++ []) → ⊥
+unfolding number_bytes
 no_second [] [] q said read written = let h : 2 ≡ 0 = ap length written in omega (arith, h)
 no_second [] (b ∷ bs) q said read written = said
 no_second (r ∷ rs) [] q said read written = said
@@ -51,9 +51,9 @@ returns-clause-replied_to c = λ version h. no_second h.exchanged.requests h.exc
 
 -- two bytes are written to the answer that was asked for, and not to how the requests ended
 no_other : (rs : List Request) (bs : List Reply) (ended : Option StreamEnd) (last : List ℕ)
-    → AllZip (IsTold 1 gives_first_answer) rs bs → 4 ∷ long_bytes 7 ≡ (spellings rs ++ last) ++ []
+    → AllZip (IsTold 1 gives_first_answer) rs bs → 4 ∷ number_bytes 8 7 ≡ (spellings rs ++ last) ++ []
     → 0 ∷ 0 ∷ [] ≡ replies_bytes bs ++ last_reply ended → ⊥
-unfolding long_bytes
+unfolding number_bytes
 no_other [] [] None last said read written = let h : 2 ≡ 0 = ap length written in omega (arith, h)
 no_other [] [] (Some stop) last said read written = let h : 2 ≡ 1 = ap length written in omega (arith, h)
 no_other [] (b ∷ bs) ended last said read written = said

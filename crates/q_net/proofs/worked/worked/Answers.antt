@@ -1,7 +1,7 @@
 -- worked: what the definitions say at telling operands.
 use Rattle.std.proofs.Common.{◌≡◌, ◌%◌, [], ◌∷◌, ◌++◌, length, get_or, Option, None, Some, refl, sym, ap, lit<, arith}
 use Rattle.std.proofs.lemmas.List.{length-append}
-use Rattle.bq_check.specs.Spelling.{short_bytes}
+use Rattle.spelling.specs.Numbers.{number_bytes}
 use Rattle.q_net.specs.Requests.{in_bytes}
 use Rattle.q_net.specs.Serves.{last_reply}
 use Rattle.q_net.specs.declared.request.StreamEnd.{StreamEnd}
@@ -15,12 +15,12 @@ pub returns-clause-registers_all_bytes : goal.returns-clause-registers_all_bytes
 returns-clause-registers_all_bytes c = λ b d said sent h. (h.0, h.1)
 
 pub returns-clause-text_cut_short : goal.returns-clause-text_cut_short
-unfolding short_bytes
+unfolding number_bytes
 returns-clause-text_cut_short c = λ version h.
     let text = h.0 in
     let notes = h.1 in
     let first : 2 ≡ length text % 256 = ap (λ xs. get_or xs 1 0) h.3 in
-    omega (arith, first, ap length h.3, length-append text (short_bytes (length notes) ++ notes))
+    omega (arith, first, ap length h.3, length-append text (number_bytes 4 (length notes) ++ notes))
 
 pub returns-clause-long_value : goal.returns-clause-long_value
 returns-clause-long_value c = λ version value is. omega (arith, is)

@@ -1,7 +1,7 @@
 -- read_event: the event of that version with which the bytes begin, and what stands behind it.
 use Rattle.std.proofs.Common.{sym, ◌∙◌}
 use Rattle.std.proofs.lemmas.Result.{err_from_is_err_and}
-use Rattle.bq_check.specs.Spelling.{BeginsNone}
+use Rattle.spelling.specs.Codes.{BeginsNone}
 use Rattle.q_replay.specs.Spelling.{event_bytes, IsWritten}
 use Rattle.q_replay.proofs.Exits.{no_form, passed}
 use Rattle.q_replay.proofs.Events.{no_first, no_second, no_third, no_event, event_parts}

@@ -2,7 +2,7 @@
 -- behind it.
 use Rattle.std.proofs.Common.{sym, ◌∙◌, option_map}
 use Rattle.std.proofs.lemmas.Result.{err_from_is_err_and}
-use Rattle.bq_check.specs.Spelling.{BeginsNone}
+use Rattle.spelling.specs.Codes.{BeginsNone}
 use Rattle.q_replay.specs.Spelling.{head_bytes, IsHead}
 use Rattle.q_replay.specs.Reading.{config_of}
 use Rattle.q_replay.proofs.Exits.{no_form, passed}
@@ -19,14 +19,14 @@ returns-in_err-id-clause-none c =
 pub returns-in_err-beta-clause-none : goal.returns-in_err-beta-clause-none
 returns-in_err-beta-clause-none c =
     no_form c.from_residual-in_err-beta.result
-    (no_config c.in_ok-version.version c.args.bytes.now c.format.new.self.rest.now c.number.new.self.rest.now c.in_ok-id.id c.in_ok-version.ensures.parts c.in_ok-id.ensures.fits c.in_ok-id.ensures.parts c.in_err-beta.ensures.none)
+    (no_config c.in_ok-version.version c.args.bytes.now c.format.new.self.rest.now c.in_ok-version.ensures.parts c.number.new.self.rest.now c.in_ok-id.id c.in_ok-id.ensures.fits c.in_ok-id.ensures.parts c.in_err-beta.ensures.none)
 
 pub returns-in_err-founders-clause-none : goal.returns-in_err-founders-clause-none
 returns-in_err-founders-clause-none c =
     let p = err_from_is_err_and c.from_residual-in_err-founders.result c.from_residual-in_err-founders.ensures.1 in
     passed (BeginsNone head_bytes IsHead c.args.bytes.now) c.from_residual-in_err-founders.result p.0 p.1
-    (λ form. no_founders c.in_ok-version.version c.args.bytes.now c.format.new.self.rest.now c.number.new.self.rest.now c.fractions.new.self.rest.now c.in_ok-id.id (config_of c.in_ok-beta.beta c.in_ok-beta.gamma)
-    c.in_ok-version.ensures.parts c.in_ok-id.ensures.fits c.in_ok-id.ensures.parts c.in_ok-beta.ensures.legal c.in_ok-beta.ensures.parts (c.in_err-founders.ensures.none (sym p.2 ∙ form)))
+    (λ form. no_founders c.in_ok-version.version c.args.bytes.now c.format.new.self.rest.now c.in_ok-version.ensures.parts c.number.new.self.rest.now c.fractions.new.self.rest.now c.in_ok-id.id
+    (config_of c.in_ok-beta.beta c.in_ok-beta.gamma) c.in_ok-id.ensures.fits c.in_ok-id.ensures.parts c.in_ok-beta.ensures.legal c.in_ok-beta.ensures.parts (c.in_err-founders.ensures.none (sym p.2 ∙ form)))
 
 pub returns-clause-legal : goal.returns-clause-legal
 returns-clause-legal c = record { id = c.in_ok-id.ensures.fits; config = c.in_ok-beta.ensures.legal; founders = c.in_ok-founders.ensures.legal }

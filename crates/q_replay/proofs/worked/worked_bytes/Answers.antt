@@ -2,11 +2,10 @@
 use Rattle.std.proofs.Common.{◌≡◌, rules, arith, [], ◌++◌, sym, ◌∙◌, append-nil}
 use Rattle.sc_msg.specs.declared.version.Version.{Version}
 use Rattle.sc_msg.specs.declared.version.Version.TheVariants.{First, Second}
-use Rattle.sc_msg.specs.Numbers.{number_bytes}
+use Rattle.spelling.specs.Numbers.{number_bytes}
 use Rattle.sc_msg.specs.Values.{version_byte}
 use Rattle.q_replay.specs.Spelling.{config_bytes, start_bytes, event_bytes, IsWritten}
 use Rattle.q_replay.specs.declared.raw_entry.RawEntry.TheVariants.{Post}
-use Rattle.q_replay.proofs.Fronts.{head_on, behind_format}
 use Rattle.q_replay.proofs.worked.worked_bytes.Goals as goal
 
 no_third : (version : Version) → 3 ≡ version_byte version → ⊥
@@ -17,9 +16,7 @@ is_written : (version : Version) → IsWritten version (Post 0 1 3)
 is_written version = search rules
 
 pub returns-clause-another_version : goal.returns-clause-another_version
-returns-clause-another_version c =
-    λ h rest more e.
-    no_third h.version (behind_format 3 (version_byte h.version) more (number_bytes 8 h.id ++ (config_bytes h.config ++ (start_bytes h.founders ++ rest))) (e ∙ head_on h rest)).0
+returns-clause-another_version c = λ h rest more e. no_third h.version (cc)
 
 pub returns-clause-post_is_there : goal.returns-clause-post_is_there
 returns-clause-post_is_there c = λ version h. h.none (Post 0 1 3) [] (is_written version) (sym (append-nil (event_bytes version (Post 0 1 3))))

@@ -1,4 +1,4 @@
--- read_lines: what these lines spell, of which the first is line 2 of a script.
+-- read_lines: what the lines of a text spell, before which so many stand.
 use Rattle.std.proofs.Common.{ℕ, List, map, Bor, sym, ◌∙◌, subst, arith}
 use Rattle.std.specs.List.{AllZip}
 use Rattle.std.proofs.lemmas.List.{map_push}
@@ -13,7 +13,7 @@ use Rattle.q_script.proofs.script.read_lines.Goals as goal
 pub returns-in-Err-Form-clause-fault : goal.returns-in-Err-Form-clause-fault
 returns-in-Err-Form-clause-fault g c =
     let t = turn_of (road_of _ c.split-part-items.result c.args.text.now c.into_iter-part-iterator.ensures.into_iter_gives c.split-part-items.ensures.text c.split-part-items.ensures.has_more c.split-part-items.ensures.pattern) c.loop-part.yielded _ c.loop-part.yielded_by _ _ c.in-Some.part c.in-Some.is c.next.ensures.steps in
-    first_other g.L.Line.spells (parts_of c.args.text.now) (map (λ (x : Bor (List ℕ)). x.now) c.loop-part.yielded) c.loop-part.lines.items c.in-Some.part.now _ c.len.result t.0 t.1 t.2 c.loop-part.invariant (subst (λ (f : LineFault). Judges g.L.Line.spells c.in-Some.part.now (Err f)) c.in-Err-Form.field-0-is c.in-Err-Form.ensures) (omega (arith, c.len.ensures, c.loop-part.lines.ok.0))
+    first_other g.L.Line.spells c.args.before (parts_of c.args.text.now) (map (λ (x : Bor (List ℕ)). x.now) c.loop-part.yielded) c.loop-part.lines.items c.in-Some.part.now _ c.len.result t.0 t.1 t.2 c.loop-part.invariant (subst (λ (f : LineFault). Judges g.L.Line.spells c.in-Some.part.now (Err f)) c.in-Err-Form.field-0-is c.in-Err-Form.ensures) (omega (arith, c.len.ensures, c.loop-part.lines.ok.0))
 
 pub loop-part-preserved : goal.loop-part-preserved
 loop-part-preserved g c =

@@ -6,11 +6,14 @@ use Rattle.hex.proofs.OnLiterals.{hex_on_literals}
 use Rattle.q_script.specs.declared.command.Command.{Command}
 use Rattle.q_script.specs.declared.command.Command.TheVariants as command
 use Rattle.q_script.specs.declared.line.ScriptLine.TheVariants as line
+use Rattle.q_script.specs.Founding.{SpellsFounding}
 use Rattle.q_script.specs.Line.{HasOperands, Spells, name}
 use Rattle.q_script.proofs.Commands.{name_lacks_space, same_command}
+use Rattle.q_script.proofs.Foundings.{beta_first, first_of}
 use Rattle.q_script.proofs.Learning.{zip_length}
 use Rattle.q_script.proofs.Parts.{cut_once}
 use Rattle.q_script.proofs.Values.{no_numeral}
+use Rattle.q_script.proofs.Words.{founding_word_lacks_space}
 use Rattle.q_script.proofs.worked.worked.Goals as goal
 
 pub returns-clause-zero : goal.returns-clause-zero
@@ -66,26 +69,15 @@ returns-clause-odd_digits c = λ bytes h. elim h [
   | inr hex ↦ let odd = ap decode_of (ap (drop 1) hex.1) ∙ hex.2 in absurd cc
 ]
 
-pub returns-clause-founded : goal.returns-clause-founded
+founded : SpellsFounding (codes "nodes 3 4/5 2/3") (record { count = 3; beta = record { numerator = 4; denominator = 5 }; gamma = record { numerator = 2; denominator = 3 } })
 unfolding digits
-returns-clause-founded c = record {
-  rest = codes "3 4/5 2/3";
-  fractions = codes "4/5 2/3";
-  beta = codes "4/5";
-  gamma = codes "2/3";
-  parts = refl;
-  count = (lit< tt, refl);
-  both = refl;
-  is_beta = (lit< tt, lit< tt, refl);
-  is_gamma = (lit< tt, lit< tt, refl);
-}
+founded = first_of (codes "nodes") 3 4 5 2 3 (lit< tt) (lit< tt) (lit< tt) (lit< tt) (lit< tt)
+
+pub returns-clause-founded : goal.returns-clause-founded
+returns-clause-founded c = founded
 
 pub returns-clause-gamma_first : goal.returns-clause-gamma_first
-unfolding digits
-returns-clause-gamma_first c = λ h.
-    let fractions : codes "4/5 2/3" ≡ h.fractions = ap (drop 8) h.parts ∙ ap (drop 2) h.count.1 in
-    let first : 52 ≡ 50 = ap (λ xs. get_or xs 0 0) (fractions ∙ h.both ∙ ap (λ b. b ++ (32 ∷ h.gamma)) h.is_beta.2) in
-    omega (arith, first)
+returns-clause-gamma_first c = beta_first (codes "nodes") (codes "nodes 3 4/5 2/3") 3 3 _ _ _ _ founding_word_lacks_space (λ e. omega (arith, e)) founded
 
 pub returns-clause-event_left_out : goal.returns-clause-event_left_out
 returns-clause-event_left_out c = λ founding h. omega (arith, ap length h.parts, zip_length Spells h.others _ h.each)

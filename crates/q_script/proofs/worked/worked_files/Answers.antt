@@ -1,38 +1,28 @@
 -- worked: what the definitions say at telling texts.
-use Rattle.std.proofs.Common.{◌≡◌, ℕ, ◌^◌, ◌<◌, Bool, true, false, List, [], ◌∷◌, ◌++◌, get_or, drop, codes, refl, ap, ◌∙◌, inl, inr, lit<, lit≤, arith}
-use Rattle.std.specs.Fmt.{decimal, digits}
+use Rattle.std.proofs.Common.{◌≡◌, ℕ, Bool, true, false, List, [], ◌∷◌, ◌++◌, get_or, codes, refl, ap, inl, inr, lit<, lit≤, arith}
+use Rattle.std.specs.Fmt.{digits}
 use Rattle.q_script.specs.declared.node_line.NodeLine.{NodeLine}
 use Rattle.q_script.specs.NodeLine.{node_word, SpellsHeading, SpellsNode}
 use Rattle.q_script.specs.File.{IsNoHeading}
+use Rattle.q_script.proofs.Foundings.{beta_first, first_of}
 use Rattle.q_script.proofs.Lists.{no_nodes, not_faulty}
+use Rattle.q_script.proofs.Words.{heading_word_lacks_space}
 use Rattle.q_script.proofs.worked.worked_files.Goals as goal
-
--- a heading as it is written, of a number and four numbers of fractions
-heading_of : (n a b c d : ℕ) → n < 2 ^ 64 → a < 2 ^ 64 → b < 2 ^ 64 → c < 2 ^ 64 → d < 2 ^ 64
-    → SpellsHeading (codes "cluster " ++ (decimal n ++ (32 ∷ ((decimal a ++ (47 ∷ decimal b)) ++ (32 ∷ (decimal c ++ (47 ∷ decimal d)))))))
-    (record { number = n; beta = record { numerator = a; denominator = b }; gamma = record { numerator = c; denominator = d } })
-heading_of n a b c d ln la lb lc ld = record {
-  rest = decimal n ++ (32 ∷ ((decimal a ++ (47 ∷ decimal b)) ++ (32 ∷ (decimal c ++ (47 ∷ decimal d)))));
-  fractions = (decimal a ++ (47 ∷ decimal b)) ++ (32 ∷ (decimal c ++ (47 ∷ decimal d)));
-  beta = decimal a ++ (47 ∷ decimal b);
-  gamma = decimal c ++ (47 ∷ decimal d);
-  parts = refl;
-  number = (ln, refl);
-  both = refl;
-  is_beta = (la, lb, refl);
-  is_gamma = (lc, ld, refl);
-}
 
 pub returns-clause-heading : goal.returns-clause-heading
 unfolding digits
-returns-clause-heading c = heading_of 7310582 2 3 4 5 (lit< tt) (lit< tt) (lit< tt) (lit< tt) (lit< tt)
+returns-clause-heading c = first_of (codes "cluster") 7310582 2 3 4 5 (lit< tt) (lit< tt) (lit< tt) (lit< tt) (lit< tt)
+
+-- a heading of number 1 whose fractions are 2/3 and one more
+abbrev Heading1 : List ℕ → ℕ → ℕ → Type 0
+Heading1 text a b = SpellsHeading text (record { number = 1; beta = record { numerator = 2; denominator = 3 }; gamma = record { numerator = a; denominator = b } })
+
+beta_first_1 : Heading1 (codes "cluster 1 2/3 4/5") 4 5
+unfolding digits
+beta_first_1 = first_of (codes "cluster") 1 2 3 4 5 (lit< tt) (lit< tt) (lit< tt) (lit< tt) (lit< tt)
 
 pub returns-clause-gamma_first : goal.returns-clause-gamma_first
-unfolding digits
-returns-clause-gamma_first c = λ h.
-    let fractions : codes "2/3 4/5" ≡ h.fractions = ap (drop 10) h.parts ∙ ap (drop 2) h.number.1 in
-    let first : 50 ≡ 52 = ap (λ xs. get_or xs 0 0) (fractions ∙ h.both ∙ ap (λ b. b ++ (32 ∷ h.gamma)) h.is_beta.2) in
-    omega (arith, first)
+returns-clause-gamma_first c = beta_first (codes "cluster") (codes "cluster 1 2/3 4/5") 1 1 _ _ _ _ heading_word_lacks_space (λ e. omega (arith, e)) beta_first_1
 
 pub returns-clause-founder : goal.returns-clause-founder
 unfolding digits
@@ -62,17 +52,13 @@ returns-clause-too_many c = λ text. inl (lit≤ tt)
 pub returns-clause-not_too_many : goal.returns-clause-not_too_many
 returns-clause-not_too_many c = λ text n s f. not_faulty 1023 text n (lit< tt) s f
 
--- a heading of number 1 whose fractions are 2/3 and one more
-abbrev Heading1 : List ℕ → ℕ → ℕ → Type 0
-Heading1 text a b = SpellsHeading text (record { number = 1; beta = record { numerator = 2; denominator = 3 }; gamma = record { numerator = a; denominator = b } })
-
 good : Heading1 (codes "cluster 1 2/3 2/3") 2 3
 unfolding digits
-good = heading_of 1 2 3 2 3 (lit< tt) (lit< tt) (lit< tt) (lit< tt) (lit< tt)
+good = first_of (codes "cluster") 1 2 3 2 3 (lit< tt) (lit< tt) (lit< tt) (lit< tt) (lit< tt)
 
 improper : Heading1 (codes "cluster 1 2/3 4/3") 4 3
 unfolding digits
-improper = heading_of 1 2 3 4 3 (lit< tt) (lit< tt) (lit< tt) (lit< tt) (lit< tt)
+improper = first_of (codes "cluster") 1 2 3 4 3 (lit< tt) (lit< tt) (lit< tt) (lit< tt) (lit< tt)
 
 pub returns-clause-heading_alone : goal.returns-clause-heading_alone
 returns-clause-heading_alone c = (

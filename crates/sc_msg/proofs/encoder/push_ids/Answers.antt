@@ -3,7 +3,7 @@ use Rattle.std.proofs.Common.{ℕ, List, ◌++◌, sym, ap, subst, ◌∙◌}
 use Rattle.std.proofs.lemmas.List.{append-nil}
 use Rattle.std.specs.FinSet as set
 use Rattle.sc_members.specs.Ids.{rising}
-use Rattle.sc_msg.specs.Numbers.{number_bytes}
+use Rattle.spelling.specs.Numbers.{number_bytes}
 use Rattle.sc_msg.specs.Entries.{ids_layout}
 use Rattle.sc_msg.proofs.Sound.{len-rising}
 use Rattle.sc_msg.proofs.Writing.{WrittenTo, written_none, written_more, written_all}
@@ -22,8 +22,8 @@ loop-id-preserved c =
     let s = c.args.ids.now in
     let new = c.loop-id.out.items in
     let id = c.in-Some.id in
-    written_more ids_layout (set.len s) (rising s) c.args.out.now.items new c.push_number.new.out.items id c.next.new.self _ c.loop-id.invariant c.in-Some.ensures.steps (c.in_ok-push_number.ensures.fits, tt)
-    (c.in_ok-push_number.ensures.spelled ∙ ap (λ (l : List ℕ). new ++ l) (sym (append-nil (number_bytes 8 id))))
+    written_more ids_layout (set.len s) (rising s) c.args.out.now.items new c.put_u64.new.out.items id c.next.new.self _ c.loop-id.invariant c.in-Some.ensures.steps (c.in_ok-put_u64.ensures.fits, tt)
+    (c.in_ok-put_u64.ensures.written ∙ ap (λ (l : List ℕ). new ++ l) (sym (append-nil (number_bytes 8 id))))
 
 pub returns-clause-legal : goal.returns-clause-legal
 returns-clause-legal c =

@@ -3,7 +3,7 @@ use Rattle.std.proofs.Common.{ℕ, List, ◌++◌, ap, ◌∙◌, append_assoc}
 use Rattle.std.specs.FinMap as fin
 use Rattle.sc_view.specs.declared.view.Stored.{Stored}
 use Rattle.sc_view.proofs.LengthLemmas.{Within, entries_within}
-use Rattle.sc_msg.specs.Numbers.{number_bytes}
+use Rattle.spelling.specs.Numbers.{number_bytes}
 use Rattle.sc_msg.specs.Values.{value_lengths}
 use Rattle.sc_msg.specs.Entries.{view_layout, stored_bytes}
 use Rattle.sc_msg.proofs.Writing.{written_more, written_all, all_at}
@@ -15,8 +15,8 @@ loop-id-preserved c =
     let new = c.loop-id.out.items in
     let id = c.in-Some.id in
     let stored = c.in-Some.stored.now in
-    written_more (view_layout c.args.version) (fin.len v) (fin.entries v) c.args.out.now.items new c.push_stored.new.out.items (id, stored) c.next.new.self _ c.loop-id.invariant c.in-Some.ensures.steps (c.in_ok-push_number.ensures.fits, c.in_ok-push_stored.ensures.legal)
-    (c.in_ok-push_stored.ensures.spelled ∙ ap (λ (l : List ℕ). l ++ stored_bytes c.args.version stored) c.in_ok-push_number.ensures.spelled ∙ append_assoc new (number_bytes 8 id) (stored_bytes c.args.version stored))
+    written_more (view_layout c.args.version) (fin.len v) (fin.entries v) c.args.out.now.items new c.push_stored.new.out.items (id, stored) c.next.new.self _ c.loop-id.invariant c.in-Some.ensures.steps (c.in_ok-put_u64.ensures.fits, c.in_ok-push_stored.ensures.legal)
+    (c.in_ok-push_stored.ensures.spelled ∙ ap (λ (l : List ℕ). l ++ stored_bytes c.args.version stored) c.in_ok-put_u64.ensures.written ∙ append_assoc new (number_bytes 8 id) (stored_bytes c.args.version stored))
 
 pub returns-clause-spelled : goal.returns-clause-spelled
 returns-clause-spelled c =

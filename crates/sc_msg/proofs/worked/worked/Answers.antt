@@ -4,7 +4,7 @@ use Rattle.std.proofs.Common.{ℕ, List, [], ◌∷◌, ◌++◌, ap}
 use Rattle.sc_view.specs.declared.view.Stored.{Stored}
 use Rattle.sc_view.proofs.MapLemmas.{entries_rising}
 use Rattle.sc_msg.specs.Entries.{list_bytes, view_layout}
-use Rattle.sc_msg.specs.Numbers.{number_bytes}
+use Rattle.spelling.specs.Numbers.{number_bytes}
 use Rattle.sc_msg.specs.declared.version.Version.TheVariants.{First, Second}
 use Rattle.sc_msg.proofs.worked.worked.Goals as goal
 

@@ -1,20 +1,12 @@
 -- Desk::ask: the node begins to collect, and a query begins that waits for that collect.
-use Rattle.std.proofs.Common.{◌≡◌, ◌++◌, ◌∷◌, [], List, Ok, rules, subst, refl, sym, ap, ◌∙◌}
-use Rattle.sc_node.specs.Nodes as node
-use Rattle.sc_node.specs.State.{NodeState}
-use Rattle.sc_node.specs.declared.answer.Begun.{Begun}
+use Rattle.std.proofs.Common.{◌≡◌, ◌++◌, ◌∷◌, [], List, rules, subst, refl, sym, ap, ◌∙◌}
 use Rattle.q_session.specs.declared.query.Query.{Query}
 use Rattle.q_desk.specs.declared.journal.Entry.TheVariants as entry
 use Rattle.q_desk.specs.Keeping.{IsDesk}
 use Rattle.q_desk.specs.Desks.{begun, how_many_run}
-use Rattle.q_desk.proofs.Accepted.{same_answer, tested_ok}
 use Rattle.q_desk.proofs.Keeps.{desk-appended, desk-begun}
 use Rattle.q_desk.proofs.Running.{run-begun}
 use Rattle.q_desk.proofs.desk.Desk.ask.Goals as goal
-
--- a collect has the tag that was next
-next-tag : (n : NodeState) (a : Begun × NodeState) → node.collect_begun n ≡ Ok a → n.operations ≡ a.0.tag
-next-tag n a h = ap (λ (x : Begun × NodeState). x.0.tag) (same_answer _ a (tested_ok (node.opening n) _ a h).1)
 
 pub invariant_of-self-2 : goal.invariant_of-self-2
 invariant_of-self-2 c =

@@ -1,5 +1,5 @@
 use Rattle.std.proofs.Common.{◌++◌, length}
-use Rattle.sc_msg.specs.Numbers.{number_bytes}
+use Rattle.spelling.specs.Numbers.{number_bytes}
 use Rattle.bq_check.proofs.Written.{Written}
 use Rattle.q_replay.proofs.writer.Bytes.ids.Given as goal
 

@@ -1,7 +1,7 @@
 -- Writer::ask: that a query of this program began.
 use Rattle.std.proofs.Common.{◌≡◌, ◌++◌, sym}
 use Rattle.std.proofs.lemmas.Result.{on_ok_weaker}
-use Rattle.sc_msg.specs.Numbers.{number_bytes}
+use Rattle.spelling.specs.Numbers.{number_bytes}
 use Rattle.q_replay.specs.declared.raw_entry.RawEntry.TheVariants.{Ask}
 use Rattle.q_replay.proofs.Sizes.{length-asked}
 use Rattle.q_replay.proofs.Writes.{two, event_written, written_on}

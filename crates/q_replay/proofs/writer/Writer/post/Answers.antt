@@ -1,7 +1,7 @@
 -- Writer::post: that the answer of a query was recorded.
 use Rattle.std.proofs.Common.{◌≡◌, ◌++◌, sym}
 use Rattle.std.proofs.lemmas.Result.{on_ok_weaker}
-use Rattle.sc_msg.specs.Numbers.{number_bytes}
+use Rattle.spelling.specs.Numbers.{number_bytes}
 use Rattle.q_replay.specs.declared.raw_entry.RawEntry.TheVariants.{Post}
 use Rattle.q_replay.proofs.Sizes.{length-posted}
 use Rattle.q_replay.proofs.Writes.{three, event_written, written_on}

@@ -1,9 +1,9 @@
 -- Reader::short_number: a number of two bytes.
-use Rattle.sc_msg.proofs.Numbers.{number_parts, number_first}
+use Rattle.sc_msg.proofs.Parts.{led_by}
 use Rattle.sc_msg.proofs.reader.Reader.short_number.Goals as goal
 
-pub returns-clause-parts : goal.returns-clause-parts
-returns-clause-parts c = number_parts 2 c.read_u16.result c.args.self.now.rest.now c.in_ok-front.front.now c.take.new.self.rest.now c.in_ok-front.ensures.len c.in_ok-front.ensures.bytes c.in_ok-front.ensures.parts c.read_u16.ensures
-
 pub returns-clause-first : goal.returns-clause-first
-returns-clause-first c = number_first 2 c.read_u16.result c.args.self.now.rest.now c.in_ok-front.front.now c.take.new.self.rest.now c.in_ok-front.ensures.len c.in_ok-front.ensures.parts c.read_u16.ensures
+returns-clause-first c = (led_by 2 _ _ c.take_u16.result c.ok_or.result c.ok_or.ensures.value c.take_u16.ensures.fits c.take_u16.ensures.parts).0
+
+pub returns-clause-long : goal.returns-clause-long
+returns-clause-long c = (led_by 2 _ _ c.take_u16.result c.ok_or.result c.ok_or.ensures.value c.take_u16.ensures.fits c.take_u16.ensures.parts).1

@@ -1,6 +1,0 @@
--- written_is_read: what is written of a number is read as that number.
-use Rattle.decimal.proofs.Numbers.{natural_decimal}
-use Rattle.decimal.proofs.laws.written_is_read.Goals as goal
-
-pub returns : goal.returns
-returns c = natural_decimal

@@ -1,0 +1,3 @@
+pub mod Natural
+pub mod Numbers
+pub mod Codes
