@@ -272,14 +272,8 @@ struct Machine<'a, R> {
 
 impl<R> Machine<'_, R>
 where
-    R: Net<Listener = TcpListener, Stream = TcpStream>
-        + SystemFiles
-        + Input
-        + Eprint
-        + Wait
-        + Threads
-        + Clock
-        + Sync,
+    R: Net<Listener = TcpListener, Stream = TcpStream> + Sync,
+    R: SystemFiles + Input + Eprint + Wait + Threads + Clock,
     R::File: Send,
 {
     /// Runs a node by itself, whose console is the standard input: the exit status.
@@ -369,14 +363,8 @@ pub fn run_words<R, S, F, W, N>(
     notes: &mut N,
 ) -> u8
 where
-    R: Net<Listener = TcpListener, Stream = TcpStream>
-        + SystemFiles
-        + Input
-        + Eprint
-        + Wait
-        + Threads
-        + Clock
-        + Sync,
+    R: Net<Listener = TcpListener, Stream = TcpStream> + Sync,
+    R: SystemFiles + Input + Eprint + Wait + Threads + Clock,
     R::File: Send,
     S: AsStr,
     F: Files,
@@ -402,14 +390,8 @@ pub fn run<R, F, W, N>(
     notes: &mut N,
 ) -> u8
 where
-    R: Net<Listener = TcpListener, Stream = TcpStream>
-        + SystemFiles
-        + Input
-        + Eprint
-        + Wait
-        + Threads
-        + Clock
-        + Sync,
+    R: Net<Listener = TcpListener, Stream = TcpStream> + Sync,
+    R: SystemFiles + Input + Eprint + Wait + Threads + Clock,
     R::File: Send,
     F: Files,
     W: Write,

@@ -114,13 +114,8 @@ struct Launch<'a, R> {
 
 impl<R> Launch<'_, R>
 where
-    R: Net<Listener = TcpListener, Stream = TcpStream>
-        + SystemFiles
-        + Wait
-        + Threads
-        + Clock
-        + Eprint
-        + Sync,
+    R: Net<Listener = TcpListener, Stream = TcpStream> + Sync,
+    R: SystemFiles + Wait + Threads + Clock + Eprint,
     R::File: Send,
 {
     /// Makes the journal's file, and runs the node.
@@ -294,13 +289,8 @@ pub fn run_file<R, F, C, W, N>(
     notes: &mut N,
 ) -> Ending
 where
-    R: Net<Listener = TcpListener, Stream = TcpStream>
-        + SystemFiles
-        + Wait
-        + Threads
-        + Clock
-        + Eprint
-        + Sync,
+    R: Net<Listener = TcpListener, Stream = TcpStream> + Sync,
+    R: SystemFiles + Wait + Threads + Clock + Eprint,
     R::File: Send,
     F: Files,
     C: BufRead,

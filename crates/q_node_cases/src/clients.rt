@@ -87,13 +87,8 @@ fn heard<R: Wait>(rt: &R, hub: &Hub, from: u64, into: &mut [u8]) -> usize {
 
 impl<'s, R> Stage<'s, R>
 where
-    R: Net<Listener = TcpListener, Stream = TcpStream>
-        + Files
-        + Wait
-        + Threads
-        + Clock
-        + Eprint
-        + Sync,
+    R: Net<Listener = TcpListener, Stream = TcpStream> + Sync,
+    R: Files + Wait + Threads + Clock + Eprint,
 {
     /// Where the clients of a node connect.
     pub fn place(&self, id: u64) -> &str {

@@ -25,13 +25,8 @@ const LINES: &[u8] = b"status\nend\n";
 
 impl<'s, R> Stage<'s, R>
 where
-    R: Net<Listener = TcpListener, Stream = TcpStream>
-        + SystemFiles
-        + Wait
-        + Threads
-        + Clock
-        + Eprint
-        + Sync,
+    R: Net<Listener = TcpListener, Stream = TcpStream> + Sync,
+    R: SystemFiles + Wait + Threads + Clock + Eprint,
     R::File: Send,
 {
     /// The book of the beginning of a node's journal, if the node has ended; tells why it has none.

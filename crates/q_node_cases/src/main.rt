@@ -74,13 +74,8 @@ fn play<'a, R, W>(
     out: &mut W,
 ) -> io::Result<()>
 where
-    R: Net<Listener = TcpListener, Stream = TcpStream>
-        + Files
-        + Wait
-        + Threads
-        + Clock
-        + Eprint
-        + Sync,
+    R: Net<Listener = TcpListener, Stream = TcpStream> + Sync,
+    R: Files + Wait + Threads + Clock + Eprint,
     R::File: Send,
     W: Write,
 {
@@ -113,13 +108,8 @@ where
 /// Runs the case of these lines.
 fn run_case<'a, R, W>(rt: &'a R, alloc: Global, lines: &'a [String], out: &mut W) -> io::Result<()>
 where
-    R: Net<Listener = TcpListener, Stream = TcpStream>
-        + Files
-        + Wait
-        + Threads
-        + Clock
-        + Eprint
-        + Sync,
+    R: Net<Listener = TcpListener, Stream = TcpStream> + Sync,
+    R: Files + Wait + Threads + Clock + Eprint,
     R::File: Send,
     W: Write,
 {

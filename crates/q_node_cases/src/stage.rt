@@ -47,13 +47,8 @@ pub fn place_of(number: u64) -> usize {
 
 impl<'s, R> Stage<'s, R>
 where
-    R: Net<Listener = TcpListener, Stream = TcpStream>
-        + Files
-        + Wait
-        + Threads
-        + Clock
-        + Eprint
-        + Sync,
+    R: Net<Listener = TcpListener, Stream = TcpStream> + Sync,
+    R: Files + Wait + Threads + Clock + Eprint,
     R::File: Send,
 {
     /// Starts the thread of a node.

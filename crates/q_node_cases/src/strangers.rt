@@ -24,13 +24,8 @@ fn send_as(post: &mut UdpPost, number: u64, to: u64, bytes: &[u8]) -> bool {
 
 impl<'s, R> Stage<'s, R>
 where
-    R: Net<Listener = TcpListener, Stream = TcpStream>
-        + Files
-        + Wait
-        + Threads
-        + Clock
-        + Eprint
-        + Sync,
+    R: Net<Listener = TcpListener, Stream = TcpStream> + Sync,
+    R: Files + Wait + Threads + Clock + Eprint,
 {
     /// The socket of a node that was not started, or that of the stranger.
     fn socket(&mut self, id: u64) -> &mut UdpPost {
