@@ -4,7 +4,7 @@ use crate::program::program as certified;
 use q_cluster::Cluster;
 use q_history::ClusterEvent;
 use q_script::{Founding, Script, ScriptLine};
-use q_table::ProgramId;
+use q_sim::event_of;
 use sc_members::Config;
 use sc_msg::Version;
 use sc_view::Value;
@@ -21,22 +21,7 @@ fn event(alloc: Global, version: Version, line: &ScriptLine) -> Option<ClusterEv
             node: *node,
             value: Value::new(value.as_slice()).ok()?,
         }),
-        ScriptLine::Ask {
-            node,
-            program,
-            start,
-        } => Some(ClusterEvent::Ask {
-            node: *node,
-            program: ProgramId::new(u32::try_from(*program).ok()?),
-            start: *start,
-        }),
-        ScriptLine::Deliver { message, node } => Some(ClusterEvent::Deliver {
-            message: *message as usize,
-            node: *node,
-        }),
-        ScriptLine::Hand { node } => Some(ClusterEvent::HandOut(*node)),
-        ScriptLine::Run { job } => Some(ClusterEvent::Finish(*job as usize)),
-        _ => None,
+        _ => event_of(line),
     }
 }
 

@@ -11,6 +11,7 @@ use q_book::Book;
 use q_replay::laws::{one_event, one_fault, one_head};
 use q_replay::{ReplayFault, read_event, read_head, replay};
 use sc_msg::Version;
+use spelling::{take_byte, take_u32};
 use std::alloc::{AllocError, Global};
 
 /// The journal with which some bytes begin.
@@ -80,9 +81,6 @@ fn beginning_up_to(alloc: Global, bytes: &[u8], event: usize) -> Result<Journal,
     ensures within { IfOk result (λ j. j.kept ≤ length bytes.now) }
     ensures refused { IfErr result (IsRefused bytes.now) }
 {
-    one_head();
-    one_event();
-    one_fault();
     match after_events(alloc, bytes, event - 1) {
         Ok(left) => beginning_without(alloc, bytes, event, left),
         Err(_) => Err(ReplayFault::OutOfMemory),
@@ -152,39 +150,16 @@ fn after_event(alloc: Global, version: Version, bytes: &[u8]) -> Result<&[u8], A
     }
 }
 
-/// The first byte, and what stands after it; none where there is no byte.
-fn byte(bytes: &[u8]) -> Option<(u8, &[u8])>
-    ensures told { IfSome result (λ r. bytes.now ≡ r.0 ∷ r.1.now) }
-    ensures none { IfNone result (bytes.now ≡ []) }
-{
-    match bytes {
-        [byte, rest @ ..] => Some((*byte, rest)),
-        [] => None,
-    }
-}
-
-/// A number of four bytes, and what stands after it; none where the bytes are fewer.
-#[tactic(auto, unfolding(spelling::specs::Numbers::number_bytes))]
-fn word(bytes: &[u8]) -> Option<(u32, &[u8])>
-    ensures told { IfSome result (λ r. bytes.now ≡ number_bytes 4 r.0 ++ r.1.now) }
-    ensures fits { IfSome result (λ r. r.0 < 2 ^ 32) }
-    ensures none { IfNone result (length bytes.now < 4) }
-{
-    match bytes {
-        [a, b, c, d, rest @ ..] => Some((u32::from_le_bytes([*a, *b, *c, *d]), rest)),
-        _ => None,
-    }
-}
-
 /// Whether the bytes are too few for an event.
 fn is_cut(bytes: &[u8]) -> bool
     ensures { MatchBool result (IsCut bytes.now) (IsCut bytes.now → ⊥) }
 {
-    let Some((_kind, rest)) = byte(bytes) else {
+    let mut rest = bytes;
+    let Some(_kind) = take_byte(&mut rest) else {
         return true;
     };
-    match word(rest) {
-        Some((told, body)) => body.len() < told as usize,
+    match take_u32(&mut rest) {
+        Some(told) => rest.len() < told as usize,
         None => true,
     }
 }

@@ -6,8 +6,7 @@ use crate::rows::{ROWS, Row};
 use q_cluster::Cluster;
 use q_history::{ClusterEvent, ClusterFault, ClusterStep, EventAnswer};
 use q_script::{Founding, Script, ScriptLine};
-use q_sim::{Refusal, certified_code, print_pairs, print_told};
-use q_table::ProgramId;
+use q_sim::{Refusal, certified_code, event_of, print_pairs, print_told};
 use sc_members::Config;
 use sc_view::Value;
 use sc_world::Op;
@@ -55,21 +54,7 @@ fn event(rt: &HostRuntime, line: &ScriptLine) -> Option<ClusterEvent> {
             node: *node,
             value: Value::new(value.as_slice()).ok()?,
         }),
-        ScriptLine::Ask { node, start, .. } => Some(ClusterEvent::Ask {
-            node: *node,
-            program: ProgramId::new(0),
-            start: *start,
-        }),
-        ScriptLine::Deliver { message, node } => Some(ClusterEvent::Deliver {
-            message: *message as usize,
-            node: *node,
-        }),
-        ScriptLine::Hand { node } => Some(ClusterEvent::HandOut(*node)),
-        ScriptLine::Run { job } => Some(ClusterEvent::Finish(*job as usize)),
-        ScriptLine::Enter { node } => Some(ClusterEvent::Enter(*node)),
-        ScriptLine::Leave { node } => Some(ClusterEvent::Leave(*node)),
-        ScriptLine::Crash { node } => Some(ClusterEvent::Crash(*node)),
-        ScriptLine::All { .. } | ScriptLine::Pairs | ScriptLine::Journal { .. } => None,
+        _ => event_of(line),
     }
 }
 

@@ -186,7 +186,7 @@ impl Simulation {
     fn perform<F: Files>(&mut self, line: ScriptLine, files: &mut F) -> Result<(), AllocError>
         ensures { OnOk result (PrintsOver (Does F.write_gives line) self.old files.old self.new files.new) }
     {
-        match event(&line) {
+        match event_of(&line) {
             Some(event) => self.step(&event),
             None => self.perform_other(line, files),
         }
@@ -411,8 +411,9 @@ impl Simulation {
     }
 }
 
-/// The event that a line is, and nothing else. A store may have more bytes than an event has.
-fn event(line: &ScriptLine) -> Option<ClusterEvent>
+/// The event that a line of a script is, and nothing else: not of `program`, whose bytes are checked first, and not of
+/// `store`, which may have more bytes than an event has.
+pub fn event_of(line: &ScriptLine) -> Option<ClusterEvent>
     ensures { result ≡ event_of line.now }
 {
     match line {
