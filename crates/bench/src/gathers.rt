@@ -2,7 +2,7 @@
 
 use crate::measured::Measured;
 use anyhow::{Result, anyhow, bail};
-use q_book::{Book, Taken};
+use q_book::{Book, Delivery};
 use q_gather::{gather, gather_books};
 use q_replay::journal_bytes;
 use sc_members::Config;
@@ -59,7 +59,7 @@ fn store_at_all(alloc: Global, books: &mut [Book]) -> Result<Vec<Message>> {
 /// The message reaches the node of the book.
 fn deliver(book: &mut Book, message: &Message, sent: &mut Vec<Message>) -> Result<()> {
     let taken = book.deliver(message).map_err(|_| anyhow!("not taken"))?;
-    let Taken {
+    let Delivery {
         outs,
         progress: _,
         completed: _,

@@ -3,7 +3,7 @@
 use crate::measured::{Measured, RUNS};
 use anyhow::{Context, Result, bail};
 use q_nodes::{
-    Calls, ClusterScript, NodesFault, Outcome, make_calls, open_sockets, run_over_sockets,
+    Calls, ClusterRunFault, ClusterScript, Outcome, make_calls, open_sockets, run_over_sockets,
 };
 use q_outside::{Counted, UdpTransport};
 use std::alloc::{AllocError, Global};
@@ -55,7 +55,7 @@ fn read(alloc: Global, text: &str) -> Result<ClusterScript> {
 }
 
 /// A refusal.
-fn refuse<T>(fault: NodesFault) -> Result<T> {
+fn refuse<T>(fault: ClusterRunFault) -> Result<T> {
     bail!("refused: {fault}")
 }
 

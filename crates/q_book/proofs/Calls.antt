@@ -21,7 +21,7 @@ use Rattle.q_desk.specs.Desks as desk
 use Rattle.q_desk.specs.declared.journal.Entry.{Entry}
 use Rattle.q_desk.specs.declared.journal.Entry.TheVariants as entry
 use Rattle.q_book.specs.declared.answer.Asked.{Asked}
-use Rattle.q_book.specs.declared.answer.Taken.{Taken}
+use Rattle.q_book.specs.declared.answer.Delivery.{Delivery}
 use Rattle.reasons.specs.declared.Reason.TheVariants.{OutOfMemory as memory}
 use Rattle.q_book.specs.State.{BookState}
 use Rattle.q_book.specs.Books.{present, asking, storing, taking, by_desk, by_node, with_desk, asks, asks_node, asked, stores, stores_node, stored, delivers, delivers_node, delivered, leaves, leaves_node, left, record_lengths}
@@ -125,7 +125,7 @@ module _ (b : BookState) where
   abbrev pub leaves_call : List Message → DeskState → NodeState → List Message × BookState
   leaves_call outs d n = leaves b d outs n
 
-  abbrev pub delivers_call : Delivered → DeskState → NodeState → Taken × BookState
+  abbrev pub delivers_call : Delivered → DeskState → NodeState → Delivery × BookState
   delivers_call told d n = delivers b d told n
 
   pub asked_by : (program start : ℕ) → AllHold (asking b program) → asked b program start ≡ by_call asks_call (desk.asking b.desk b.node program start)

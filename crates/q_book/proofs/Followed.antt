@@ -24,7 +24,7 @@ use Rattle.q_book.specs.Books as book
 use Rattle.q_book.specs.Replays.{Follows, EntryFits}
 use Rattle.q_book.specs.Sends.{seen, sends, handed}
 use Rattle.q_book.specs.declared.answer.Asked.{Asked}
-use Rattle.q_book.specs.declared.answer.Taken.{Taken}
+use Rattle.q_book.specs.declared.answer.Delivery.{Delivery}
 use Rattle.reasons.specs.declared.Reason.{Reason}
 use Rattle.q_book.proofs.Parts.{is_there, left-parts, stored-parts, asked-parts, delivered-parts, desk-parts, stored-fits, delivered-fits}
 
@@ -46,7 +46,7 @@ deed (entry.Deliver m) = Delivers m
 deed e = Idles
 
 -- what a call told of a message, with the operation that the node says has ended
-abbrev pub taken : Taken → Option Ended → Told
+abbrev pub taken : Delivery → Option Ended → Told
 taken a ended = record { outs = a.outs; progress = a.progress; begun = None; ended = ended; answer = None }
 
 -- the operation that a message ended
@@ -117,7 +117,7 @@ module _ (b : BookState) where
       (made (entry.Store value) (began a.0.0) a.0.1 (desk.with_entry b.desk (entry.Store value)) (is_there b _ z h) (a.0.0, a.1, refl, fits)
       (seen_is (λ (x : Begun). x.outs) [] (book.stored b value) z _ h a.2) (noted_after b.desk b.id (began a.0.0) (entry.Store value)) fits)
 
-  delivered-accepted : (m : Message) (z : Taken × BookState) → book.delivered b m ≡ Ok z
+  delivered-accepted : (m : Message) (z : Delivery × BookState) → book.delivered b m ≡ Ok z
       → IsAccepted b (entry.Deliver m) (taken z.0 (ended_by (node.delivered b.node m))) z.1
   delivered-accepted m z h =
       let a = delivered-parts b m z h in
@@ -125,9 +125,9 @@ module _ (b : BookState) where
       let ends : ended ≡ a.0.0.ended = ap ended_by a.1 in
       let x = book.delivers b (desk.with_entry b.desk (entry.Deliver m)) a.0.0 a.0.1 in
       let fits = message_told (value_lengths b.version) m (delivered-fits b m z h) in
-      subst (λ (y : Taken × BookState). IsAccepted b (entry.Deliver m) (taken y.0 ended) y.1) a.2
+      subst (λ (y : Delivery × BookState). IsAccepted b (entry.Deliver m) (taken y.0 ended) y.1) a.2
       (made (entry.Deliver m) (taken x.0 ended) a.0.1 x.1.desk (is_there b _ z h) (a.0.0, a.1, ap (taken x.0) (sym ends), fits)
-      (seen_is (λ (y : Taken). y.outs) [] (book.delivered b m) z _ h a.2) (ended_after b.desk b.id (entry.Deliver m) (taken x.0 ended) a.0.0.ended ends) fits)
+      (seen_is (λ (y : Delivery). y.outs) [] (book.delivered b m) z _ h a.2) (ended_after b.desk b.id (entry.Deliver m) (taken x.0 ended) a.0.0.ended ends) fits)
 
   asked-accepted : (program start : ℕ) (z : Asked × BookState) → book.asked b program start ≡ Ok z → IsAccepted b (entry.Ask program start) (began z.0.begun) z.1
   asked-accepted program start z h =

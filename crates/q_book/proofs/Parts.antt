@@ -19,7 +19,7 @@ use Rattle.q_desk.specs.declared.journal.Entry.TheVariants as entry
 use Rattle.q_book.specs.State.{BookState}
 use Rattle.q_book.specs.Books as book
 use Rattle.q_book.specs.declared.answer.Asked.{Asked}
-use Rattle.q_book.specs.declared.answer.Taken.{Taken}
+use Rattle.q_book.specs.declared.answer.Delivery.{Delivery}
 use Rattle.reasons.specs.declared.Reason.TheVariants as reasons
 
 -- the node's part was accepted
@@ -50,14 +50,14 @@ module _ (b : BookState) where
   left-parts z h =
       by_node-ok (book.leaves b (desk.with_entry b.desk entry.Leave)) (node.left b.node) z (noted-ok (book.leaves_node b) b.desk entry.Leave z (tested_ok (book.present b) _ z h).1)
 
-  pub delivered-parts : (m : Message) (z : Taken × BookState) → book.delivered b m ≡ Ok z
+  pub delivered-parts : (m : Message) (z : Delivery × BookState) → book.delivered b m ≡ Ok z
       → (a : Delivered × NodeState) × (node.delivered b.node m ≡ Ok a) × (book.delivers b (desk.with_entry b.desk (entry.Deliver m)) a.0 a.1 ≡ z)
   delivered-parts m z h =
       by_node-ok (book.delivers b (desk.with_entry b.desk (entry.Deliver m))) (node.delivered b.node m) z
       (noted-ok (book.delivers_node b m) b.desk (entry.Deliver m) z (tested_ok (book.taking b m) _ z h).1)
 
   -- a message that was taken fits the book's version
-  pub delivered-fits : (m : Message) (z : Taken × BookState) → book.delivered b m ≡ Ok z → message.fits b.version m ≡ true
+  pub delivered-fits : (m : Message) (z : Delivery × BookState) → book.delivered b m ≡ Ok z → message.fits b.version m ≡ true
   delivered-fits m z h = (tested_ok (book.taking b m) _ z h).0.1.0
 
   pub stored-parts : (value : List ℕ) (z : Begun × BookState) → book.stored b value ≡ Ok z

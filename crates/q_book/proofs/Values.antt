@@ -9,10 +9,10 @@ use Rattle.sc_msg.specs.declared.message.Message.{Message}
 use Rattle.sc_msg.specs.declared.version.Version.{Version}
 use Rattle.sc_msg.specs.Lengths as message
 use Rattle.sc_node.specs.State.{NodeState}
-use Rattle.sc_operations.specs.declared.progress.Completion.{Completion}
-use Rattle.sc_operations.specs.declared.progress.Completion.TheVariants as completion
+use Rattle.sc_operations.specs.declared.progress.OpResult.{OpResult}
+use Rattle.sc_operations.specs.declared.progress.OpResult.TheVariants as op_result
 use Rattle.sc_operations.specs.declared.progress.Ended.{Ended}
-use Rattle.sc_node.specs.Lengths.{NodeHasValuesWithin, CompletionHasValuesWithin, EndedHasValuesWithin}
+use Rattle.sc_node.specs.Lengths.{NodeHasValuesWithin, ResultHasValuesWithin, EndedHasValuesWithin}
 use Rattle.sc_node.proofs.Kept.{founder_kept, entered_kept, store_kept, collect_kept, leave_kept, delivery_kept}
 use Rattle.q_session.specs.Records.{HasRecordsWithin, records_of}
 use Rattle.q_desk.specs.Keeping.{CompletesWithin, EndsWithin}
@@ -87,9 +87,9 @@ replay_values b r = replays_keep b.desk.journal _ b r.replayed (first_fits (valu
 abbrev pub MakesRecords : Type 0
 MakesRecords = (l : Lengths) (v : ViewMap) → HasValuesWithin l v → HasRecordsWithin (records_of l) v
 
-completes_within : MakesRecords → (l : Lengths) (what : Completion) → CompletionHasValuesWithin l what → CompletesWithin (records_of l) what
-completes_within makes l completion.Stored h = tt
-completes_within makes l (completion.Returned view) h = makes l view h
+completes_within : MakesRecords → (l : Lengths) (what : OpResult) → ResultHasValuesWithin l what → CompletesWithin (records_of l) what
+completes_within makes l op_result.Stored h = tt
+completes_within makes l (op_result.Returned view) h = makes l view h
 
 pub ends_within : MakesRecords → (l : Lengths) (x : Option Ended) → IfSome x (EndedHasValuesWithin l) → IfSome x (EndsWithin (records_of l))
 ends_within makes l None h = tt

@@ -26,7 +26,7 @@ use Rattle.q_desk.specs.State.{DeskState, new_desk}
 use Rattle.q_desk.specs.Desks as desk
 use Rattle.q_desk.specs.declared.journal.Entry.TheVariants as entry
 use Rattle.q_book.specs.declared.answer.Asked.{Asked}
-use Rattle.q_book.specs.declared.answer.Taken.{Taken}
+use Rattle.q_book.specs.declared.answer.Delivery.{Delivery}
 use Rattle.q_book.specs.State.{BookState}
 
 -- the lengths of the records that the programs of a book run over: 64 bytes in the first version, 16 to 128 in the
@@ -125,16 +125,16 @@ stored b value = tested (storing b value) (by_desk (stores_node b value) (desk.n
 -- ---- messages
 
 -- the view of a collect that ended goes to the query that waits for it
-abbrev pub delivers : BookState → DeskState → Delivered → NodeState → Taken × BookState
+abbrev pub delivers : BookState → DeskState → Delivered → NodeState → Delivery × BookState
 delivers b d told n = (
   record { outs = told.outs; progress = told.progress; completed = desk.completed_by told.ended (desk.ends told.ended d).0 },
   record b { node = n; desk = (desk.ends told.ended d).1 },
 )
 
-abbrev pub delivers_node : BookState → Message → Unit {0} → DeskState → Result (Taken × BookState) Reason
+abbrev pub delivers_node : BookState → Message → Unit {0} → DeskState → Result (Delivery × BookState) Reason
 delivers_node b m u d = by_node (delivers b d) (node.delivered b.node m)
 
-abbrev pub delivered : BookState → Message → Result (Taken × BookState) Reason
+abbrev pub delivered : BookState → Message → Result (Delivery × BookState) Reason
 delivered b m = tested (taking b m) (by_desk (delivers_node b m) (desk.noted b.desk (entry.Deliver m)))
 
 abbrev pub leaves : BookState → DeskState → List Message → NodeState → List Message × BookState

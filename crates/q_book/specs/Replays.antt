@@ -12,7 +12,7 @@ use Rattle.q_session.specs.declared.job.Job.{Job}
 use Rattle.q_desk.specs.declared.journal.Entry.{Entry}
 use Rattle.q_desk.specs.declared.journal.Entry.TheVariants as entry
 use Rattle.q_book.specs.declared.answer.Asked.{Asked}
-use Rattle.q_book.specs.declared.answer.Taken.{Taken}
+use Rattle.q_book.specs.declared.answer.Delivery.{Delivery}
 use Rattle.q_book.specs.State.{BookState}
 use Rattle.q_book.specs.Books.{registered, asked, stored, delivered, left, handed_out, posted, new_book, record_lengths}
 
@@ -22,7 +22,7 @@ Follows b entry.Leave c = (outs : List Message) × (left b ≡ Ok (outs, c))
 Follows b (entry.Register program) c = (id : ℕ) × (registered b program ≡ Ok (id, c))
 Follows b (entry.Ask program start) c = (a : Asked) × (asked b program start ≡ Ok (a, c))
 Follows b (entry.Store value) c = (a : Begun) × (stored b value ≡ Ok (a, c))
-Follows b (entry.Deliver m) c = (a : Taken) × (delivered b m ≡ Ok (a, c))
+Follows b (entry.Deliver m) c = (a : Delivery) × (delivered b m ≡ Ok (a, c))
 Follows b entry.HandOut c = (j : Job) × (handed_out b ≡ Ok (Some j, c))
 Follows b (entry.Post query ran) c = (j : Job) × (j.query ≡ query) × IsRight j.certified j.view j.start ran × (posted b j ran ≡ Ok (tt, c))
 

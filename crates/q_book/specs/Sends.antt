@@ -7,7 +7,7 @@ use Rattle.q_desk.specs.declared.journal.Entry.{Entry}
 use Rattle.q_desk.specs.declared.journal.Entry.TheVariants as entry
 use Rattle.reasons.specs.declared.Reason.{Reason}
 use Rattle.q_book.specs.declared.answer.Asked.{Asked}
-use Rattle.q_book.specs.declared.answer.Taken.{Taken}
+use Rattle.q_book.specs.declared.answer.Delivery.{Delivery}
 use Rattle.q_book.specs.State.{BookState}
 use Rattle.q_book.specs.Books.{asked, stored, delivered, left, handed_out}
 
@@ -21,7 +21,7 @@ abbrev pub sends : BookState → Entry → List Message
 sends b entry.Leave = seen (λ outs. outs) [] (left b)
 sends b (entry.Ask program start) = seen (λ (a : Asked). a.begun.outs) [] (asked b program start)
 sends b (entry.Store value) = seen (λ (a : Begun). a.outs) [] (stored b value)
-sends b (entry.Deliver m) = seen (λ (a : Taken). a.outs) [] (delivered b m)
+sends b (entry.Deliver m) = seen (λ (a : Delivery). a.outs) [] (delivered b m)
 sends b e = []
 
 -- the job that it hands out

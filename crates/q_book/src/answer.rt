@@ -12,9 +12,9 @@ pub struct Asked {
     pub begun: Begun,
 }
 
-/// A message that was delivered.
+/// What a delivery came to.
 #[derive(Drop)]
-pub struct Taken {
+pub struct Delivery {
     /// The messages that the node sends.
     pub outs: Outs,
     /// The operation that the message moved.

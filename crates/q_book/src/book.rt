@@ -17,7 +17,7 @@ ghost use Rattle.q_book.specs.Books.{present, asking, storing, taking, registere
 ghost use Rattle.q_book.specs.Called.{called};
 ghost use Rattle.q_book.specs.Replays.{IsReplay, EntryFits};
 
-use crate::answer::{Asked, Taken};
+use crate::answer::{Asked, Delivery};
 use crate::call::{Call, Reply};
 use crate::lengths::record_lengths;
 use q_desk::{Desk, Entry};
@@ -174,7 +174,7 @@ impl Book {
 
     /// Takes a message, also one that it took before, and its own. The view of a collect that ends goes to its query.
     /// Refused with 42, 50, 53, 46, 47, 99.
-    pub fn deliver(&mut self, message: &Message) -> Result<Taken, BookFault>
+    pub fn deliver(&mut self, message: &Message) -> Result<Delivery, BookFault>
         ensures { Steps memory (delivered self.old message.now) self.old self.new result }
     {
         delivery_keeps_lengths();
@@ -222,7 +222,7 @@ impl Book {
             Call::Register(program) => Ok(Reply::Registered(self.register(program)?)),
             Call::Ask { program, start } => Ok(Reply::Asked(self.ask(*program, *start)?)),
             Call::Store(bytes) => Ok(Reply::Begun(self.store(bytes)?)),
-            Call::Deliver(message) => Ok(Reply::Taken(self.deliver(message)?)),
+            Call::Deliver(message) => Ok(Reply::Delivered(self.deliver(message)?)),
             Call::HandOut => Ok(Reply::HandedOut(self.hand_out()?)),
             Call::Post(done) => {
                 self.post(done)?;
@@ -399,7 +399,7 @@ fn fitting_value(version: Version, bytes: &[u8]) -> Result<Value, BookFault>
 }
 
 // What is told of a message that the node took; the view of a collect that ended goes to its query.
-fn take(desk: &mut Desk, delivered: Delivered) -> Taken
+fn take(desk: &mut Desk, delivered: Delivered) -> Delivery
     requires { IfSome delivered.ended (EndsWithin desk.old.lengths) }
     ensures told { result ≡ record { outs = delivered.outs; progress = delivered.progress; completed = completed_by delivered.ended (ends delivered.ended desk.old).0 } }
     ensures new { desk.new ≡ (ends delivered.ended desk.old).1 }
@@ -410,7 +410,7 @@ fn take(desk: &mut Desk, delivered: Delivered) -> Taken
         ended,
     } = delivered;
     let completed = desk.end(ended);
-    Taken {
+    Delivery {
         outs,
         progress,
         completed,

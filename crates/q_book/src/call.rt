@@ -1,6 +1,6 @@
 //! The calls of a book as values, and what they answer.
 
-use crate::answer::{Asked, Taken};
+use crate::answer::{Asked, Delivery};
 use q_session::{Done, Job};
 use q_table::{Program, ProgramId};
 use sc_msg::Message;
@@ -42,7 +42,7 @@ pub enum Reply {
     /// The store that began.
     Begun(Begun),
     /// What is told of the message.
-    Taken(Taken),
+    Delivered(Delivery),
     /// The job; none where no query is ready.
     HandedOut(Option<Job>),
     /// The result is recorded.

@@ -38,7 +38,7 @@ pub mod laws;
 mod lengths;
 pub mod worked;
 
-pub use answer::{Asked, Taken};
+pub use answer::{Asked, Delivery};
 pub use book::{Book, BookFault};
 pub use call::{Call, Reply};
 pub use lengths::record_lengths;

@@ -12,7 +12,7 @@ ghost use Rattle.sc_msg.specs.declared.version.Version.TheVariants.{First, Secon
 ghost use Rattle.sc_msg.specs.declared.message.Message.{Message};
 ghost use Rattle.sc_node.specs.Nodes.{is_view_full, stored_view};
 ghost use Rattle.sc_node.specs.State.{NodeState};
-ghost use Rattle.sc_operations.specs.declared.progress.Completion.TheVariants as completion;
+ghost use Rattle.sc_operations.specs.declared.progress.OpResult.TheVariants as op_result;
 ghost use Rattle.reasons.specs.declared.Reason.TheVariants as reasons;
 ghost use Rattle.sc_operations.specs.declared.session.Session.{Session};
 ghost use Rattle.q_session.specs.declared.job.Job.{Job};
@@ -63,8 +63,8 @@ pub fn worked()
     ensures hand_out { (b : BookState) → called b call.HandOut ≡ mapped reply.HandedOut (handed_out b) }
 
     // The view of a collect that ended goes to its query, and it is told that the query has it.
-    ensures returned { (b : BookState) (n : NodeState) (v : ViewMap) (l : Interval) → (delivers b (record (new_desk l) { queries = query 9 Collecting ∷ [] }) (record { outs = []; progress = None; ended = Some (record { tag = 9; what = completion.Returned v }) }) n).1.desk ≡ record (new_desk l) { queries = query 9 (Ready v) ∷ [] } }
-    ensures told { (b : BookState) (n : NodeState) (v : ViewMap) (l : Interval) → (delivers b (record (new_desk l) { queries = query 9 Collecting ∷ [] }) (record { outs = []; progress = None; ended = Some (record { tag = 9; what = completion.Returned v }) }) n).0.completed ≡ Some (completed.Returned 0) }
+    ensures returned { (b : BookState) (n : NodeState) (v : ViewMap) (l : Interval) → (delivers b (record (new_desk l) { queries = query 9 Collecting ∷ [] }) (record { outs = []; progress = None; ended = Some (record { tag = 9; what = op_result.Returned v }) }) n).1.desk ≡ record (new_desk l) { queries = query 9 (Ready v) ∷ [] } }
+    ensures told { (b : BookState) (n : NodeState) (v : ViewMap) (l : Interval) → (delivers b (record (new_desk l) { queries = query 9 Collecting ∷ [] }) (record { outs = []; progress = None; ended = Some (record { tag = 9; what = op_result.Returned v }) }) n).0.completed ≡ Some (completed.Returned 0) }
 
     // An operation is open under its own tag.
     ensures open { (s : Session) → is_some (fin.get (fin.insert {R = nat_cmp} fin.empty 5 s) 5) ≡ true }

@@ -11,7 +11,7 @@ use q_command::{
     Denied, FileCommand, NodeCommand, Wanted, WordsFault, carry_out, gather_files, given_words,
     nodes_advice, read_words,
 };
-use q_nodes::{Ending, FileRun, NodesFault, run_file};
+use q_nodes::{ClusterRunFault, Ending, FileRun, run_file};
 use q_outside::{Counted, Files};
 use q_sim::{Refusal, put_refusal};
 use std::alloc::{AllocError, Global};
@@ -144,10 +144,10 @@ fn script_advice(
     alloc: Global,
     script: &str,
     source: Vec<u8>,
-    fault: NodesFault,
+    fault: ClusterRunFault,
 ) -> Result<Option<String>, AllocError> {
     match fault {
-        NodesFault::Script(refusal) => nodes_advice(
+        ClusterRunFault::Script(refusal) => nodes_advice(
             alloc,
             &Denied {
                 refusal,
@@ -155,11 +155,11 @@ fn script_advice(
                 bytes: source,
             },
         ),
-        NodesFault::BadCount => {
+        ClusterRunFault::BadCount => {
             let told = format!(in alloc; "{script}: A cluster is founded by 1 to 16 nodes.\n")?;
             Ok(Some(told))
         }
-        NodesFault::TransportFailed => Ok(None),
+        ClusterRunFault::TransportFailed => Ok(None),
     }
 }
 

@@ -6,7 +6,7 @@ use crate::forged::{Forged, datagrams};
 use crate::noise::{Flooding, Noisy};
 use q_command::{Wanted, read_words};
 use q_nodes::{
-    ClusterScript, Ending, NodesFault, open_sockets, run_cluster, run_file, run_over_sockets,
+    ClusterRunFault, ClusterScript, Ending, open_sockets, run_cluster, run_file, run_over_sockets,
 };
 use q_outside::{Counted, Files, Hub, MemoryFiles, MemoryTransport, Peer, UdpTransport};
 use q_script::number;
@@ -332,7 +332,7 @@ impl<'a, R: Net + Wait + Threads + Clock + Sync, W: Write> Nodes<'a, R, W> {
     }
 
     /// Prints the refusal of a script.
-    fn refuse(&mut self, fault: NodesFault) -> io::Result<Ending> {
+    fn refuse(&mut self, fault: ClusterRunFault) -> io::Result<Ending> {
         writeln!(self.out, "{fault}")?;
         Ok(Ending::Refused(fault))
     }

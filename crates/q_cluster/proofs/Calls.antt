@@ -12,7 +12,7 @@ use Rattle.q_session.specs.declared.ran.Ran.{Ran}
 use Rattle.q_book.specs.State.{BookState}
 use Rattle.q_book.specs.Books as book
 use Rattle.q_book.specs.declared.answer.Asked.{Asked}
-use Rattle.q_book.specs.declared.answer.Taken.{Taken}
+use Rattle.q_book.specs.declared.answer.Delivery.{Delivery}
 use Rattle.reasons.specs.declared.Reason.{Reason}
 use Rattle.q_history.specs.declared.event.ClusterEvent.{ClusterEvent}
 use Rattle.q_history.specs.declared.event.ClusterEvent.TheVariants as event
@@ -79,14 +79,14 @@ storing id value = record {
 abbrev pub stores_note : ℕ → List ℕ → Begun → Note
 stores_note id value a = record { told = told.Stored a.tag; act = world_event.Store id value; outs = a.outs; progress = None; begun = opened a }
 
-abbrev pub delivering : ℕ → Message → ℕ → Call Taken
+abbrev pub delivering : ℕ → Message → ℕ → Call Delivery
 delivering number m id = record {
   event = event.Deliver number id;
   said = λ b. book.delivered b m;
   next = λ c. delivers c number id;
 }
 
-abbrev pub delivers_note : ℕ → ℕ → Taken → Note
+abbrev pub delivers_note : ℕ → ℕ → Delivery → Note
 delivers_note number id a =
     record { told = told.Delivered a.completed; act = world_event.Deliver number id; outs = a.outs; progress = a.progress; begun = None }
 

@@ -21,7 +21,7 @@ use Rattle.q_session.specs.declared.ran.Ran.{Ran}
 use Rattle.q_book.specs.State.{BookState}
 use Rattle.q_book.specs.Books as book
 use Rattle.q_book.proofs.Parts.{delivered-parts}
-use Rattle.q_book.specs.declared.answer.Taken.{Taken}
+use Rattle.q_book.specs.declared.answer.Delivery.{Delivery}
 use Rattle.reasons.specs.declared.Reason.{Reason}
 use Rattle.reasons.specs.declared.Reason.TheVariants.{OutOfMemory as memory}
 use Rattle.q_history.specs.declared.event.ClusterStep.{ClusterStep}
@@ -130,14 +130,14 @@ module _ {A : Type 0} {version : Version} {books : BookMap} {past : Past} {jobs 
       noted_goes = goes past' jobs t noted_is
 
 -- what a book told of a message is what its node did
-told_by : (b : BookState) (m : Message) (a : Taken) (b' : BookState) → book.delivered b m ≡ Ok (a, b') → (t : Delivered) × (n : NodeState) × (node.delivered b.node m ≡ Ok (t, n)) × (t.progress ≡ a.progress)
+told_by : (b : BookState) (m : Message) (a : Delivery) (b' : BookState) → book.delivered b m ≡ Ok (a, b') → (t : Delivered) × (n : NodeState) × (node.delivered b.node m ≡ Ok (t, n)) × (t.progress ≡ a.progress)
 told_by b m a b' h =
     let p = delivered-parts b m (a, b') h in
-    (p.0.0, p.0.1, p.1, ap (λ (x : Taken × BookState). x.0.progress) p.2)
+    (p.0.0, p.0.1, p.1, ap (λ (x : Delivery × BookState). x.0.progress) p.2)
 
 -- so what was made ready for it is right
 pub counted_right : {version : Version} {books : BookMap} {past : Past} {jobs : List Job} {x : ClusterState} {id : ℕ} {b b' : BookState} → IsCluster version books past jobs → cluster_of version books past jobs ≡ x
-    → Some b ≡ fin.get books id → (m : Message) (a : Taken) → book.delivered b m ≡ Ok (a, b') → (counting : Option Counting) (reserved : Past) → reserved ≡ past
+    → Some b ≡ fin.get books id → (m : Message) (a : Delivery) → book.delivered b m ≡ Ok (a, b') → (counting : Option Counting) (reserved : Past) → reserved ≡ past
     → IsReady reserved.ops id (answered id m.from m.body) counting → IsRight reserved.ops id (length reserved.events) a.progress counting
 counted_right {version} {books} {past} {jobs} {x} {id} {b} {b'} old same has m a h counting reserved kept ready =
     let c : ClusterState = cluster_of version books past jobs in

@@ -18,7 +18,7 @@ ghost use Rattle.q_cluster.specs.Acts.{Doing, IsThere, MayRun, book_at};
 
 use crate::books::{Books, found_books};
 use bq_frame::Block;
-use q_book::{Asked, Book, Taken};
+use q_book::{Asked, Book, Delivery};
 use q_history::laws::{
     answers_stay, every_answer_is_true, every_book_is_a_replay, every_message_fits,
     every_view_is_returned, every_world_is_a_history,
@@ -401,7 +401,7 @@ impl Cluster {
         let Some(book) = self.books.get_mut(id) else {
             unreachable!()
         };
-        let Taken {
+        let Delivery {
             outs,
             progress,
             completed,

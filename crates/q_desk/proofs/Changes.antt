@@ -6,8 +6,8 @@ use Rattle.sc_view.specs.Views.{ViewMap}
 use Rattle.sc_msg.specs.declared.message.Message.{Message}
 use Rattle.sc_node.specs.declared.answer.Begun.{Begun}
 use Rattle.sc_node.specs.declared.answer.Delivered.{Delivered}
-use Rattle.sc_operations.specs.declared.progress.Completion.{Completion}
-use Rattle.sc_operations.specs.declared.progress.Completion.TheVariants as completion
+use Rattle.sc_operations.specs.declared.progress.OpResult.{OpResult}
+use Rattle.sc_operations.specs.declared.progress.OpResult.TheVariants as op_result
 use Rattle.sc_operations.specs.declared.progress.Ended.{Ended}
 use Rattle.sc_operations.specs.declared.progress.Progress.{Progress}
 use Rattle.bq_check.specs.Certificate.{Certificate}
@@ -60,7 +60,7 @@ pub record Begins (t : Told) (q : Query) : Type 0 where
 pub record Returns (t : Told) (q : Query) (view : ViewMap) : Type 0 where
   pub by : Ended
   pub told : t.ended ≡ Some by
-  pub what : by.what ≡ completion.Returned view
+  pub what : by.what ≡ op_result.Returned view
   pub tagged : by.tag ≡ q.tag
   pub phase : q.phase ≡ Collecting
 
@@ -200,7 +200,7 @@ module _ (d : DeskState) (node : ℕ) where
 
   -- a message was noted, and an operation may have ended: the query that waits for it has its view
   module _ (m : Entry) (t : Told) where
-    view_by : (x : Ended) (view : ViewMap) (k : ℕ) (o : Option Query) → t.ended ≡ Some x → x.what ≡ completion.Returned view
+    view_by : (x : Ended) (view : ViewMap) (k : ℕ) (o : Option Query) → t.ended ≡ Some x → x.what ≡ op_result.Returned view
         → position (desk.waits x.tag) d.queries ≡ Some k → slice_get d.queries k ≡ o
         → IsAfter d node t m (record (desk.with_entry d m) { queries = desk.in_phase d.queries k (Ready view) o }) None
     view_by x view k None told what is at = record { change = stays refl refl; lengths = refl; adds = refl }
@@ -215,14 +215,14 @@ module _ (d : DeskState) (node : ℕ) where
         } in
         record { change = rephased k q (Ready view) at (readied view returns refl refl) refl refl; lengths = refl; adds = refl }
 
-    returned_by : (x : Ended) (view : ViewMap) (o : Option ℕ) → t.ended ≡ Some x → x.what ≡ completion.Returned view → position (desk.waits x.tag) d.queries ≡ o
+    returned_by : (x : Ended) (view : ViewMap) (o : Option ℕ) → t.ended ≡ Some x → x.what ≡ op_result.Returned view → position (desk.waits x.tag) d.queries ≡ o
         → IsAfter d node t m (desk.returned_to (desk.with_entry d m) view o).1 None
     returned_by x view None told what is = noted_after t m
     returned_by x view (Some k) told what is = view_by x view k (slice_get d.queries k) told what is refl
 
-    returns_by : (x : Ended) (what : Completion) → t.ended ≡ Some x → x.what ≡ what → IsAfter d node t m (desk.returns x.tag what (desk.with_entry d m)).1 None
-    returns_by x completion.Stored told is = noted_after t m
-    returns_by x (completion.Returned view) told is = returned_by x view (position (desk.waits x.tag) d.queries) told is refl
+    returns_by : (x : Ended) (what : OpResult) → t.ended ≡ Some x → x.what ≡ what → IsAfter d node t m (desk.returns x.tag what (desk.with_entry d m)).1 None
+    returns_by x op_result.Stored told is = noted_after t m
+    returns_by x (op_result.Returned view) told is = returned_by x view (position (desk.waits x.tag) d.queries) told is refl
 
     pub ended_after : (x : Option Ended) → t.ended ≡ x → IsAfter d node t m (desk.ends x (desk.with_entry d m)).1 None
     ended_after None told = noted_after t m

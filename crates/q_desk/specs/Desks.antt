@@ -6,8 +6,8 @@ use Rattle.bq_range.specs.Interval.{Interval}
 use Rattle.bq_check.specs.Certificate.{Certificate}
 use Rattle.q_table.specs.Programs as table
 use Rattle.sc_node.specs.declared.answer.Begun.{Begun}
-use Rattle.sc_operations.specs.declared.progress.Completion.{Completion}
-use Rattle.sc_operations.specs.declared.progress.Completion.TheVariants as completion
+use Rattle.sc_operations.specs.declared.progress.OpResult.{OpResult}
+use Rattle.sc_operations.specs.declared.progress.OpResult.TheVariants as op_result
 use Rattle.sc_operations.specs.declared.progress.Ended.{Ended}
 use Rattle.reasons.specs.declared.Reason.{Reason}
 use Rattle.sc_node.specs.Nodes as node
@@ -122,18 +122,18 @@ returned s tag view = returned_to s view (position (waits tag) s.queries)
 
 -- ---- operations that end
 
-abbrev pub returns : ℕ → Completion → DeskState → Option ℕ × DeskState
-returns tag completion.Stored s = (None, s)
-returns tag (completion.Returned view) s = returned s tag view
+abbrev pub returns : ℕ → OpResult → DeskState → Option ℕ × DeskState
+returns tag op_result.Stored s = (None, s)
+returns tag (op_result.Returned view) s = returned s tag view
 
 -- the view of a collect that ended goes to the query that waits for it
 abbrev pub ends : Option Ended → DeskState → Option ℕ × DeskState
 ends None s = (None, s)
 ends (Some e) s = returns e.tag e.what s
 
-abbrev pub completes : ℕ → Completion → Option ℕ → Option Completed
-completes tag completion.Stored query = Some (completed.Stored tag)
-completes tag (completion.Returned view) query = option_map completed.Returned query
+abbrev pub completes : ℕ → OpResult → Option ℕ → Option Completed
+completes tag op_result.Stored query = Some (completed.Stored tag)
+completes tag (op_result.Returned view) query = option_map completed.Returned query
 
 -- the store that ended, or the query whose collect did
 abbrev pub completed_by : Option Ended → Option ℕ → Option Completed

@@ -1,8 +1,8 @@
 -- Inner: what each desk keeps.
 use Rattle.std.specs.Prelude.{◌≡◌, ℕ, ◌+◌, ◌≤◌, ◌<◌, List, length, slice_get, Some, IfSome}
 use Rattle.bq_range.specs.Interval.{Interval}
-use Rattle.sc_operations.specs.declared.progress.Completion.{Completion}
-use Rattle.sc_operations.specs.declared.progress.Completion.TheVariants as completion
+use Rattle.sc_operations.specs.declared.progress.OpResult.{OpResult}
+use Rattle.sc_operations.specs.declared.progress.OpResult.TheVariants as op_result
 use Rattle.sc_operations.specs.declared.progress.Ended.{Ended}
 use Rattle.bq_check.specs.Certificate.{Certificate}
 use Rattle.q_table.specs.Programs.{IsTable}
@@ -27,9 +27,9 @@ abbrev pub ViewsFit : Interval → List Query → Type 0
 ViewsFit lengths queries = (k : ℕ) (q : Query) → slice_get queries k ≡ Some q → IfSome (view_in q.phase) (HasRecordsWithin lengths)
 
 -- a view that an operation returned has records of these lengths
-abbrev pub CompletesWithin : Interval → Completion → Type 0
-CompletesWithin lengths completion.Stored = Unit {0}
-CompletesWithin lengths (completion.Returned view) = HasRecordsWithin lengths view
+abbrev pub CompletesWithin : Interval → OpResult → Type 0
+CompletesWithin lengths op_result.Stored = Unit {0}
+CompletesWithin lengths (op_result.Returned view) = HasRecordsWithin lengths view
 
 abbrev pub EndsWithin : Interval → Ended → Type 0
 EndsWithin lengths e = CompletesWithin lengths e.what

@@ -23,7 +23,7 @@ use q_session::{Done, Job, Phase, Query, Ran};
 use q_table::{Program, ProgramId, Programs};
 use reasons::Reason;
 use sc_msg::Message;
-use sc_node::{Begun, Completion, Delivered, Ended, Node, Outs};
+use sc_node::{Begun, Delivered, Ended, Node, OpResult, Outs};
 use sc_view::{Value, View};
 use std::alloc::{AllocError, Global};
 use std::marker::Model;
@@ -249,8 +249,8 @@ impl Desk {
     {
         let Ended { tag, what } = ended?;
         match what {
-            Completion::Stored => Some(Completed::Stored(tag)),
-            Completion::Returned(view) => {
+            OpResult::Stored => Some(Completed::Stored(tag)),
+            OpResult::Returned(view) => {
                 let query = self.returned(tag, view)?;
                 Some(Completed::Returned(query))
             }

@@ -6,7 +6,7 @@ ghost use Rattle.bq_check.specs.Certificate.{Certificate};
 ghost use Rattle.sc_msg.specs.declared.message.Message.{Message};
 ghost use Rattle.sc_node.specs.State.{NodeState};
 ghost use Rattle.sc_node.specs.declared.answer.Begun.{Begun};
-ghost use Rattle.sc_operations.specs.declared.progress.Completion.TheVariants as completion;
+ghost use Rattle.sc_operations.specs.declared.progress.OpResult.TheVariants as op_result;
 ghost use Rattle.reasons.specs.declared.Reason.TheVariants as reasons;
 ghost use Rattle.sc_view.specs.Views.{ViewMap};
 ghost use Rattle.q_session.specs.Jobs.{job_over};
@@ -39,8 +39,8 @@ pub fn worked()
     ensures asked { (c : Certificate) (l : Interval) → desk.asked (record (new_desk l) { programs = c ∷ [] }) 9 0 7 ≡ Ok (0, record { lengths = l; programs = c ∷ []; queries = query 9 Collecting ∷ []; journal = entry.Ask 0 7 ∷ [] }) }
     ensures too_many { (s : DeskState) → desk.knows s 0 ≡ true → length s.queries ≡ 4096 → desk.asked s 9 0 7 ≡ Err reasons.BookFull }
     ensures returned { (s : DeskState) (v : ViewMap) → desk.returned (record s { queries = query 8 Collecting ∷ query 9 Collecting ∷ [] }) 9 v ≡ (Some 1, record s { queries = query 8 Collecting ∷ query 9 (Ready v) ∷ [] }) }
-    ensures stored { (s : DeskState) → desk.ends (Some (record { tag = 5; what = completion.Stored })) s ≡ (None, s) }
-    ensures completed { (query : Option ℕ) → desk.completed_by (Some (record { tag = 5; what = completion.Stored })) query ≡ Some (completed.Stored 5) }
+    ensures stored { (s : DeskState) → desk.ends (Some (record { tag = 5; what = op_result.Stored })) s ≡ (None, s) }
+    ensures completed { (query : Option ℕ) → desk.completed_by (Some (record { tag = 5; what = op_result.Stored })) query ≡ Some (completed.Stored 5) }
 
     // Jobs: the ready query with the least number is handed out, and runs.
     ensures handed_out { (c : Certificate) (v : ViewMap) (l : Interval) → desk.handed_out (record (new_desk l) { programs = c ∷ []; queries = query 8 (Running v) ∷ query 9 (Ready v) ∷ [] }) 3 ≡ Ok (Some (job_over 3 1 (query 9 (Ready v)) c v), record { lengths = l; programs = c ∷ []; queries = query 8 (Running v) ∷ query 9 (Running v) ∷ []; journal = entry.HandOut ∷ [] }) }

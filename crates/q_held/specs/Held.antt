@@ -9,7 +9,7 @@ use Rattle.q_book.specs.State.{BookState}
 use Rattle.q_book.specs.Books.{asked, delivered, left, stored}
 use Rattle.reasons.specs.declared.Reason.TheVariants.{OutOfMemory as memory}
 use Rattle.q_book.specs.declared.answer.Asked.{Asked}
-use Rattle.q_book.specs.declared.answer.Taken.{Taken}
+use Rattle.q_book.specs.declared.answer.Delivery.{Delivery}
 use Rattle.reasons.specs.declared.Reason.{Reason}
 use Rattle.q_held.specs.declared.held.Lost.{Lost}
 use Rattle.q_held.specs.declared.held.Lost.TheVariants as lost
@@ -23,7 +23,7 @@ IsSame b had c has = (c ≡ b) × (has ≡ had)
 -- the message is delivered, what it ended is answered, and what the book gives waits behind what waited; or the book
 -- refuses it
 abbrev pub Delivers : Message → BookState → List Message → Result (Option Completed) Lost → BookState → List Message → Type 0
-Delivers m b had (Ok ended) c has = (a : Taken) × (delivered b m ≡ Ok (a, c)) × (ended ≡ a.completed) × (has ≡ had ++ a.outs)
+Delivers m b had (Ok ended) c has = (a : Delivery) × (delivered b m ≡ Ok (a, c)) × (ended ≡ a.completed) × (has ≡ had ++ a.outs)
 Delivers m b had (Err (lost.Book f)) c has = IsSame b had c has × (f ≢ memory → delivered b m ≡ Err f)
 Delivers m b had (Err e) c has = ⊥
 

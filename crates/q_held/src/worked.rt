@@ -15,7 +15,7 @@ ghost use Rattle.q_desk.specs.declared.completed.Completed.{Completed};
 ghost use Rattle.q_book.specs.State.{BookState};
 ghost use Rattle.q_book.specs.Books.{asked, delivered, stored};
 ghost use Rattle.q_book.specs.declared.answer.Asked.{Asked};
-ghost use Rattle.q_book.specs.declared.answer.Taken.{Taken};
+ghost use Rattle.q_book.specs.declared.answer.Delivery.{Delivery};
 ghost use Rattle.reasons.specs.declared.Reason.TheVariants as reasons;
 ghost use Rattle.q_board.specs.Pumped.{Pumped};
 ghost use Rattle.q_held.specs.Held.{Asks, Delivers, Hears, Receives, Stores, both_unsent, counted, losses_text, no_losses, sum_of, together, unsent_text, with_one};
@@ -48,7 +48,7 @@ pub fn worked_texts()
 
 /// What is done under a lock, where the call of the book answers this.
 pub fn worked_calls()
-    ensures delivered { (m : Sent) (b c d : BookState) (had has : List Sent) (o : Option Completed) (a : Taken) → delivered b m ≡ Ok (a, d) → Delivers m b had (Ok o) c has → (c ≡ d) × (o ≡ a.completed) × (has ≡ had ++ a.outs) }
+    ensures delivered { (m : Sent) (b c d : BookState) (had has : List Sent) (o : Option Completed) (a : Delivery) → delivered b m ≡ Ok (a, d) → Delivers m b had (Ok o) c has → (c ≡ d) × (o ≡ a.completed) × (has ≡ had ++ a.outs) }
     ensures bell { (b c : BookState) (had has : List Sent) (l k : Counts) (o : Option Completed) → Receives [] b had l o c has k → (c ≡ b) × (has ≡ had) × (o ≡ None) × (k ≡ l) }
     ensures no_bell { (b c : BookState) (had has : List Sent) (l k : Counts) (o : Option Completed) → Receives (1 ∷ []) b had l o c has k → (r : Result (Option Completed) Lost) × (k ≡ counted r l) × Hears (1 ∷ []) b had r c has }
     ensures not_spelled { (b c : BookState) (had has : List Sent) (f : MessageFault) → Hears [] b had (Err (lost.Bytes f)) c has → (c ≡ b) × (has ≡ had) }

@@ -7,7 +7,7 @@ use Rattle.std.specs.FinSet as set
 use Rattle.sc_view.specs.Views.{ViewMap}
 use Rattle.sc_node.specs.State.{NodeState}
 use Rattle.sc_node.specs.Nodes as node
-use Rattle.sc_operations.specs.declared.progress.Completion.TheVariants as completion
+use Rattle.sc_operations.specs.declared.progress.OpResult.TheVariants as op_result
 use Rattle.sc_operations.specs.declared.progress.Ended.{Ended}
 use Rattle.sc_world.specs.declared.act.Opened.{Opened}
 use Rattle.sc_world.specs.declared.event.WorldEvent.{WorldEvent}
@@ -117,7 +117,7 @@ module _ (c : ClusterState) (kept : IsKept c) where
     lawful : IsLawful (world_of (fin.insert (nodes_of c.books) id r.node) (past_in c p))
     onward : IsOnward c.past.ops p.ops
     begun : (a : Opened) → r.begun ≡ Some a → (o : Op) × Among o p.ops × (o.node ≡ id) × (o.tag ≡ a.tag)
-    returned : (x : Ended) (view : ViewMap) → r.ended ≡ Some x → x.what ≡ completion.Returned view → HasReturned (world_of (fin.insert (nodes_of c.books) id r.node) (past_in c p)) (world.clock w) id x.tag view
+    returned : (x : Ended) (view : ViewMap) → r.ended ≡ Some x → x.what ≡ op_result.Returned view → HasReturned (world_of (fin.insert (nodes_of c.books) id r.node) (past_in c p)) (world.clock w) id x.tag view
 
   acted_by : (id : ℕ) (b : BookState) → live_at c id ≡ Some b → (o : Option WorldEvent) (r : world.Outcome) → Acted id c.past.sent o b.node r → IsActed id (ledger c.past id o r) r
   acted_by id b live None r h =

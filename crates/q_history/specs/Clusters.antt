@@ -22,7 +22,7 @@ use Rattle.q_session.specs.declared.job.Job.{Job}
 use Rattle.q_book.specs.State.{BookState}
 use Rattle.q_book.specs.Books as book
 use Rattle.q_book.specs.declared.answer.Asked.{Asked}
-use Rattle.q_book.specs.declared.answer.Taken.{Taken}
+use Rattle.q_book.specs.declared.answer.Delivery.{Delivery}
 use Rattle.q_history.specs.declared.event.ClusterEvent.{ClusterEvent}
 use Rattle.q_history.specs.declared.event.ClusterEvent.TheVariants as event
 use Rattle.q_history.specs.declared.event.Handed.{Handed}
@@ -99,7 +99,7 @@ stored c id value b = lift (stores c id value) (book.stored b value)
 
 -- ---- messages
 
-abbrev pub delivers : ClusterState → ℕ → ℕ → Taken → BookState → ClusterStep × ClusterState
+abbrev pub delivers : ClusterState → ℕ → ℕ → Delivery → BookState → ClusterStep × ClusterState
 delivers c number id a b = noted c (told.Delivered a.completed) (world_event.Deliver number id) id a.outs a.progress None b
 
 abbrev pub delivered_as : ClusterState → ℕ → ℕ → BookState → Option Message → Said

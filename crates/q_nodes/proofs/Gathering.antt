@@ -7,7 +7,7 @@ use Rattle.q_history.specs.Headline.{ClusterState}
 use Rattle.q_nodes.specs.Faults.{bad_founders}
 use Rattle.q_nodes.specs.Lines.{InTurn, IsTold, Lacks, tally_of, texts_of}
 use Rattle.q_nodes.specs.Runs.{IsClusterOf, IsFoundedBy, IsTelling, IsUngathered}
-use Rattle.q_nodes.specs.declared.fault.NodesFault.{NodesFault}
+use Rattle.q_nodes.specs.declared.fault.ClusterRunFault.{ClusterRunFault}
 use Rattle.q_nodes.specs.declared.report.Report.{Report}
 use Rattle.q_nodes.specs.declared.report.Tally.{Tally}
 use Rattle.q_nodes.specs.declared.script.ClusterScript.{ClusterScript}
@@ -15,17 +15,17 @@ use Rattle.q_nodes.specs.declared.telling.Telling.{Telling}
 
 -- ---- what is told
 
-pub told_whole : (script : ClusterScript) (books : List BookState) (c : ClusterState) (reports : List Report) (tally : Tally) (refusal : Option NodesFault) (text : List ℕ) → IsClusterOf script books c → InTurn (IsTold script.nodes c) script.lines.items reports
+pub told_whole : (script : ClusterScript) (books : List BookState) (c : ClusterState) (reports : List Report) (tally : Tally) (refusal : Option ClusterRunFault) (text : List ℕ) → IsClusterOf script books c → InTurn (IsTold script.nodes c) script.lines.items reports
     → text ≡ texts_of reports → tally ≡ tally_of reports → refusal ≡ None → IsTelling script books tally refusal text
 told_whole script books c reports tally refusal text of told says counts none =
-    subst (λ (r : Option NodesFault). IsTelling script books tally r text) (sym none) (record { cluster = c; is_cluster = of; reports = reports; told = told; says = says; counts = counts })
+    subst (λ (r : Option ClusterRunFault). IsTelling script books tally r text) (sym none) (record { cluster = c; is_cluster = of; reports = reports; told = told; says = says; counts = counts })
 
 -- ---- why there is no cluster of the script
 
-pub not_founded : (script : ClusterScript) (books : List BookState) (c : ClusterState) (f : NodesFault) → GathersBooks books c → f ≡ bad_founders → (IsFoundedBy script c → ⊥) → IsUngathered script books f
+pub not_founded : (script : ClusterScript) (books : List BookState) (c : ClusterState) (f : ClusterRunFault) → GathersBooks books c → f ≡ bad_founders → (IsFoundedBy script c → ⊥) → IsUngathered script books f
 not_founded script books c f gathers is other = inr (c, gathers, is, inl other)
 
-pub not_there : (script : ClusterScript) (books : List BookState) (c : ClusterState) (f : NodesFault) → GathersBooks books c → f ≡ bad_founders → Lacks script.nodes c script.lines.items → IsUngathered script books f
+pub not_there : (script : ClusterScript) (books : List BookState) (c : ClusterState) (f : ClusterRunFault) → GathersBooks books c → f ≡ bad_founders → Lacks script.nodes c script.lines.items → IsUngathered script books f
 not_there script books c f gathers is lacks = inr (c, gathers, is, inr lacks)
 
 -- ---- what a cluster lacks

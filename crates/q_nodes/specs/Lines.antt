@@ -21,8 +21,8 @@ use Rattle.q_sim.specs.Programs.{IsProgram, IsRefusal}
 use Rattle.q_sim.specs.declared.refusal.Refusal.{Refusal}
 use Rattle.q_nodes.specs.Books.{BeginsQuery, BeginsStore, Registers, own_book, recorded}
 use Rattle.q_nodes.specs.Faults.{no_such_node, text}
-use Rattle.q_nodes.specs.declared.fault.NodesFault.{NodesFault}
-use Rattle.q_nodes.specs.declared.fault.NodesFault.TheVariants.{Script}
+use Rattle.q_nodes.specs.declared.fault.ClusterRunFault.{ClusterRunFault}
+use Rattle.q_nodes.specs.declared.fault.ClusterRunFault.TheVariants.{Script}
 use Rattle.q_nodes.specs.declared.outcome.Outcome.{Outcome}
 use Rattle.q_nodes.specs.declared.outcome.Outcome.TheVariants as outcome
 use Rattle.q_nodes.specs.declared.report.Report.{Report}
@@ -137,7 +137,7 @@ IsToldApart nodes books l (Asked node query answer) =
 
 -- ---- what is printed of it
 
-abbrev pub refused_line : NodesFault → List ℕ
+abbrev pub refused_line : ClusterRunFault → List ℕ
 refused_line f = text f ++ 10 ∷ []
 
 abbrev pub unanswered_line : List ℕ

@@ -15,8 +15,8 @@ use Rattle.q_nodes.specs.Books.{AreBooksOf, IsOther}
 use Rattle.q_nodes.specs.Faults.{bad_founders, of_gather, reason}
 use Rattle.q_nodes.specs.Lines.{InTurn, IsNode, IsTold, IsToldApart, Lacks, is_clean, refused_line, tally_of, texts_of}
 use Rattle.q_nodes.specs.Scripts.{IsClusterScript, IsRefused}
-use Rattle.q_nodes.specs.declared.fault.NodesFault.{NodesFault}
-use Rattle.q_nodes.specs.declared.fault.NodesFault.TheVariants.{BadCount, TransportFailed, Script}
+use Rattle.q_nodes.specs.declared.fault.ClusterRunFault.{ClusterRunFault}
+use Rattle.q_nodes.specs.declared.fault.ClusterRunFault.TheVariants.{BadCount, TransportFailed, Script}
 use Rattle.q_nodes.specs.declared.report.Report.{Report}
 use Rattle.q_nodes.specs.declared.report.Tally.{Tally}
 use Rattle.q_nodes.specs.declared.ending.Ending.{Ending}
@@ -54,14 +54,14 @@ pub record TellsAll (script : ClusterScript) (books : List BookState) (tally : T
 
 -- why there is no such cluster: the books do not gather; or they gather into a cluster of other fractions or founders,
 -- or into one that lacks what the call of a line came to
-abbrev pub IsUngathered : ClusterScript → List BookState → NodesFault → Type 0
+abbrev pub IsUngathered : ClusterScript → List BookState → ClusterRunFault → Type 0
 IsUngathered script books f =
     ((g : GatherFault) × AreRefused books g × (f ≡ of_gather g))
     ⊎ ((c : ClusterState) × GathersBooks books c × (f ≡ bad_founders)
     × ((IsFoundedBy script c → ⊥) ⊎ Lacks script.nodes c script.lines.items))
 
 -- the text is what the lines tell of nodes whose books make no cluster of the script
-pub record TellsApart (script : ClusterScript) (books : List BookState) (f : NodesFault) (text : List ℕ) : Type 0 where
+pub record TellsApart (script : ClusterScript) (books : List BookState) (f : ClusterRunFault) (text : List ℕ) : Type 0 where
   pub why : IsUngathered script books f
   pub reports : List Report
   pub told : InTurn (IsToldApart script.nodes books) script.lines.items reports
@@ -69,12 +69,12 @@ pub record TellsApart (script : ClusterScript) (books : List BookState) (f : Nod
 
 -- What is to be printed: what the lines tell of the cluster of these books; or of nodes whose books make none, where
 -- this refusal comes behind it.
-abbrev pub IsTelling : ClusterScript → List BookState → Tally → Option NodesFault → List ℕ → Type 0
+abbrev pub IsTelling : ClusterScript → List BookState → Tally → Option ClusterRunFault → List ℕ → Type 0
 IsTelling script books tally None text = TellsAll script books tally text
 IsTelling script books tally (Some f) text = TellsApart script books f text
 
 -- the same of the nodes' books
-pub record IsTellingOfNodes (script : ClusterScript) (tally : Tally) (refusal : Option NodesFault) (text : List ℕ) : Type 0 where
+pub record IsTellingOfNodes (script : ClusterScript) (tally : Tally) (refusal : Option ClusterRunFault) (text : List ℕ) : Type 0 where
   pub books : List BookState
   pub are_books : AreBooksOf script.nodes books
   pub tells : IsTelling script books tally refusal text
@@ -106,7 +106,7 @@ abbrev pub IsUnwritten : Option (List ℕ) → Option (List ℕ) → Type 0
 IsUnwritten before after = (part : List ℕ) × Appends before after part
 
 -- this refusal is all that is written; or the writer failed
-abbrev pub IsRefusedAlone : NodesFault → Writing
+abbrev pub IsRefusedAlone : ClusterRunFault → Writing
 IsRefusedAlone f (ending.Gathered tally) before after = ⊥
 IsRefusedAlone f (ending.Refused g) before after = (g ≡ f) × Appends before after (refused_line f)
 IsRefusedAlone f ending.Unwritten before after = IsUnwritten before after
@@ -120,14 +120,14 @@ pub record IsAstray (nodes : ℕ) : Type 0 where
 
 -- Why no line of a script of so many nodes is told: memory ran out, or a thread was not started; there are not 1 to 16
 -- nodes; or a lock kept the book of another node.
-abbrev pub IsUntold : ℕ → NodesFault → Type 0
+abbrev pub IsUntold : ℕ → ClusterRunFault → Type 0
 IsUntold nodes f =
     (reason f ≡ OutOfMemory)
     ⊎ (((f ≡ BadCount) × ¬ ((1 ≤ nodes) × (nodes ≤ 16)))
     ⊎ ((f ≡ bad_founders) × IsAstray nodes))
 
 -- the text is what the lines tell of nodes whose books make no cluster of the script, and the refusal behind it
-pub record TellsRefusal (script : ClusterScript) (f : NodesFault) (text : List ℕ) : Type 0 where
+pub record TellsRefusal (script : ClusterScript) (f : ClusterRunFault) (text : List ℕ) : Type 0 where
   pub books : List BookState
   pub are_books : AreBooksOf script.nodes books
   pub told : List ℕ
@@ -153,7 +153,7 @@ abbrev pub IsWrittenOf : List ℕ → Writing
 IsWrittenOf source e before after =
     ((script : ClusterScript) × IsClusterScript source script
     × (IsWritten script e before after ⊎ IsRefusedAlone TransportFailed e before after))
-    ⊎ ((f : NodesFault) × IsRefused source f × IsRefusedAlone f e before after)
+    ⊎ ((f : ClusterRunFault) × IsRefused source f × IsRefusedAlone f e before after)
 
 -- the same of bytes that are a text; or they are none
 abbrev pub IsWrittenBytes : List ℕ → Writing

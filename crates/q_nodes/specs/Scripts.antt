@@ -9,8 +9,8 @@ use Rattle.q_script.specs.Script.{IsFaultOf, IsScriptOf}
 use Rattle.q_sim.specs.Simulates.{HasFractions, config_of}
 use Rattle.q_sim.specs.declared.refusal.Refusal.TheVariants as refusal
 use Rattle.q_nodes.specs.Faults.{bad_founders}
-use Rattle.q_nodes.specs.declared.fault.NodesFault.{NodesFault}
-use Rattle.q_nodes.specs.declared.fault.NodesFault.TheVariants.{BadCount, Script}
+use Rattle.q_nodes.specs.declared.fault.ClusterRunFault.{ClusterRunFault}
+use Rattle.q_nodes.specs.declared.fault.ClusterRunFault.TheVariants.{BadCount, Script}
 use Rattle.q_nodes.specs.declared.script.ClusterLine.{ClusterLine}
 use Rattle.q_nodes.specs.declared.script.ClusterLine.TheVariants as line
 use Rattle.q_nodes.specs.declared.script.ClusterScript.{ClusterScript}
@@ -42,18 +42,18 @@ pub record IsClusterScript (source : List ℕ) (script : ClusterScript) : Type 0
 -- ---- faults
 
 -- 45
-abbrev pub bad_fraction : NodesFault
+abbrev pub bad_fraction : ClusterRunFault
 bad_fraction = Script (refusal.Fraction (record {}))
 
 -- what is first wrong with a founding: its fractions, more than 16 nodes, or none
-abbrev pub IsUnfit : Founding → NodesFault → Type 0
+abbrev pub IsUnfit : Founding → ClusterRunFault → Type 0
 IsUnfit f e =
     ((e ≡ bad_fraction) × ¬ (HasFractions f))
     ⊎ (((e ≡ BadCount) × HasFractions f × (16 < f.count))
     ⊎ ((e ≡ bad_founders) × HasFractions f × (f.count ≡ 0)))
 
 -- what is first wrong with a text: one of its lines, and then its founding
-abbrev pub IsRefused : List ℕ → NodesFault → Type 0
+abbrev pub IsRefused : List ℕ → ClusterRunFault → Type 0
 IsRefused source e =
     ((f : ScriptFault) × (e ≡ Script (refusal.Script f)) × IsFaultOf SpellsLine source f)
     ⊎ ((founding : Founding) × (ls : List ClusterLine) × IsScriptOf SpellsLine source founding ls × IsUnfit founding e)

@@ -3,7 +3,7 @@
 ghost use Rattle.std.specs.Prelude.{◌≡◌, string_bytes};
 ghost use Rattle.q_nodes.specs.Runs.{IsRefusedAlone, IsTellingOfNodes, IsUntold, IsWritten, failures_after, status_of};
 
-use crate::fault::NodesFault;
+use crate::fault::ClusterRunFault;
 use crate::report::Tally;
 use crate::script::ClusterScript;
 use crate::telling::Telling;
@@ -19,7 +19,7 @@ pub enum Ending {
     Gathered(Tally),
     /// This refusal was printed last: behind what the lines tell where the nodes make no cluster of the script, and
     /// else alone.
-    Refused(NodesFault),
+    Refused(ClusterRunFault),
     /// The writer failed.
     Unwritten,
 }
@@ -37,7 +37,7 @@ impl Ending {
 }
 
 /// Prints a refusal, with which a run ends.
-pub fn print_refusal<W: Write>(fault: NodesFault, out: &mut Counted<W>) -> Ending
+pub fn print_refusal<W: Write>(fault: ClusterRunFault, out: &mut Counted<W>) -> Ending
     ensures written { IsRefusedAlone fault result (W.contents out.old.inner) (W.contents out.new.inner) }
     ensures counted { out.new.failures ≡ failures_after result out.old.failures }
 {
@@ -50,7 +50,7 @@ pub fn print_refusal<W: Write>(fault: NodesFault, out: &mut Counted<W>) -> Endin
 /// Prints a refusal where no line is told.
 pub fn print_untold<W: Write>(
     script: &ClusterScript,
-    fault: NodesFault,
+    fault: ClusterRunFault,
     out: &mut Counted<W>,
 ) -> Ending
     requires { IsUntold script.now.nodes fault }

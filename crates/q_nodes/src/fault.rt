@@ -13,7 +13,7 @@ use std::fmt;
 
 /// A refusal. Its text is the line that is printed, without the line feed.
 #[derive(Clone, Copy, Debug, PartialEq, Eq)]
-pub enum NodesFault {
+pub enum ClusterRunFault {
     /// 62: more than 16 nodes.
     BadCount,
     /// 86: a socket could not be opened.
@@ -22,26 +22,26 @@ pub enum NodesFault {
     Script(Refusal),
 }
 
-impl NodesFault {
+impl ClusterRunFault {
     /// 81: the cluster has no such node.
-    pub fn no_such_node() -> NodesFault
+    pub fn no_such_node() -> ClusterRunFault
         ensures { result ≡ no_such_node }
     {
-        NodesFault::from(Reason::NoSuchNode)
+        ClusterRunFault::from(Reason::NoSuchNode)
     }
 
     /// 49: the cluster has no founders.
-    pub fn bad_founders() -> NodesFault
+    pub fn bad_founders() -> ClusterRunFault
         ensures { result ≡ bad_founders }
     {
-        NodesFault::from(Reason::BadFounders)
+        ClusterRunFault::from(Reason::BadFounders)
     }
 
     /// The reason by which the refusal is told.
     pub fn reason(self) -> Reason
         ensures { result ≡ reason self }
     {
-        told!(self, NodesFault: BadCount, TransportFailed, Script(refusal))
+        told!(self, ClusterRunFault: BadCount, TransportFailed, Script(refusal))
     }
 
     /// Where the refusal arose, as its line tells it.
@@ -49,60 +49,60 @@ impl NodesFault {
         ensures { result ≡ place self.now }
     {
         match self {
-            NodesFault::BadCount | NodesFault::TransportFailed => RefusalPlace::Untold,
-            NodesFault::Script(refusal) => refusal.place(),
+            ClusterRunFault::BadCount | ClusterRunFault::TransportFailed => RefusalPlace::Untold,
+            ClusterRunFault::Script(refusal) => refusal.place(),
         }
     }
 }
 
-impl fmt::Display for NodesFault {
+impl fmt::Display for ClusterRunFault {
     ghost output = { λ fault. Some (text fault) };
 
     fn fmt<W: fmt::Write>(&self, f: &mut fmt::Formatter<W>) -> fmt::Result {
         match self {
-            NodesFault::BadCount => write!(f, "refused {}", Reason::BadCount),
-            NodesFault::TransportFailed => write!(f, "refused {}", Reason::TransportFailed),
-            NodesFault::Script(refusal) => write!(f, "{refusal}"),
+            ClusterRunFault::BadCount => write!(f, "refused {}", Reason::BadCount),
+            ClusterRunFault::TransportFailed => write!(f, "refused {}", Reason::TransportFailed),
+            ClusterRunFault::Script(refusal) => write!(f, "{refusal}"),
         }
     }
 }
 
-impl From<Reason> for NodesFault {
+impl From<Reason> for ClusterRunFault {
     ghost from_gives = { λ refusal e. e ≡ of_fault refusal };
 
-    fn from(reason: Reason) -> NodesFault {
-        NodesFault::Script(Refusal::Cluster(reason))
+    fn from(reason: Reason) -> ClusterRunFault {
+        ClusterRunFault::Script(Refusal::Cluster(reason))
     }
 }
 
-impl From<FileFault> for NodesFault {
-    ghost use Rattle.q_nodes.specs.declared.fault.NodesFault.TheVariants.{Script};
+impl From<FileFault> for ClusterRunFault {
+    ghost use Rattle.q_nodes.specs.declared.fault.ClusterRunFault.TheVariants.{Script};
 
     ghost from_gives = { λ fault e. e ≡ Script (refusal_of fault) };
 
-    fn from(fault: FileFault) -> NodesFault {
-        NodesFault::Script(Refusal::from(fault))
+    fn from(fault: FileFault) -> ClusterRunFault {
+        ClusterRunFault::Script(Refusal::from(fault))
     }
 }
 
-impl From<AllocError> for NodesFault {
+impl From<AllocError> for ClusterRunFault {
     ghost from_gives = { λ _ e. e ≡ memory };
 
-    fn from(_: AllocError) -> NodesFault {
-        NodesFault::Script(Refusal::OutOfMemory)
+    fn from(_: AllocError) -> ClusterRunFault {
+        ClusterRunFault::Script(Refusal::OutOfMemory)
     }
 }
 
-impl From<GatherFault> for NodesFault {
+impl From<GatherFault> for ClusterRunFault {
     ghost from_gives = { λ refusal e. e ≡ of_gather refusal };
 
-    fn from(fault: GatherFault) -> NodesFault {
+    fn from(fault: GatherFault) -> ClusterRunFault {
         match fault {
-            GatherFault::Journal { fault, .. } => NodesFault::Script(Refusal::Journal(fault)),
-            GatherFault::IdUsed => NodesFault::from(Reason::IdUsed),
-            GatherFault::BadFounders => NodesFault::bad_founders(),
-            GatherFault::NeverSent => NodesFault::from(Reason::NeverSent),
-            GatherFault::OutOfMemory => NodesFault::Script(Refusal::OutOfMemory),
+            GatherFault::Journal { fault, .. } => ClusterRunFault::Script(Refusal::Journal(fault)),
+            GatherFault::IdUsed => ClusterRunFault::from(Reason::IdUsed),
+            GatherFault::BadFounders => ClusterRunFault::bad_founders(),
+            GatherFault::NeverSent => ClusterRunFault::from(Reason::NeverSent),
+            GatherFault::OutOfMemory => ClusterRunFault::Script(Refusal::OutOfMemory),
         }
     }
 }

@@ -4,7 +4,7 @@ ghost use Rattle.std.specs.Prelude.{◌≡◌, ◌≤◌, ℕ};
 ghost use Rattle.q_nodes.specs.Runs.{IsUntold};
 ghost use Rattle.q_nodes.specs.Halts.{IsHalt};
 
-use crate::fault::NodesFault;
+use crate::fault::ClusterRunFault;
 use q_board::OpenFault;
 use std::alloc::AllocError;
 
@@ -23,13 +23,13 @@ pub enum Halt {
 
 impl Halt {
     /// The refusal by which it is told.
-    pub fn fault(self) -> NodesFault
+    pub fn fault(self) -> ClusterRunFault
         ensures { (nodes : ℕ) → IsHalt nodes self → IsUntold nodes result }
     {
         match self {
-            Halt::OutOfMemory | Halt::Thread(_) => NodesFault::from(AllocError),
-            Halt::Astray => NodesFault::bad_founders(),
-            Halt::BadCount => NodesFault::BadCount,
+            Halt::OutOfMemory | Halt::Thread(_) => ClusterRunFault::from(AllocError),
+            Halt::Astray => ClusterRunFault::bad_founders(),
+            Halt::BadCount => ClusterRunFault::BadCount,
         }
     }
 

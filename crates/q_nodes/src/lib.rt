@@ -72,7 +72,7 @@ pub mod worked;
 
 pub use calls::{Calls, make_calls};
 pub use ending::{Ending, print_refusal, print_telling, print_untold};
-pub use fault::NodesFault;
+pub use fault::ClusterRunFault;
 pub use halt::Halt;
 pub use outcome::Outcome;
 pub use own::{are_of_nodes, is_of};

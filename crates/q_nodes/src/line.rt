@@ -5,7 +5,7 @@ ghost use Rattle.q_nodes.specs.Books.{BeginsQuery, BeginsStore, Registers};
 ghost use Rattle.q_nodes.specs.Lines.{CallsAt, ComesTo, ComesToProgram, InTurn};
 ghost use Rattle.q_nodes.specs.Halts.{IsHalt};
 
-use crate::fault::NodesFault;
+use crate::fault::ClusterRunFault;
 use crate::flight::Flight;
 use crate::halt::Halt;
 use crate::outcome::Outcome;
@@ -31,7 +31,7 @@ fn register<R: Wait>(
     ensures halt { IfErr result (IsHalt nodes) }
 {
     if !is_node(nodes, node) {
-        return Ok(Outcome::Refused(NodesFault::no_such_node()));
+        return Ok(Outcome::Refused(ClusterRunFault::no_such_node()));
     }
     // There are as many locks as nodes.
     let Some(held) = seat::seat(seats, node) else {
@@ -57,7 +57,7 @@ fn run_program<R: Wait>(
 {
     match certified_code(alloc, code) {
         Ok(program) => register(rt, seats, nodes, node, &program),
-        Err(refusal) => Ok(Outcome::Refused(NodesFault::Script(refusal))),
+        Err(refusal) => Ok(Outcome::Refused(ClusterRunFault::Script(refusal))),
     }
 }
 
@@ -73,7 +73,7 @@ fn run_store<R: Wait>(
     ensures halt { IfErr result (IsHalt nodes) }
 {
     if !is_node(nodes, node) {
-        return Ok(Outcome::Refused(NodesFault::no_such_node()));
+        return Ok(Outcome::Refused(ClusterRunFault::no_such_node()));
     }
     // There are as many locks as nodes.
     let Some(held) = seat::seat(seats, node) else {
@@ -98,7 +98,7 @@ fn run_ask<R: Wait>(
     ensures halt { IfErr result (IsHalt nodes) }
 {
     if !is_node(nodes, node) {
-        return Ok(Outcome::Refused(NodesFault::no_such_node()));
+        return Ok(Outcome::Refused(ClusterRunFault::no_such_node()));
     }
     // There are as many locks as nodes.
     let Some(held) = seat::seat(seats, node) else {

@@ -1,6 +1,6 @@
 //! What the call of a line came to.
 
-use crate::fault::NodesFault;
+use crate::fault::ClusterRunFault;
 use q_table::ProgramId;
 
 /// What the call of a line came to, as the book of its node answered it. What a line tells of it is a
@@ -8,7 +8,7 @@ use q_table::ProgramId;
 #[derive(Clone, Copy)]
 pub enum Outcome {
     /// It was refused; or the bytes of the line are no program, and no call was made.
-    Refused(NodesFault),
+    Refused(ClusterRunFault),
     /// The program is registered under this id.
     Registered(ProgramId),
     /// A store was begun under this tag.

@@ -3,7 +3,7 @@
 ghost use Rattle.std.specs.Prelude.{◌≡◌, ◌++◌, length, filter, IfOk, OnOk, string_bytes};
 ghost use Rattle.q_nodes.specs.Lines.{answer_text, end_text, is_clean, is_refusal, is_unanswered, tally_of, text_of, texts_of};
 
-use crate::fault::NodesFault;
+use crate::fault::ClusterRunFault;
 use q_history::{Answer, EventAnswer};
 use q_session::Ran;
 use q_sim::print_told;
@@ -14,7 +14,7 @@ use std::alloc::{AllocError, Global};
 #[derive(Clone, Copy)]
 pub enum Report {
     /// Why its call was refused, or why its bytes are no program.
-    Refused(NodesFault),
+    Refused(ClusterRunFault),
     /// The number of its program.
     Registered(ProgramId),
     /// The tag of its store.

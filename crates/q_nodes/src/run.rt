@@ -7,7 +7,7 @@ ghost use Rattle.q_nodes.specs.Halts.{IsHalt};
 
 use crate::calls::{Calls, ids, make_calls};
 use crate::ending::{Ending, print_telling, print_untold};
-use crate::fault::NodesFault;
+use crate::fault::ClusterRunFault;
 use crate::halt::Halt;
 use crate::outcome::Outcome;
 use crate::own::are_of_nodes;
@@ -44,7 +44,7 @@ fn refused_line(alloc: Global, fault: RefusedLine, text: &str) -> Result<String,
 /// Tells why lines were refused. Nothing is told of a line for which memory runs out.
 fn note_refused<N: Write>(alloc: Global, source: &str, outcomes: &[Outcome], notes: &mut N) {
     for (place, (text, outcome)) in source.split('\n').skip(1).zip(outcomes).enumerate() {
-        if let Outcome::Refused(NodesFault::Script(refusal)) = *outcome {
+        if let Outcome::Refused(ClusterRunFault::Script(refusal)) = *outcome {
             let line = place.saturating_add(2);
             if let Ok(told) = refused_line(alloc, RefusedLine { line, refusal }, text) {
                 let _ = notes.write_all(told.as_bytes());

@@ -5,7 +5,7 @@ ghost use Rattle.q_sim.specs.Simulates.{HasFractions, config_of};
 ghost use Rattle.q_nodes.specs.Lines.{IsNode, node_of, program_id};
 ghost use Rattle.q_nodes.specs.Scripts.{Fits, IsClusterScript, IsRefused, IsUnfit, bad_fraction, event_of};
 
-use crate::fault::NodesFault;
+use crate::fault::ClusterRunFault;
 use q_script::{Founding, Line, LineFault, ScriptLine, read_script};
 use q_sim::Refusal;
 use q_table::ProgramId;
@@ -117,7 +117,7 @@ impl Line for ClusterLine {
 }
 
 /// The fractions of a founding. Refused with 45.
-fn config_of(founding: &Founding) -> Result<Config, NodesFault>
+fn config_of(founding: &Founding) -> Result<Config, ClusterRunFault>
     ensures { MatchResult result (λ config. HasFractions founding.now × (config ≡ config_of founding.now)) (λ fault. (fault ≡ bad_fraction) × ¬ (HasFractions founding.now)) }
 {
     let beta = founding.beta;
@@ -129,12 +129,12 @@ fn config_of(founding: &Founding) -> Result<Config, NodesFault>
         gamma.denominator,
     ) {
         Ok(config) => Ok(config),
-        Err(fault) => Err(NodesFault::Script(Refusal::Fraction(fault))),
+        Err(fault) => Err(ClusterRunFault::Script(Refusal::Fraction(fault))),
     }
 }
 
 /// The script of a founding and of these lines. Refused are 45, 62 and 49, in this order.
-fn fitting(founding: Founding, lines: Vec<ClusterLine>) -> Result<ClusterScript, NodesFault>
+fn fitting(founding: Founding, lines: Vec<ClusterLine>) -> Result<ClusterScript, ClusterRunFault>
     ensures { MatchResult result (λ script. Fits founding script × (script.lines ≡ lines)) (IsUnfit founding) }
 {
     let config = match config_of(&founding) {
@@ -142,10 +142,10 @@ fn fitting(founding: Founding, lines: Vec<ClusterLine>) -> Result<ClusterScript,
         Err(fault) => return Err(fault),
     };
     if founding.count > MOST_NODES {
-        return Err(NodesFault::BadCount);
+        return Err(ClusterRunFault::BadCount);
     }
     if founding.count == 0 {
-        return Err(NodesFault::bad_founders());
+        return Err(ClusterRunFault::bad_founders());
     }
     Ok(ClusterScript {
         config,
@@ -157,13 +157,13 @@ fn fitting(founding: Founding, lines: Vec<ClusterLine>) -> Result<ClusterScript,
 impl ClusterScript {
     /// The script that a text spells. Refused are 9 Syntax, with the least line of another form or of another kind, and
     /// then 45 BadFraction, 62 BadCount for more than 16 nodes, 49 BadFounders for none, in this order; or 99.
-    pub fn read(alloc: Global, source: &str) -> Result<ClusterScript, NodesFault>
+    pub fn read(alloc: Global, source: &str) -> Result<ClusterScript, ClusterRunFault>
         ensures read { IfOk result (IsClusterScript source.now) }
         ensures fault { IfErr result (IsRefused source.now) }
     {
         match read_script(alloc, source) {
             Ok((founding, lines)) => fitting(founding, lines),
-            Err(fault) => Err(NodesFault::Script(Refusal::Script(fault))),
+            Err(fault) => Err(ClusterRunFault::Script(Refusal::Script(fault))),
         }
     }
 }

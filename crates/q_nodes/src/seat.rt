@@ -8,7 +8,7 @@ ghost use Rattle.std.specs.Prelude.{MatchOption};
 ghost use Rattle.q_book.specs.State.{BookState};
 ghost use Rattle.q_nodes.specs.Books.{BeginsQuery, BeginsStore, IsOther, Registers};
 
-use crate::fault::NodesFault;
+use crate::fault::ClusterRunFault;
 use crate::outcome::Outcome;
 use crate::own::is_of;
 use q_held::Held;
@@ -30,7 +30,7 @@ pub(crate) fn register(held: &mut Held<'_>, node: u64, program: &Program) -> Opt
     }
     match held.book.register(program) {
         Ok(id) => Some(Outcome::Registered(id)),
-        Err(fault) => Some(Outcome::Refused(NodesFault::from(fault))),
+        Err(fault) => Some(Outcome::Refused(ClusterRunFault::from(fault))),
     }
 }
 
@@ -43,7 +43,7 @@ pub(crate) fn store(held: &mut Held<'_>, node: u64, value: &[u8]) -> Option<Outc
     }
     match held.store(value) {
         Ok(tag) => Some(Outcome::Stored(tag)),
-        Err(fault) => Some(Outcome::Refused(NodesFault::from(fault))),
+        Err(fault) => Some(Outcome::Refused(ClusterRunFault::from(fault))),
     }
 }
 
@@ -56,6 +56,6 @@ pub(crate) fn ask(held: &mut Held<'_>, node: u64, program: ProgramId, start: u64
     }
     match held.ask(program, start) {
         Ok(query) => Some(Outcome::Asked(query)),
-        Err(fault) => Some(Outcome::Refused(NodesFault::from(fault))),
+        Err(fault) => Some(Outcome::Refused(ClusterRunFault::from(fault))),
     }
 }

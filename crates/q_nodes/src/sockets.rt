@@ -5,7 +5,7 @@ ghost use Rattle.q_nodes.specs.Runs.{IsWrittenBytes, IsWrittenFile, IsWrittenOf,
 ghost use Rattle.q_nodes.specs.Files.{longest_script};
 
 use crate::ending::{Ending, print_refusal};
-use crate::fault::NodesFault;
+use crate::fault::ClusterRunFault;
 use crate::run::run_script;
 use crate::script::ClusterScript;
 use q_outside::{Counted, Files, LONGEST_TEXT, Peer, UdpTransport};
@@ -84,7 +84,7 @@ pub fn run_over_sockets<R: Net + Wait + Threads + Clock + Sync, W: Write, N: Wri
         Ok(transports) => run_script(rt, alloc, &script, source, transports, out, notes),
         Err(error) => {
             note_socket(notes, &error);
-            print_refusal(NodesFault::TransportFailed, out)
+            print_refusal(ClusterRunFault::TransportFailed, out)
         }
     }
 }
@@ -121,7 +121,7 @@ pub fn run_file<R: Net + Wait + Threads + Clock + Sync, F: Files, W: Write, N: W
     let source = match files.read(alloc, name, LONGEST_TEXT) {
         Ok(bytes) => bytes,
         Err(fault) => {
-            let ending = print_refusal(NodesFault::from(fault), out);
+            let ending = print_refusal(ClusterRunFault::from(fault), out);
             return FileRun {
                 ending,
                 source: Vec::new(alloc),
@@ -145,6 +145,6 @@ fn run_bytes<R: Net + Wait + Threads + Clock + Sync, W: Write, N: Write>(
 {
     match str::from_utf8(bytes) {
         Ok(source) => run_over_sockets(rt, alloc, source, out, notes),
-        Err(_) => print_refusal(NodesFault::Script(Refusal::FileFailed), out),
+        Err(_) => print_refusal(ClusterRunFault::Script(Refusal::FileFailed), out),
     }
 }

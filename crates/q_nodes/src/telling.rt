@@ -9,7 +9,7 @@ ghost use Rattle.q_nodes.specs.Lines.{ComesTo, InTurn, tally_of, texts_of};
 ghost use Rattle.q_nodes.specs.Runs.{IsFoundedBy, IsTelling, ids_to};
 
 use crate::apart::tell_apart;
-use crate::fault::NodesFault;
+use crate::fault::ClusterRunFault;
 use crate::found::find_all;
 use crate::outcome::Outcome;
 use crate::report::{Report, Tally, texts};
@@ -28,7 +28,7 @@ pub struct Telling {
     /// How many of them were refused or are unanswered.
     pub tally: Tally,
     /// The refusal that comes behind it, where the nodes make no cluster of the script.
-    pub refusal: Option<NodesFault>,
+    pub refusal: Option<ClusterRunFault>,
 }
 
 /// What was sought in the cluster of a script.
@@ -37,7 +37,7 @@ enum Sought {
     /// What the lines tell of it.
     Told(Vec<Report>),
     /// Why there is no such cluster.
-    Ungathered(NodesFault),
+    Ungathered(ClusterRunFault),
 }
 
 /// Whether the cluster has these founders.
@@ -78,7 +78,7 @@ fn look_up(
     ensures { (books : List BookState) → GathersBooks books cluster.now → IfOk result (IsSought script.now books) }
 {
     if !is_founded_by(cluster, script, ids) {
-        return Ok(Sought::Ungathered(NodesFault::bad_founders()));
+        return Ok(Sought::Ungathered(ClusterRunFault::bad_founders()));
     }
     match find_all(
         alloc,
@@ -88,7 +88,7 @@ fn look_up(
         outcomes,
     )? {
         Some(reports) => Ok(Sought::Told(reports)),
-        None => Ok(Sought::Ungathered(NodesFault::bad_founders())),
+        None => Ok(Sought::Ungathered(ClusterRunFault::bad_founders())),
     }
 }
 
@@ -106,7 +106,7 @@ fn seek(
 {
     match gather_books(alloc, books) {
         Ok(cluster) => look_up(alloc, script, ids, &cluster, outcomes),
-        Err(fault) => Ok(Sought::Ungathered(NodesFault::from(fault))),
+        Err(fault) => Ok(Sought::Ungathered(ClusterRunFault::from(fault))),
     }
 }
 
@@ -115,7 +115,7 @@ impl Telling {
     fn of(
         alloc: Global,
         reports: &[Report],
-        refusal: Option<NodesFault>,
+        refusal: Option<ClusterRunFault>,
     ) -> Result<Telling, AllocError>
         ensures text { IfOk result (λ t. string_bytes t.text ≡ texts_of reports.now) }
         ensures tally { IfOk result (λ t. t.tally ≡ tally_of reports.now) }

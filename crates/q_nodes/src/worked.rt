@@ -30,8 +30,8 @@ ghost use Rattle.q_nodes.specs.Lines.{ComesTo, IsNode, IsQueryOf, IsTold, progra
 ghost use Rattle.q_nodes.specs.Runs.{IsRefusedAlone, IsTelling, IsWrittenFile, IsWrittenOf, failures_after, ids_to, status_of};
 ghost use Rattle.q_nodes.specs.Scripts.{Fits, IsClusterScript, IsUnfit, SpellsLine};
 ghost use Rattle.q_nodes.specs.declared.ending.Ending.TheVariants as ending;
-ghost use Rattle.q_nodes.specs.declared.fault.NodesFault.{NodesFault};
-ghost use Rattle.q_nodes.specs.declared.fault.NodesFault.TheVariants.{BadCount, TransportFailed, Script};
+ghost use Rattle.q_nodes.specs.declared.fault.ClusterRunFault.{ClusterRunFault};
+ghost use Rattle.q_nodes.specs.declared.fault.ClusterRunFault.TheVariants.{BadCount, TransportFailed, Script};
 ghost use Rattle.q_nodes.specs.declared.outcome.Outcome.TheVariants as outcome;
 ghost use Rattle.q_nodes.specs.declared.report.Report.{Report as Tells};
 ghost use Rattle.q_nodes.specs.declared.report.Report.TheVariants as report;
@@ -126,7 +126,7 @@ pub fn worked_runs()
     ensures too_many { (f : Founding) → f.count ≡ 17 → HasFractions f → IsUnfit f BadCount }
     ensures sixteen { (f : Founding) → f.count ≡ 16 → IsUnfit f BadCount → ⊥ }
     ensures second_line { (f : Founding) → IsScriptOf SpellsLine (97 ∷ 10 ∷ 98 ∷ []) f [] → ⊥ }
-    ensures refusal_is_told { (f : NodesFault) (t : Counts) (before after : Option (List ℕ)) → IsRefusedAlone f (ending.Gathered t) before after → ⊥ }
+    ensures refusal_is_told { (f : ClusterRunFault) (t : Counts) (before after : Option (List ℕ)) → IsRefusedAlone f (ending.Gathered t) before after → ⊥ }
     ensures no_script { (source : List ℕ) (t : Counts) (before after : Option (List ℕ)) → ((s : ClusterScript) → IsClusterScript source s → ⊥) → IsWrittenOf source (ending.Gathered t) before after → ⊥ }
     ensures no_file { (name source : List ℕ) (t : Counts) (before after : Option (List ℕ)) → IsWrittenFile (λ (old : ℕ) called read (new : ℕ). read ≡ Err file.Failed) name 0 0 source (ending.Gathered t) before after → ⊥ }
 {}

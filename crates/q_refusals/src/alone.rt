@@ -2,7 +2,7 @@
 
 use crate::again::again;
 use bq_frame::Block;
-use q_book::{Asked, Book, BookFault, Taken};
+use q_book::{Asked, Book, BookFault, Delivery};
 use q_session::{Done, Ran};
 use q_sim::{Refusal, certified_code};
 use q_table::{Program, ProgramId};
@@ -85,7 +85,7 @@ impl Founder {
     /// Hears a message. What it gives waits.
     fn hear(&mut self, message: &Message) -> Result<(), BookFault> {
         self.waiting.reserve(2)?;
-        let Taken { outs, .. } = self.book.deliver(message)?;
+        let Delivery { outs, .. } = self.book.deliver(message)?;
         outs.append_to(&mut self.waiting);
         Ok(())
     }

@@ -32,7 +32,7 @@ fn is_told(reply: &Reply) -> bool
         | Reply::Registered(_)
         | Reply::Asked(_)
         | Reply::Begun(_)
-        | Reply::Taken(_)
+        | Reply::Delivered(_)
         | Reply::Posted => true,
     }
 }

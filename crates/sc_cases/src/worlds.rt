@@ -2,7 +2,7 @@
 
 use crate::words::{Fraction, WorldLine};
 use sc_members::Config;
-use sc_node::{Completion, Ended, Node, Phase};
+use sc_node::{Ended, Node, OpResult, Phase};
 use sc_world::{Sent, World, WorldEvent, WorldFault, WorldStep, meets};
 use std::alloc::Global;
 use std::io;
@@ -16,8 +16,8 @@ pub(crate) struct Worlds {
 
 fn tell_end(rt: &impl Print, ended: &Ended) -> io::Result<()> {
     match &ended.what {
-        Completion::Returned(view) => print!(rt; " returned {} values {}", ended.tag, view.len()),
-        Completion::Stored => print!(rt; " stored {}", ended.tag),
+        OpResult::Returned(view) => print!(rt; " returned {} values {}", ended.tag, view.len()),
+        OpResult::Stored => print!(rt; " stored {}", ended.tag),
     }
 }
 

@@ -11,8 +11,8 @@ use Rattle.sc_operations.specs.declared.session.Session.{Session}
 use Rattle.sc_operations.specs.declared.progress.Advance.{Advance}
 use Rattle.sc_operations.specs.declared.progress.Advance.TheVariants as advance
 use Rattle.sc_operations.specs.declared.progress.Progress.{Progress}
-use Rattle.sc_operations.specs.declared.progress.Completion.{Completion}
-use Rattle.sc_operations.specs.declared.progress.Completion.TheVariants as completion
+use Rattle.sc_operations.specs.declared.progress.OpResult.{OpResult}
+use Rattle.sc_operations.specs.declared.progress.OpResult.TheVariants as op_result
 use Rattle.sc_operations.specs.declared.progress.Ended.{Ended}
 use Rattle.sc_node.specs.declared.answer.Begun.{Begun}
 use Rattle.sc_node.specs.declared.answer.Delivered.{Delivered}
@@ -50,12 +50,12 @@ AdvanceHasValuesWithin l a = Unit {0}
 abbrev pub ProgressHasValuesWithin : Lengths → Progress → Type 0
 ProgressHasValuesWithin l p = AdvanceHasValuesWithin l p.advance
 
-abbrev pub CompletionHasValuesWithin : Lengths → Completion → Type 0
-CompletionHasValuesWithin l completion.Stored = Unit {0}
-CompletionHasValuesWithin l (completion.Returned view) = HasValuesWithin l view
+abbrev pub ResultHasValuesWithin : Lengths → OpResult → Type 0
+ResultHasValuesWithin l op_result.Stored = Unit {0}
+ResultHasValuesWithin l (op_result.Returned view) = HasValuesWithin l view
 
 abbrev pub EndedHasValuesWithin : Lengths → Ended → Type 0
-EndedHasValuesWithin l e = CompletionHasValuesWithin l e.what
+EndedHasValuesWithin l e = ResultHasValuesWithin l e.what
 
 -- each value that is told as a message is taken
 pub record DeliveryHasValuesWithin (l : Lengths) (d : Delivered) : Type 0 where

@@ -2,7 +2,7 @@ ghost use Rattle.std.specs.Prelude.{◌≡◌, Some, None, option_copied};
 
 use crate::outs::Outs;
 use sc_operations::Session;
-pub use sc_operations::{Advance, Completion, Ended, Progress};
+pub use sc_operations::{Advance, Ended, OpResult, Progress};
 
 /// An operation that began.
 #[derive(Drop)]

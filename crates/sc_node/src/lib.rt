@@ -36,7 +36,7 @@ mod node;
 mod outs;
 pub mod worked;
 
-pub use answer::{Advance, Begun, Completion, Delivered, Ended, Progress};
+pub use answer::{Advance, Begun, Delivered, Ended, OpResult, Progress};
 pub use node::{MOST_FOUNDERS, MOST_OPEN, MOST_OPERATIONS, Node, NodeFault};
 pub use outs::Outs;
 pub use sc_operations::{OperationKind, Phase, Session, StoreBack};

@@ -8,7 +8,7 @@ ghost use Rattle.sc_msg.specs.declared.message.StoreAck.{StoreAck as AckFields};
 ghost use Rattle.sc_node.specs.Sessions.{ended_with};
 ghost use Rattle.sc_node.specs.State.{NodeState};
 ghost use Rattle.sc_node.specs.Nodes.{delivered, entered, founded, founder, left, message_from, next_stored, progress_of};
-ghost use Rattle.sc_operations.specs.declared.progress.Completion.TheVariants as completion;
+ghost use Rattle.sc_operations.specs.declared.progress.OpResult.TheVariants as op_result;
 ghost use Rattle.reasons.specs.declared.Reason.TheVariants as reasons;
 ghost use Rattle.sc_operations.specs.declared.session.Phase.{Phase};
 ghost use Rattle.sc_operations.specs.declared.session.Session.TheVariants as session;
@@ -24,6 +24,6 @@ pub fn worked()
     ensures leaves { (n : NodeState) → n.gone ≡ false → is_overfull (with_left n.facts n.id) ≡ false → left n ≡ Ok (message_from n.id Leave ∷ [], record n { facts = with_left n.facts n.id; gone = true }) }
     ensures gone { (n : NodeState) (m : Sent) → n.gone ≡ true → delivered n m ≡ Err reasons.Gone }
     ensures number { (n : NodeState) → n.stores ≡ 4 → (next_stored n (9 ∷ [])).number ≡ 5 }
-    ensures returned { (tag : ℕ) (query : Phase) (back : StoreBack) → ended_with tag (session.StoringBack query back) ≡ Some (record { tag = tag; what = completion.Returned back.view }) }
+    ensures returned { (tag : ℕ) (query : Phase) (back : StoreBack) → ended_with tag (session.StoringBack query back) ≡ Some (record { tag = tag; what = op_result.Returned back.view }) }
     ensures for_another { (n : NodeState) (from : ℕ) (ack : AckFields) → (ack.to == n.id) ≡ false → progress_of n from (StoreAck ack) ≡ None }
 {}

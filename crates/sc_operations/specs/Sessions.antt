@@ -16,7 +16,7 @@ use Rattle.sc_operations.specs.declared.session.Session.TheVariants as session
 use Rattle.sc_operations.specs.declared.progress.Advance.{Advance}
 use Rattle.sc_operations.specs.declared.progress.Advance.TheVariants as advance
 use Rattle.sc_operations.specs.declared.progress.Progress.{Progress}
-use Rattle.sc_operations.specs.declared.progress.Completion.TheVariants as completion
+use Rattle.sc_operations.specs.declared.progress.OpResult.TheVariants as op_result
 use Rattle.sc_operations.specs.declared.progress.Ended.{Ended}
 
 -- a phase that begins counts nobody
@@ -123,9 +123,9 @@ ends a = false
 
 -- what an operation ends with, where it is stored or stored back
 abbrev pub ended_with : ℕ → Session → Option Ended
-ended_with tag (session.Store e b) = Some (record { tag = tag; what = completion.Stored })
+ended_with tag (session.Store e b) = Some (record { tag = tag; what = op_result.Stored })
 ended_with tag (session.Querying p) = None
-ended_with tag (session.StoringBack p b) = Some (record { tag = tag; what = completion.Returned b.view })
+ended_with tag (session.StoringBack p b) = Some (record { tag = tag; what = op_result.Returned b.view })
 
 abbrev pub ended_at : ℕ → Advance → Option Session → Option Ended
 ended_at tag advance.Ended (Some s) = ended_with tag s

@@ -14,6 +14,6 @@ mod session;
 mod sessions;
 
 pub use holdings::{Acknowledged, Holdings};
-pub use progress::{Advance, Completion, Ended, Progress};
+pub use progress::{Advance, Ended, OpResult, Progress};
 pub use session::{OperationKind, Phase, Session, StoreBack};
 pub use sessions::Sessions;

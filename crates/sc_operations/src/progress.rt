@@ -27,7 +27,7 @@ pub struct Progress {
 
 /// What an operation gives at its end.
 #[derive(Drop)]
-pub enum Completion {
+pub enum OpResult {
     /// A store gives nothing.
     Stored,
     /// The view that was stored back.
@@ -40,5 +40,5 @@ pub struct Ended {
     /// The operation's tag.
     pub tag: u64,
     /// What it gives.
-    pub what: Completion,
+    pub what: OpResult,
 }

@@ -5,7 +5,7 @@ ghost use Rattle.sc_operations.specs.declared.session.Session.TheVariants as ses
 ghost use Rattle.std.specs.FinSet as set;
 ghost use Rattle.sc_operations.specs.Sessions.{new_phase, back_begun, count_sender, is_reached, kind_of, query_of, back_of, open_phase, counted, with_counted, advanced_by, apply, ended_with};
 
-use crate::progress::{Advance, Completion, Ended, Progress};
+use crate::progress::{Advance, Ended, OpResult, Progress};
 use sc_members::IdSet;
 use sc_view::{Stored, View};
 use std::alloc::{AllocError, Global};
@@ -225,9 +225,9 @@ impl Session {
         ensures { result ≡ ended_with tag self }
     {
         let what = match self {
-            Session::Store { stored: _, back: _ } => Completion::Stored,
+            Session::Store { stored: _, back: _ } => OpResult::Stored,
             Session::Querying(_) => return None,
-            Session::StoringBack { query: _, back } => Completion::Returned(back.view),
+            Session::StoringBack { query: _, back } => OpResult::Returned(back.view),
         };
         Some(Ended { tag, what })
     }

@@ -14,7 +14,7 @@ use Rattle.sc_operations.specs.declared.session.Session.TheVariants as session
 use Rattle.sc_operations.specs.declared.progress.Advance.{Advance}
 use Rattle.sc_operations.specs.declared.progress.Advance.TheVariants as advance
 use Rattle.sc_operations.specs.declared.progress.Progress.{Progress}
-use Rattle.sc_operations.specs.declared.progress.Completion.TheVariants as completion
+use Rattle.sc_operations.specs.declared.progress.OpResult.TheVariants as op_result
 use Rattle.sc_operations.specs.declared.progress.Ended.{Ended}
 use Rattle.sc_node.specs.Sessions.{kind_of, stored, open_phase, with_phase, count_sender, advanced_by, ended_with, ended_at, ended_by}
 use Rattle.sc_node.specs.State.{NodeState}
@@ -64,8 +64,8 @@ some_is h = cc
 -- what is told of an operation that ends: its tag, and what it gives
 record IsEnd (tag : ℕ) (s : Session) (x : Ended) : Type 0 where
   tagged : x.tag ≡ tag
-  returned : (view : ViewMap) → x.what ≡ completion.Returned view → (kind_of s ≡ kind.Collect) × (stored s ≡ Some view)
-  stored : x.what ≡ completion.Stored → (e : Stored) × (kind_of s ≡ kind.Store e)
+  returned : (view : ViewMap) → x.what ≡ op_result.Returned view → (kind_of s ≡ kind.Collect) × (stored s ≡ Some view)
+  stored : x.what ≡ op_result.Stored → (e : Stored) × (kind_of s ≡ kind.Store e)
 
 is_end : (tag : ℕ) (s : Session) (x : Ended) → ended_with tag s ≡ Some x → IsEnd tag s x
 is_end tag (session.Store e b) x h = subst (IsEnd tag (session.Store e b)) (some_is h) (record { tagged = refl; returned = λ view is. absurd (cc); stored = λ is. (e, refl) })
@@ -85,7 +85,7 @@ record HasEnded (w : WorldState) (place q tag : ℕ) (s : Session) : Type 0 wher
   held : stored op.session ≡ stored s
 
 module _ (w : WorldState) (place q tag : ℕ) (s : Session) (x : Ended) (h : HasEnded w place q tag s) (says : ended_with tag s ≡ Some x) where
-  has_returned : (view : ViewMap) → x.what ≡ completion.Returned view → HasReturned w place q x.tag view
+  has_returned : (view : ViewMap) → x.what ≡ op_result.Returned view → HasReturned w place q x.tag view
   has_returned view what =
       let end = is_end tag s x says in
       let c = end.returned view what in
@@ -98,7 +98,7 @@ module _ (w : WorldState) (place q tag : ℕ) (s : Session) (x : Ended) (h : Has
         returned = (λ i. returned_by ((h.kind ∙ c.0) i) (h.ended i) (stored h.op.session)) ∙ h.held ∙ c.1;
       }
 
-  has_stored : x.what ≡ completion.Stored → HasStored w place q x.tag
+  has_stored : x.what ≡ op_result.Stored → HasStored w place q x.tag
   has_stored what =
       let end = is_end tag s x says in
       let c = end.stored what in

@@ -12,7 +12,7 @@ use Rattle.sc_operations.specs.declared.session.Session.TheVariants as session
 use Rattle.sc_operations.specs.declared.progress.Advance.{Advance}
 use Rattle.sc_operations.specs.declared.progress.Advance.TheVariants as advance
 use Rattle.sc_operations.specs.declared.progress.Progress.{Progress}
-use Rattle.sc_operations.specs.declared.progress.Completion.TheVariants as completion
+use Rattle.sc_operations.specs.declared.progress.OpResult.TheVariants as op_result
 use Rattle.sc_operations.specs.declared.progress.Ended.{Ended}
 use Rattle.sc_node.specs.Sessions.{back_of, is_reached, count_sender, ended_with, ended_at, ended_by}
 use Rattle.sc_node.specs.State.{NodeState}
@@ -64,9 +64,9 @@ reply_goes_on true threshold view h = absurd (cc)
 reply_goes_on false threshold view h = absurd (cc)
 
 tells_with : (tag : ℕ) (s : Session) (back : StoreBack) → back_of s ≡ Some back → Tells (ended_with tag s) tag
-tells_with tag (session.Store e b) back held = (record { tag = tag; what = completion.Stored }, refl, refl)
+tells_with tag (session.Store e b) back held = (record { tag = tag; what = op_result.Stored }, refl, refl)
 tells_with tag (session.Querying p) back held = absurd (cc)
-tells_with tag (session.StoringBack p b) back held = (record { tag = tag; what = completion.Returned b.view }, refl, refl)
+tells_with tag (session.StoringBack p b) back held = (record { tag = tag; what = op_result.Returned b.view }, refl, refl)
 
 tells_by : (n : NodeState) (from : ℕ) (b : Body) (p : Progress) → IsMove n from b (Some p) → p.advance ≡ advance.Ended → Tells (ended_by (Some p) (ended_session n.sessions (Some p))) p.tag
 tells_by n from b p (inl m) ends =

@@ -3,7 +3,7 @@ use Rattle.std.specs.Prelude.{◌≡◌, ℕ, ◌<◌, Some, Ok, slice_get}
 use Rattle.std.specs.FinMap as fin
 use Rattle.sc_view.specs.declared.view.Stored.{Stored}
 use Rattle.sc_view.specs.Views.{ViewMap, IsCoveredBy}
-use Rattle.sc_operations.specs.declared.progress.Completion.TheVariants as completion
+use Rattle.sc_operations.specs.declared.progress.OpResult.TheVariants as op_result
 use Rattle.sc_operations.specs.declared.progress.Ended.{Ended}
 use Rattle.sc_operations.specs.declared.session.OperationKind.TheVariants as kind
 use Rattle.sc_operations.specs.Sessions.{kind_of, stored}
@@ -36,8 +36,8 @@ pub record HasStored (w : WorldState) (place node tag : ℕ) : Type 0 where
 
 -- what an event tells of an operation that ended is what the operation's record says in the next world
 pub record EndIsRecorded (w : WorldState) (e : WorldEvent) (told : WorldStep) (next : WorldState) : Type 0 where
-  pub returned : (x : Ended) (view : ViewMap) → told.ended ≡ Some x → x.what ≡ completion.Returned view → HasReturned next (clock w) (node_of e) x.tag view
-  pub stored : (x : Ended) → told.ended ≡ Some x → x.what ≡ completion.Stored → HasStored next (clock w) (node_of e) x.tag
+  pub returned : (x : Ended) (view : ViewMap) → told.ended ≡ Some x → x.what ≡ op_result.Returned view → HasReturned next (clock w) (node_of e) x.tag view
+  pub stored : (x : Ended) → told.ended ≡ Some x → x.what ≡ op_result.Stored → HasStored next (clock w) (node_of e) x.tag
 
 -- so it is at each event that may come next
 abbrev pub EndsAreRecorded : WorldState → Type 0

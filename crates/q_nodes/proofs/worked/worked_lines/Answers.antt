@@ -5,7 +5,7 @@ use Rattle.reasons.specs.declared.Reason.TheVariants.{NoSuchNode, OutOfMemory}
 use Rattle.q_history.specs.Headline.{ClusterState}
 use Rattle.q_nodes.specs.Faults.{no_such_node, of_fault}
 use Rattle.q_nodes.specs.Lines.{IsNode, IsTold}
-use Rattle.q_nodes.specs.declared.fault.NodesFault.{NodesFault}
+use Rattle.q_nodes.specs.declared.fault.ClusterRunFault.{ClusterRunFault}
 use Rattle.q_nodes.specs.declared.outcome.Outcome.TheVariants as outcome
 use Rattle.q_nodes.specs.declared.report.Report.{Report}
 use Rattle.q_nodes.specs.declared.report.Report.TheVariants.{Refused, Registered, Stored, Asked}
@@ -21,7 +21,7 @@ same_reason f e = cc
 not_memory : NoSuchNode ≡ OutOfMemory → ⊥
 not_memory e = absurd cc
 
-same_refusal : (f g : NodesFault) → outcome.Refused f ≡ outcome.Refused g → f ≡ g
+same_refusal : (f g : ClusterRunFault) → outcome.Refused f ≡ outcome.Refused g → f ≡ g
 same_refusal f g e = cc
 
 outside : (nodes node : ℕ) (value : Vec ℕ Global) (c : ClusterState) (r : Report) → (IsNode nodes node → ⊥) → IsTold nodes c (line.Store node value) r → r ≡ Refused no_such_node

@@ -12,7 +12,7 @@ use Rattle.q_book.specs.Books.{taking, delivered, record_lengths}
 use Rattle.q_book.specs.Replays.{IsBook}
 use Rattle.q_book.specs.State.{BookState}
 use Rattle.q_book.specs.contracts.book.Book as book
-use Rattle.q_book.specs.declared.answer.Taken.{Taken}
+use Rattle.q_book.specs.declared.answer.Delivery.{Delivery}
 use Rattle.reasons.specs.declared.Reason.{Reason}
 use Rattle.q_book.proofs.Calls.{holds_inside, noted_call, by_call, call_refused, delivers_call, delivered_by}
 use Rattle.q_book.proofs.Replays.{with, book_next}
@@ -50,7 +50,7 @@ pub returns : goal.returns
 returns c =
     let b : BookState = book.the_view c.self.inside in
     ap (λ (x : BookState). delivered x c.args.message.now) (sym c.self.view_is) ∙ is c
-    ∙ (λ i. let r : Result (Taken × BookState) Reason = Ok (sym c.take.ensures.told i, with b c.deliver.new.node (sym c.take.ensures.new i)) in r)
+    ∙ (λ i. let r : Result (Delivery × BookState) Reason = Ok (sym c.take.ensures.told i, with b c.deliver.new.node (sym c.take.ensures.new i)) in r)
 
 pub returns-in_err-delivered : goal.returns-in_err-delivered
 returns-in_err-delivered c =
