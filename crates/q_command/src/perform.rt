@@ -124,32 +124,37 @@ fn read<'a, F: Files>(
     }
 }
 
-/// What a command prints that writes no file and of which no line is refused; or its refusal, with the bytes that are
-/// refused.
-fn told<'a>(
-    alloc: Global,
-    answer: Result<String, Refusal>,
+/// What was made of the bytes of a file; or its refusal, with those bytes.
+fn or_denied<'a, T>(
+    made: Result<T, Refusal>,
     file: &'a str,
     bytes: Vec<u8>,
-) -> Result<Answer, Denied<'a>>
-    ensures told { IfOk result (λ p. (answer ≡ Ok p.printed.lines) × (p.printed.unwritten ≡ false) × (p.printed.refused ≡ false)) }
-    ensures refused { IfErr result (λ denied. (answer ≡ Err denied.refusal) × (denied.file.now ≡ file.now) × (denied.bytes.items ≡ bytes.items)) }
+) -> Result<T, Denied<'a>>
+    ensures made { IfOk result (λ it. made ≡ Ok it) }
+    ensures refused { IfErr result (λ denied. (made ≡ Err denied.refusal) × (denied.file.now ≡ file.now) × (denied.bytes.items ≡ bytes.items)) }
 {
-    match answer {
-        Ok(lines) => Ok(Answer {
-            printed: Printed {
-                lines,
-                unwritten: false,
-                refused: false,
-                faults: Vec::new(alloc),
-            },
-            source: Vec::new(alloc),
-        }),
+    match made {
+        Ok(it) => Ok(it),
         Err(refusal) => Err(Denied {
             refusal,
             file,
             bytes,
         }),
+    }
+}
+
+/// What a command prints that writes no file and of which no line is refused.
+fn told(alloc: Global, lines: String) -> Answer
+    ensures { (result.printed.lines ≡ lines) × (result.printed.unwritten ≡ false) × (result.printed.refused ≡ false) }
+{
+    Answer {
+        printed: Printed {
+            lines,
+            unwritten: false,
+            refused: false,
+            faults: Vec::new(alloc),
+        },
+        source: Vec::new(alloc),
     }
 }
 
@@ -189,7 +194,7 @@ fn file_answer<'a, F: Files>(
 {
     let bytes = read(alloc, file, most, files)?;
     let lines = made(alloc, work, bytes.as_slice());
-    told(alloc, lines, file, bytes)
+    Ok(told(alloc, or_denied(lines, file, bytes)?))
 }
 
 /// What `check` prints.
@@ -203,17 +208,11 @@ fn check_answer<'a, F: Files>(
     ensures refused { IfErr result (λ denied. RefusesBeforeWrites (F.read_gives longest_text) (IsUnaccepted check.now.form check.now.lengths) file.now files.old denied files.new) }
 {
     let source = read(alloc, file, LONGEST_TEXT, files)?;
-    match checked(alloc, check, source.as_slice(), files) {
-        Ok(printed) => Ok(Answer {
-            printed,
-            source: Vec::new(alloc),
-        }),
-        Err(refusal) => Err(Denied {
-            refusal,
-            file,
-            bytes: source,
-        }),
-    }
+    let printed = checked(alloc, check, source.as_slice(), files);
+    Ok(Answer {
+        printed: or_denied(printed, file, source)?,
+        source: Vec::new(alloc),
+    })
 }
 
 /// The program of a file, with its certificate for records of these lengths.
@@ -231,14 +230,8 @@ fn certified_file<'a, F: Files>(
     ensures refused { IfErr result (λ denied. RefusesFile (F.read_gives longest_text) (IsUnaccepted form lengths) file.now files.old denied files.new) }
 {
     let source = read(alloc, file, LONGEST_TEXT, files)?;
-    match certified(alloc, form, source.as_slice(), lengths) {
-        Ok(certified) => Ok(certified),
-        Err(refusal) => Err(Denied {
-            refusal,
-            file,
-            bytes: source,
-        }),
-    }
+    let certified = certified(alloc, form, source.as_slice(), lengths);
+    or_denied(certified, file, source)
 }
 
 /// What `run` prints of a program over the records of a file.
@@ -254,7 +247,7 @@ fn computed_file<'a, F: Files>(
 {
     let listed = read(alloc, records, LONGEST_TEXT, files)?;
     let lines = computed(alloc, certified, start, listed.as_slice());
-    told(alloc, lines, records, listed)
+    Ok(told(alloc, or_denied(lines, records, listed)?))
 }
 
 /// What `run` prints.

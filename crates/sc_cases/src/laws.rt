@@ -2,16 +2,14 @@
 //!
 //! - `laws`: each law is called.
 //! - `again VERSION HEX`: what is written of the message that these bytes spell in that version, and its sender once it
-//!   was written and read again, in version 1 in both versions.
+//!   was written and read again.
 //! - `forms`: what a view and a sorted map reply to the same commands.
 
 use crate::bytes::bytes_of;
 use crate::words::version_of;
 use crate::{lengths, memory};
 use sc_decode::decode_as;
-use sc_decode::laws::{
-    read_and_written, read_and_written_v1, written_and_read, written_and_read_v1,
-};
+use sc_decode::laws::{read_and_written, written_and_read};
 use sc_msg::laws::{
     first_fits_second, one_fault, one_spelling, spelled_has_no_fault, spelled_is_small,
 };
@@ -62,21 +60,10 @@ fn laws(rt: &impl Print) -> io::Result<()> {
     println!(rt; " called")
 }
 
-/// The sender of a message that was written and read again in version 1.
-fn sender_after_first(alloc: Global, message: &Message) -> Result<u64, EncodeFault> {
-    match written_and_read_v1(alloc, message) {
-        Ok(again) => Ok(again.from),
-        Err(fault) => Err(fault),
-    }
-}
-
-/// The sender of a message that was written and read again, in version 1 in both versions.
+/// The sender of a message that was written in that version and read again.
 fn sender_after(alloc: Global, version: Version, message: &Message) -> Result<u64, EncodeFault> {
-    match (version, written_and_read(alloc, message)) {
-        (Version::First, Ok(again)) => sender_after_first(alloc, &again),
-        (Version::Second, Ok(again)) => Ok(again.from),
-        (_, Err(_)) => Err(EncodeFault::OutOfMemory),
-    }
+    let again = written_and_read(alloc, version, message)?;
+    Ok(again.from)
 }
 
 fn tell_sender(rt: &impl Print, sender: Result<u64, EncodeFault>) -> io::Result<()> {
@@ -86,20 +73,12 @@ fn tell_sender(rt: &impl Print, sender: Result<u64, EncodeFault>) -> io::Result<
     }
 }
 
-/// The bytes that are written of the message that bytes spell.
-fn written(alloc: Global, version: Version, bytes: &[u8]) -> Result<Vec<u8>, MessageFault> {
-    match version {
-        Version::First => read_and_written_v1(alloc, bytes),
-        Version::Second => read_and_written(alloc, bytes),
-    }
-}
-
 fn refuse(rt: &impl Print, fault: MessageFault) -> io::Result<()> {
     println!(rt; " refused {}", fault.reason())
 }
 
 fn tell_written(rt: &impl Print, alloc: Global, version: Version, bytes: &[u8]) -> io::Result<()> {
-    match written(alloc, version, bytes) {
+    match read_and_written(alloc, version, bytes) {
         Ok(written) => println!(rt; " {}", hex::encode(alloc, written.as_slice())?),
         Err(fault) => refuse(rt, fault),
     }
