@@ -1,5 +1,6 @@
 -- Clusters: what each event does, and what is true of every answer and every book.
 pub mod Headline
+pub mod Recorded
 pub mod World
 pub mod Heads
 pub mod Clusters

@@ -49,15 +49,17 @@ true_answer : EveryAnswer → (c : ClusterState) (node query program start : ℕ
 true_answer law c node query program start q ran history is e =
     let (view, recorded) = answered_by q.phase ran e in
     record {
-      book = is.book;
-      at = is.at;
       asked = q;
-      numbered = is.numbered;
       names = is.names;
       begins = is.begins;
       view = view;
-      recorded = recorded;
-      is_true = law c.version c.past.config c.past.founders history.0 c history.1 node query is.book q view ran is.at is.numbered recorded;
+      answer = record {
+        book = is.book;
+        at = is.at;
+        numbered = is.numbered;
+        recorded = recorded;
+        is_true = law c.version c.past.config c.past.founders history.0 c history.1 node query is.book q view ran is.at is.numbered recorded;
+      };
     }
 
 told_answer : EveryAnswer → (nodes : ℕ) (c : ClusterState) (node program start by query : ℕ) (ran : Ran) → IsHistory c → IsTold nodes c (line.Ask node program start) (Asked by query (Some ran))

@@ -1,13 +1,12 @@
 -- What is true of every answer that is printed.
 use Rattle.std.specs.Prelude.{◌≡◌, ℕ, List, length, Option, Some, slice_get}
-use Rattle.std.specs.FinMap as fin
 use Rattle.std.specs.Io.KnownBytes.{Appends}
 use Rattle.sc_view.specs.Views.{ViewMap}
-use Rattle.q_session.specs.declared.query.Phase.TheVariants.{Answered}
 use Rattle.q_session.specs.declared.query.Query.{Query}
 use Rattle.q_session.specs.declared.ran.Ran.{Ran}
 use Rattle.q_book.specs.State.{BookState}
-use Rattle.q_history.specs.Headline.{IsTrue, ClusterState}
+use Rattle.q_history.specs.Headline.{ClusterState}
+use Rattle.q_history.specs.Recorded.{HasTrueAnswer}
 use Rattle.q_nodes.specs.Books.{AreBooksOf}
 use Rattle.q_nodes.specs.Lines.{program_id, texts_of}
 use Rattle.q_nodes.specs.Runs.{IsClusterOf}
@@ -17,18 +16,13 @@ use Rattle.q_nodes.specs.declared.script.ClusterLine.TheVariants as line
 use Rattle.q_nodes.specs.declared.script.ClusterScript.{ClusterScript}
 
 -- The cluster recorded this answer of the query of this number at the node, which asks for this program from this
--- start; and it is true: it is the program's meaning over the view that the query's own collect returned, which holds
--- each store that ended before the collect began and that meets it.
+-- start; and it is true.
 pub record IsTrueAnswer (c : ClusterState) (node query program start : ℕ) (ran : Ran) : Type 0 where
-  pub book : BookState
-  pub at : fin.get c.books node ≡ Some book
   pub asked : Query
-  pub numbered : slice_get book.desk.queries query ≡ Some asked
   pub names : asked.program ≡ program
   pub begins : asked.start ≡ start
   pub view : ViewMap
-  pub recorded : asked.phase ≡ Answered view ran
-  pub is_true : IsTrue c node book asked view ran
+  pub answer : HasTrueAnswer c node query asked view ran
 
 -- The text that was written is that of reports of the script's lines, in turn; and there is one cluster of the script,
 -- into which the books of its nodes gather, and which recorded each answer that an `ask` line told, for the query that

@@ -39,13 +39,15 @@ module _ (last : ClusterState) (answers : AnswersAreTrue last) where
         query = r.query;
         ran = r.ran;
         line = is ∙ only_line c stepped (told.Finished (record { node = r.node; query = r.query; ran = r.ran })) r.tells r.silent;
-        book = kept.0;
         asked = r.asked;
         view = r.view;
-        at = kept.1;
-        number = kept.2;
-        answered = r.answered;
-        is_true = answers r.node r.query kept.0 r.asked r.view r.ran kept.1 kept.2 r.answered;
+        answer = record {
+          book = kept.0;
+          at = kept.1;
+          numbered = kept.2;
+          recorded = r.answered;
+          is_true = answers r.node r.query kept.0 r.asked r.view r.ran kept.1 kept.2 r.answered;
+        };
       }
 
   ran_true : (c d : ClusterState) (job : ℕ) (text : List ℕ) (refused : Bool) (r : Result ClusterStep Reason) → Takes c (event.Finish job) d r → AnswersStay d last

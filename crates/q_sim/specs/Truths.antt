@@ -1,15 +1,12 @@
 -- What is true of the answers that a script prints.
-use Rattle.std.specs.Prelude.{◌≡◌, ◌⊎◌, ℕ, Bool, true, List, [], ◌∷◌, ◌++◌, slice_get, Some}
-use Rattle.std.specs.FinMap as fin
+use Rattle.std.specs.Prelude.{◌≡◌, ◌⊎◌, ℕ, Bool, true, List, [], ◌∷◌, ◌++◌}
 use Rattle.sc_view.specs.Views.{ViewMap}
 use Rattle.q_session.specs.declared.ran.Ran.{Ran}
-use Rattle.q_session.specs.declared.query.Phase.TheVariants.{Answered}
 use Rattle.q_session.specs.declared.query.Query.{Query}
-use Rattle.q_book.specs.State.{BookState}
 use Rattle.q_script.specs.declared.line.ScriptLine.{ScriptLine}
 use Rattle.q_script.specs.declared.line.ScriptLine.TheVariants.{Run}
-use Rattle.q_history.specs.Headline as headline
 use Rattle.q_history.specs.Headline.{ClusterState}
+use Rattle.q_history.specs.Recorded.{HasTrueAnswer}
 use Rattle.q_history.specs.declared.event.EventAnswer.TheVariants as told
 use Rattle.reasons.specs.declared.Reason.{Reason}
 use Rattle.q_sim.specs.declared.refusal.Refusal.TheVariants.{Cluster}
@@ -22,13 +19,9 @@ pub record IsTrueAnswer (c : ClusterState) (text : List ℕ) : Type 0 where
   pub query : ℕ
   pub ran : Ran
   pub line : text ≡ told_lines (told.Finished (record { node = node; query = query; ran = ran }))
-  pub book : BookState
   pub asked : Query
   pub view : ViewMap
-  pub at : fin.get c.books node ≡ Some book
-  pub number : slice_get book.desk.queries query ≡ Some asked
-  pub answered : asked.phase ≡ Answered view ran
-  pub is_true : headline.IsTrue c node book asked view ran
+  pub answer : HasTrueAnswer c node query asked view ran
 
 -- What a line of a script printed, where it is told whether a line was refused: a `run` line the line of a true answer,
 -- or its refusal, and that is told.
