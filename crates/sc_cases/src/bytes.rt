@@ -1,6 +1,8 @@
 //! Lines about messages as bytes.
 
 use crate::views::first_byte;
+use crate::words::{BytesLine, Question};
+use crate::{changed, laws};
 use sc_decode::decode_as;
 use sc_members::Facts;
 use sc_msg::{Body, Message, MessageFault, Version, encode, encode_v1};
@@ -91,6 +93,7 @@ pub(crate) fn bytes_of(alloc: Global, digits: &str) -> Option<Vec<u8>> {
     hex::decode(alloc, digits).ok()
 }
 
+/// What the message of these bytes says in that version, or why they are none.
 fn tell_bytes(rt: &impl Print, alloc: Global, version: Version, bytes: &[u8]) -> io::Result<()> {
     match decode_as(alloc, version, bytes) {
         Ok(message) => {
@@ -101,15 +104,21 @@ fn tell_bytes(rt: &impl Print, alloc: Global, version: Version, bytes: &[u8]) ->
     }
 }
 
-/// What the message of these hexadecimal digits says in that version, or why they are none.
-pub(crate) fn tell(
-    rt: &impl Print,
-    alloc: Global,
-    version: Version,
-    digits: &str,
-) -> io::Result<()> {
-    match bytes_of(alloc, digits) {
-        Some(bytes) => tell_bytes(rt, alloc, version, bytes.as_slice()),
-        None => println!(rt; " no digits"),
+/// What is asked about the bytes that these digits spell, if they do.
+pub(crate) fn tell(rt: &impl Print, alloc: Global, line: BytesLine<'_>) -> io::Result<()> {
+    let BytesLine {
+        question,
+        version,
+        digits,
+    } = line;
+    let Some(mut bytes) = bytes_of(alloc, digits) else {
+        return println!(rt; " no digits");
+    };
+    let bytes = bytes.as_mut_slice();
+    match question {
+        Question::Message => tell_bytes(rt, alloc, version, bytes),
+        Question::Beginnings => changed::tell_beginnings(rt, alloc, version, bytes),
+        Question::Changed(count) => changed::tell_changed(rt, alloc, version, count, bytes),
+        Question::Again => laws::tell_again(rt, alloc, version, bytes),
     }
 }

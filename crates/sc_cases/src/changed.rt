@@ -1,6 +1,6 @@
 //! Lines about the bytes of messages that are cut short or changed.
 
-use crate::bytes::{bytes_of, is_written};
+use crate::bytes::is_written;
 use sc_decode::decode_as;
 use sc_msg::{MessageFault, Version};
 use std::alloc::Global;
@@ -17,24 +17,17 @@ fn refusal(alloc: Global, version: Version, bytes: &[u8]) -> u8 {
     }
 }
 
-fn tell_refusals(rt: &impl Print, alloc: Global, version: Version, bytes: &[u8]) -> io::Result<()> {
-    for end in 0..bytes.len() {
-        print!(rt; " {}", refusal(alloc, version, &bytes[..end]))?;
-    }
-    println!(rt; "")
-}
-
 /// For each proper beginning of these bytes, from none on, the number of its refusal in that version, or 0.
 pub(crate) fn tell_beginnings(
     rt: &impl Print,
     alloc: Global,
     version: Version,
-    digits: &str,
+    bytes: &[u8],
 ) -> io::Result<()> {
-    match bytes_of(alloc, digits) {
-        Some(bytes) => tell_refusals(rt, alloc, version, bytes.as_slice()),
-        None => println!(rt; " no digits"),
+    for end in 0..bytes.len() {
+        print!(rt; " {}", refusal(alloc, version, &bytes[..end]))?;
     }
+    println!(rt; "")
 }
 
 /// Whether bytes are refused, for another cause than memory, or are written as they were read.
@@ -90,13 +83,8 @@ pub(crate) fn tell_changed(
     alloc: Global,
     version: Version,
     count: u64,
-    digits: &str,
+    bytes: &mut [u8],
 ) -> io::Result<()> {
-    match bytes_of(alloc, digits) {
-        Some(mut bytes) => {
-            let others = count_others(alloc, version, count, bytes.as_mut_slice());
-            println!(rt; " tried {count}, other {others}")
-        }
-        None => println!(rt; " no digits"),
-    }
+    let others = count_others(alloc, version, count, bytes);
+    println!(rt; " tried {count}, other {others}")
 }

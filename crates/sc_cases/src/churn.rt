@@ -10,50 +10,26 @@ use sc_world::{Op, World, WorldEvent, WorldFault, meets};
 use std::alloc::Global;
 use std::io;
 
-const fn deliver(message: usize, node: u64) -> WorldEvent {
-    WorldEvent::Deliver { message, node }
-}
+/// The messages that are delivered once node 1 stores, each with the node that takes it.
+const STORING: [(usize, u64); 4] = [(0, 1), (0, 2), (1, 1), (3, 1)];
 
-/// A store.
-fn storing() -> [WorldEvent; 5] {
-    [
-        WorldEvent::Store {
-            node: 1,
-            value: Value::from(&[5; VALUE_LENGTH]),
-        },
-        deliver(0, 1),
-        deliver(0, 2),
-        deliver(1, 1),
-        deliver(3, 1),
-    ]
-}
+/// Those once node 2 collects.
+const COLLECTING: [(usize, u64); 8] = [
+    (5, 2),
+    (5, 3),
+    (6, 2),
+    (7, 2),
+    (8, 2),
+    (8, 3),
+    (9, 2),
+    (11, 2),
+];
 
-/// A collect that meets it.
-fn collecting() -> [WorldEvent; 9] {
-    [
-        WorldEvent::Collect(2),
-        deliver(5, 2),
-        deliver(5, 3),
-        deliver(6, 2),
-        deliver(7, 2),
-        deliver(8, 2),
-        deliver(8, 3),
-        deliver(9, 2),
-        deliver(11, 2),
-    ]
-}
+/// Those once node 4 enters.
+const ENTERING: [(usize, u64); 2] = [(13, 1), (14, 4)];
 
-/// Then a node enters, one leaves, and one crashes.
-fn turning_over() -> [WorldEvent; 6] {
-    [
-        WorldEvent::Enter(4),
-        deliver(13, 1),
-        deliver(14, 4),
-        WorldEvent::Leave(3),
-        deliver(15, 1),
-        WorldEvent::Crash(2),
-    ]
-}
+/// That once node 3 leaves.
+const LEAVING: [(usize, u64); 1] = [(15, 1)];
 
 /// The threshold of the phase in which an operation was stored or stored back, and how many senders it counted.
 fn stored(op: &Op) -> Option<(u64, usize)> {
@@ -102,11 +78,17 @@ fn step_again(world: &mut World, event: &WorldEvent) -> Result<bool, WorldFault>
     }
 }
 
-/// Takes events in turn. The answer is whether none that was refused changed a size.
-fn run_again(world: &mut World, events: &[WorldEvent]) -> Result<bool, WorldFault> {
-    let mut is_unchanged = true;
-    for event in events {
-        is_unchanged = step_again(world, event)? && is_unchanged;
+/// Takes an event, and then delivers messages, each to a node. The answer is whether no call that was refused changed a
+/// size.
+fn run_again(
+    world: &mut World,
+    event: &WorldEvent,
+    messages: &[(usize, u64)],
+) -> Result<bool, WorldFault> {
+    let mut is_unchanged = step_again(world, event)?;
+    for &(message, node) in messages {
+        let delivery = WorldEvent::Deliver { message, node };
+        is_unchanged = step_again(world, &delivery)? && is_unchanged;
     }
     Ok(is_unchanged)
 }
@@ -120,10 +102,16 @@ fn first_world(alloc: Global) -> Result<World, WorldFault> {
 
 /// All events.
 fn run_all(world: &mut World) -> Result<bool, WorldFault> {
-    let stored = run_again(world, &storing())?;
-    let collected = run_again(world, &collecting())?;
-    let turned_over = run_again(world, &turning_over())?;
-    Ok(stored && collected && turned_over)
+    let store = WorldEvent::Store {
+        node: 1,
+        value: Value::from(&[5; VALUE_LENGTH]),
+    };
+    let stored = run_again(world, &store, &STORING)?;
+    let collected = run_again(world, &WorldEvent::Collect(2), &COLLECTING)?;
+    let entered = run_again(world, &WorldEvent::Enter(4), &ENTERING)?;
+    let left = run_again(world, &WorldEvent::Leave(3), &LEAVING)?;
+    let crashed = run_again(world, &WorldEvent::Crash(2), &[])?;
+    Ok(stored && collected && entered && left && crashed)
 }
 
 /// The kind of the message of that number.

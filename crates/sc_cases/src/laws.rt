@@ -1,12 +1,10 @@
 //! Laws, and calls that go both ways.
 //!
 //! - `laws`: each law is called.
-//! - `again VERSION HEX`: what is written of the message that these bytes spell in that version, and its sender once it
-//!   was written and read again.
+//! - `again VERSION HEX`, of which [`crate::bytes`] reads the bytes: what is written of the message that they spell in
+//!   that version, and its sender once it was written and read again.
 //! - `forms`: what a view and a sorted map reply to the same commands.
 
-use crate::bytes::bytes_of;
-use crate::words::version_of;
 use crate::{lengths, memory};
 use sc_decode::decode_as;
 use sc_decode::laws::{read_and_written, written_and_read};
@@ -91,23 +89,15 @@ fn tell_read(rt: &impl Print, alloc: Global, version: Version, bytes: &[u8]) -> 
     }
 }
 
-fn tell_both(rt: &impl Print, alloc: Global, version: Version, bytes: &[u8]) -> io::Result<()> {
+/// What is written of the message that these bytes spell in that version, and its sender once it was read again.
+pub(crate) fn tell_again(
+    rt: &impl Print,
+    alloc: Global,
+    version: Version,
+    bytes: &[u8],
+) -> io::Result<()> {
     tell_written(rt, alloc, version, bytes)?;
     tell_read(rt, alloc, version, bytes)
-}
-
-fn again(rt: &impl Print, alloc: Global, version: Version, digits: &str) -> io::Result<()> {
-    match bytes_of(alloc, digits) {
-        Some(bytes) => tell_both(rt, alloc, version, bytes.as_slice()),
-        None => println!(rt; " no digits"),
-    }
-}
-
-fn tell_again(rt: &impl Print, alloc: Global, version: &str, digits: &str) -> io::Result<()> {
-    match version_of(version) {
-        Some(version) => again(rt, alloc, version, digits),
-        None => println!(rt; " no version"),
-    }
 }
 
 fn stored(number: u64) -> Option<Stored> {
@@ -132,43 +122,15 @@ fn asked(newer: Stored, first: Stored) -> [Command; 7] {
 }
 
 /// What a form replies.
-fn replies_of<V: ViewForm>(
+fn replies_of<V: ViewForm + Drop>(
     alloc: Global,
-    view: &mut V,
-    other: &mut V,
+    mut view: V,
+    mut other: V,
     told: &[Command],
     asked: &[Command],
 ) -> Result<Vec<Reply>, AllocError> {
-    let _told = run(alloc, other, view, told)?;
-    run(alloc, view, other, asked)
-}
-
-fn replies_of_chunks(
-    alloc: Global,
-    told: &[Command],
-    asked: &[Command],
-) -> Result<Vec<Reply>, AllocError> {
-    replies_of(
-        alloc,
-        &mut View::new(alloc),
-        &mut View::new(alloc),
-        told,
-        asked,
-    )
-}
-
-fn replies_of_a_sorted_map(
-    alloc: Global,
-    told: &[Command],
-    asked: &[Command],
-) -> Result<Vec<Reply>, AllocError> {
-    replies_of(
-        alloc,
-        &mut SortedView::new(alloc),
-        &mut SortedView::new(alloc),
-        told,
-        asked,
-    )
+    let _told = run(alloc, &mut other, &mut view, told)?;
+    run(alloc, &mut view, &mut other, asked)
 }
 
 /// The number of what is known, where it is what was put under that number.
@@ -213,13 +175,15 @@ fn tell_forms(
     told: &[Command],
     asked: &[Command],
 ) -> io::Result<()> {
-    match (
-        replies_of_chunks(alloc, told, asked),
-        replies_of_a_sorted_map(alloc, told, asked),
-    ) {
-        (Ok(replies), Ok(others)) => tell_alike(rt, replies.as_slice(), others.as_slice()),
-        _ => Err(AllocError.into()),
-    }
+    let replies = replies_of(alloc, View::new(alloc), View::new(alloc), told, asked)?;
+    let others = replies_of(
+        alloc,
+        SortedView::new(alloc),
+        SortedView::new(alloc),
+        told,
+        asked,
+    )?;
+    tell_alike(rt, replies.as_slice(), others.as_slice())
 }
 
 fn forms(rt: &impl Print, alloc: Global) -> io::Result<()> {
@@ -237,7 +201,6 @@ pub(crate) fn tell(rt: &impl Print, alloc: Global, words: &[&str]) -> io::Result
         ["laws"] => laws(rt),
         ["forms"] => forms(rt, alloc),
         ["memory", name] => memory::tell(rt, alloc, name),
-        ["again", version, digits] => tell_again(rt, alloc, version, digits),
         ["fits", count] => lengths::tell_fits(rt, alloc, count),
         ["lengths", least, most, counts @ ..] => lengths::tell(rt, alloc, (least, most), counts),
         _ => Ok(()),

@@ -60,15 +60,9 @@ use std::{env, io};
 fn answer(rt: &impl Print, alloc: Global, worlds: &mut Worlds, words: &[&str]) -> io::Result<()> {
     match Case::read(words) {
         Some(Case::World(line)) => worlds.answer(rt, line),
-        Some(Case::Message(version, digits)) => bytes::tell(rt, alloc, version, digits),
-        Some(Case::Beginnings(version, digits)) => {
-            changed::tell_beginnings(rt, alloc, version, digits)
-        }
-        Some(Case::Changed(version, count, digits)) => {
-            changed::tell_changed(rt, alloc, version, count, digits)
-        }
+        Some(Case::Bytes(line)) => bytes::tell(rt, alloc, line),
         Some(Case::Members(line)) => members::tell(rt, alloc, &line),
-        Some(Case::View(first, second)) => views::tell(rt, alloc, first, second),
+        Some(Case::View(first, second)) => views::tell(rt, views::merged(alloc, first, second)),
         Some(Case::Share(ids, value)) => views::tell_shared(rt, alloc, ids, value),
         Some(Case::Value(count)) => values::tell(rt, alloc, count),
         None => laws::tell(rt, alloc, words),

@@ -43,7 +43,8 @@ fn with_view(alloc: Global, view: &View, words: &[&str]) -> Result<View, ViewFau
     view.merged(&other)
 }
 
-fn merged(alloc: Global, first: &[&str], second: &[&str]) -> Result<View, ViewFault> {
+/// The first view, merged with the second.
+pub(crate) fn merged(alloc: Global, first: &[&str], second: &[&str]) -> Result<View, ViewFault> {
     let first = view_of(alloc, first)?;
     with_view(alloc, &first, second)
 }
@@ -69,14 +70,9 @@ fn refuse(rt: &impl Print, fault: ViewFault) -> io::Result<()> {
     println!(rt; " refused {}", fault.reason())
 }
 
-/// The first view, merged with the second.
-pub(crate) fn tell(
-    rt: &impl Print,
-    alloc: Global,
-    first: &[&str],
-    second: &[&str],
-) -> io::Result<()> {
-    match merged(alloc, first, second) {
+/// The values of a view, or why there is none.
+pub(crate) fn tell(rt: &impl Print, view: Result<View, ViewFault>) -> io::Result<()> {
+    match view {
         Ok(view) => tell_values(rt, &view),
         Err(fault) => refuse(rt, fault),
     }

@@ -40,13 +40,33 @@ pub(crate) enum MembersLine<'a> {
     Facts(&'a [&'a str], &'a [&'a str]),
 }
 
+/// What is asked about the bytes of a message.
+#[derive(Clone, Copy)]
+pub(crate) enum Question {
+    /// What the message says.
+    Message,
+    /// By which numbers the beginnings of the bytes are refused.
+    Beginnings,
+    /// What comes of so many changes of a byte.
+    Changed(u64),
+    /// What is written of the message once it was read.
+    Again,
+}
+
+/// A line about the bytes of a message of that version.
+#[derive(Clone, Copy)]
+pub(crate) struct BytesLine<'a> {
+    pub(crate) question: Question,
+    pub(crate) version: Version,
+    /// The bytes, as hexadecimal digits.
+    pub(crate) digits: &'a str,
+}
+
 /// What a line asks for.
 #[derive(Clone, Copy)]
 pub(crate) enum Case<'a> {
     World(WorldLine),
-    Message(Version, &'a str),
-    Beginnings(Version, &'a str),
-    Changed(Version, u64, &'a str),
+    Bytes(BytesLine<'a>),
     Members(MembersLine<'a>),
     View(&'a [&'a str], &'a [&'a str]),
     Share(&'a [&'a str], &'a [&'a str]),
@@ -187,7 +207,7 @@ fn members_line<'a>(words: &'a [&'a str]) -> Option<MembersLine<'a>> {
     }
 }
 
-pub(crate) fn version_of(word: &str) -> Option<Version> {
+fn version_of(word: &str) -> Option<Version> {
     match word {
         "1" => Some(Version::First),
         "2" => Some(Version::Second),
@@ -195,24 +215,30 @@ pub(crate) fn version_of(word: &str) -> Option<Version> {
     }
 }
 
-/// A line about bytes.
-fn bytes_case<'a>(words: &'a [&'a str]) -> Option<Case<'a>> {
-    match words {
-        ["message", version, digits] => Some(Case::Message(version_of(version)?, digits)),
-        ["beginnings", version, digits] => Some(Case::Beginnings(version_of(version)?, digits)),
-        ["changed", version, count, digits] => {
-            Some(Case::Changed(version_of(version)?, number(count)?, digits))
-        }
-        ["value", count] => Some(Case::Value(place(count)?)),
-        _ => None,
-    }
+/// A line about the bytes of a message.
+fn bytes_line<'a>(words: &'a [&'a str]) -> Option<BytesLine<'a>> {
+    let (question, version, digits) = match words {
+        ["message", version, digits] => (Question::Message, version, digits),
+        ["beginnings", version, digits] => (Question::Beginnings, version, digits),
+        ["changed", version, count, digits] => (Question::Changed(number(count)?), version, digits),
+        ["again", version, digits] => (Question::Again, version, digits),
+        _ => return None,
+    };
+    Some(BytesLine {
+        question,
+        version: version_of(version)?,
+        digits,
+    })
 }
 
 impl Case<'_> {
     /// What a line asks for, by its words.
     pub(crate) fn read<'a>(words: &'a [&'a str]) -> Option<Case<'a>> {
-        if let Some(case) = bytes_case(words) {
-            return Some(case);
+        if let Some(line) = bytes_line(words) {
+            return Some(Case::Bytes(line));
+        }
+        if let ["value", count] = words {
+            return Some(Case::Value(place(count)?));
         }
         if let ["share", values @ ..] = words {
             let (first, second) = halves(values);
