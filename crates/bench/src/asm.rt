@@ -4,11 +4,10 @@
 //! one behind the other, and then its text is disassembled as often.
 
 use crate::Size;
+use crate::measured::{Machine, time_runs};
 use anyhow::{Result, anyhow};
 use bq_asm::{AsmFault, assemble, disassemble};
-use bq_insn::Text;
 use std::alloc::{AllocError, Global};
-use std::time::{Clock, Duration, Instant};
 
 /// Appends the unit of this number: the first of four has a label, and the third jumps to that of the next four.
 fn push_unit(source: &mut String, unit: u64) -> Result<(), AllocError> {
@@ -40,56 +39,21 @@ pub(crate) fn refused(fault: AsmFault) -> anyhow::Error {
     anyhow!("refused {}", fault.reason())
 }
 
-/// How long it takes to assemble a source so many times.
-fn time_assembling(
-    rt: &(impl Clock + Alloc<A = Global>),
-    source: &str,
-    runs: u64,
-) -> Result<Duration> {
-    let start = Instant::now(rt)?;
-    for _ in 0..runs {
-        let _text = assemble(rt.alloc(), source).map_err(refused)?;
-    }
-    Ok(start.elapsed(rt)?)
-}
-
-/// How long it takes to disassemble a text so many times.
-fn time_disassembling(
-    rt: &(impl Clock + Alloc<A = Global>),
-    text: &Text,
-    runs: u64,
-) -> Result<Duration> {
-    let start = Instant::now(rt)?;
-    for _ in 0..runs {
-        let _source = disassemble(rt.alloc(), text)?;
-    }
-    Ok(start.elapsed(rt)?)
-}
-
-/// Times a source and its text.
-fn tell(
-    rt: &(impl Clock + Print + Eprint + Alloc<A = Global>),
-    source: &str,
-    text: &Text,
-    runs: u64,
-) -> Result<()> {
+/// Times these units so many times.
+pub(crate) fn run(rt: &impl Machine, size: Size) -> Result<()> {
+    let Size { count, runs } = size;
+    let source = source_of(rt.alloc(), count)?;
+    let source = source.as_str();
+    let text = assemble(rt.alloc(), source).map_err(refused)?;
     println!(rt;
         "units {} characters {} runs {runs}",
         text.units(),
         source.len()
     )?;
-    let assembling = time_assembling(rt, source, runs)?;
-    let disassembling = time_disassembling(rt, text, runs)?;
+    let assembling = time_runs(rt, runs, |_| {
+        assemble(rt.alloc(), source).map_err(refused)
+    })?;
+    let disassembling = time_runs(rt, runs, |_| Ok(disassemble(rt.alloc(), &text)?))?;
     eprintln!(rt; "assembling {assembling:?}, disassembling {disassembling:?}")?;
     Ok(())
-}
-
-/// Times these units so many times.
-pub(crate) fn run(
-    rt: &(impl Clock + Print + Eprint + Alloc<A = Global>),
-    size: Size,
-) -> Result<()> {
-    let source = source_of(rt.alloc(), size.count)?;
-    let text = assemble(rt.alloc(), source.as_str()).map_err(refused)?;
-    tell(rt, source.as_str(), &text, size.runs)
 }

@@ -4,6 +4,7 @@
 //! many times, one behind the other.
 
 use crate::Size;
+use crate::measured::Machine;
 use anyhow::{Result, anyhow};
 use bq_check::{CheckFault, Notes, check};
 use bq_insn::{DecodeFault, Text, decode};
@@ -89,11 +90,7 @@ fn time_once(rt: &(impl Clock + Alloc<A = Global>), bytes: &[u8]) -> Result<Time
 }
 
 /// Times the text of these bytes so many times.
-fn tell(
-    rt: &(impl Clock + Print + Eprint + Alloc<A = Global>),
-    bytes: &[u8],
-    runs: u64,
-) -> Result<()> {
+fn tell(rt: &impl Machine, bytes: &[u8], runs: u64) -> Result<()> {
     let Times {
         mut verifying,
         mut checking,
@@ -110,10 +107,7 @@ fn tell(
 }
 
 /// Times these units so many times.
-pub(crate) fn run(
-    rt: &(impl Clock + Print + Eprint + Alloc<A = Global>),
-    size: Size,
-) -> Result<()> {
+pub(crate) fn run(rt: &impl Machine, size: Size) -> Result<()> {
     let bytes = bytes_of(rt.alloc(), size.count)?;
     tell(rt, &bytes, size.runs)
 }

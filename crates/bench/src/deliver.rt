@@ -1,6 +1,7 @@
 //! How long a node takes over a store message, which it acknowledges and echoes.
 
 use crate::Size;
+use crate::measured::Machine;
 use crate::values::{USUAL, each, learn, view_of};
 use anyhow::{Result, anyhow};
 use sc_members::Config;
@@ -89,7 +90,7 @@ fn tell(
 
 /// Times so many deliveries at the node, which learns the view before.
 fn tell_newer(
-    rt: &(impl Clock + Print + Eprint + Alloc<A = Global>),
+    rt: &impl Machine,
     node: &mut Node,
     known: &View,
     newer: u64,
@@ -101,21 +102,13 @@ fn tell_newer(
 }
 
 /// Times so many deliveries at a fresh node.
-fn tell_fresh(
-    rt: &(impl Clock + Print + Eprint + Alloc<A = Global>),
-    known: &View,
-    newer: u64,
-    rounds: u64,
-) -> Result<()> {
+fn tell_fresh(rt: &impl Machine, known: &View, newer: u64, rounds: u64) -> Result<()> {
     let mut node = founder(rt.alloc())?;
     tell_newer(rt, &mut node, known, newer, rounds)
 }
 
 /// Times so many rounds of each.
-pub(crate) fn run(
-    rt: &(impl Clock + Print + Eprint + Alloc<A = Global>),
-    size: Size,
-) -> Result<()> {
+pub(crate) fn run(rt: &impl Machine, size: Size) -> Result<()> {
     let (ids, rounds) = (size.count, size.runs);
     let known = view_of(rt.alloc(), ids, USUAL)?;
     for newer in [0, 1, 4, 16, 64, 256] {

@@ -14,6 +14,7 @@ ghost use Rattle.std.specs.Prelude.{◌≡◌, IfOk};
 ghost use Rattle.bq_state.specs.Kinds.{view_lengths};
 ghost use Rattle.q_session.specs.Records.{HasRecordsWithin};
 
+use crate::measured::Machine;
 use crate::{asm, check, values};
 use anyhow::{Context, Result, bail};
 use bq_asm::assemble;
@@ -238,13 +239,7 @@ fn tell_times(
 }
 
 /// Times a program over a view so many times.
-fn run_over(
-    rt: &(impl Clock + Print + Eprint + Alloc<A = Global>),
-    name: &str,
-    program: &Program,
-    view: &View,
-    runs: u64,
-) -> Result<()>
+fn run_over(rt: &impl Machine, name: &str, program: &Program, view: &View, runs: u64) -> Result<()>
     requires { program.now.lengths ≡ view_lengths }
 {
     records_of_values();
@@ -256,11 +251,7 @@ fn run_over(
 }
 
 /// Times a program so many times.
-pub(crate) fn run(
-    rt: &(impl Clock + Print + Eprint + Alloc<A = Global>),
-    name: &str,
-    runs: u64,
-) -> Result<()> {
+pub(crate) fn run(rt: &impl Machine, name: &str, runs: u64) -> Result<()> {
     let program = program(rt.alloc(), name)?;
     let view = view_of(rt.alloc())?;
     run_over(rt, name, &program, &view, runs)

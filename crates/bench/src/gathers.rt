@@ -1,6 +1,6 @@
 //! Nodes that ran apart, gathered into a cluster.
 
-use crate::measured::Measured;
+use crate::measured::{Measured, time_runs};
 use anyhow::{Result, anyhow, bail};
 use q_book::{Book, Delivery};
 use q_gather::{gather, gather_books};
@@ -9,7 +9,7 @@ use sc_members::Config;
 use sc_msg::Message;
 use sc_node::{Begun, Outs};
 use std::alloc::{AllocError, Global};
-use std::time::{Clock, Instant};
+use std::time::Clock;
 
 /// The book of a founder.
 fn founder(alloc: Global, id: u64, founders: &[u64]) -> Result<Book> {
@@ -125,52 +125,24 @@ fn events_of(books: &[Book]) -> u64 {
     events
 }
 
-/// Whether journals gather.
-fn journals_gather(alloc: Global, journals: &[Vec<u8>]) -> Result<bool> {
+/// Gathers journals.
+fn gather_journals(alloc: Global, journals: &[Vec<u8>]) -> Result<()> {
     let mut slices: Vec<&[u8]> = Vec::with_capacity(alloc, journals.len())?;
     for journal in journals {
         slices.push(journal.as_slice())?;
     }
-    Ok(gather(alloc, slices.as_slice()).is_ok())
-}
-
-/// Whether books gather.
-fn books_gather(alloc: Global, books: &[Book]) -> bool {
-    gather_books(alloc, books).is_ok()
-}
-
-/// How long it takes to gather journals with so many events.
-fn time_journals<R>(rt: &R, journals: &[Vec<u8>], events: u64) -> Result<Measured>
-where
-    R: Clock + Alloc<A = Global>,
-{
-    let start = Instant::now(rt)?;
-    let gathered = journals_gather(rt.alloc(), journals)?;
-    let taken = start.elapsed(rt)?;
-    if !gathered {
+    if gather(alloc, slices.as_slice()).is_err() {
         bail!("the journals do not gather");
     }
-    Ok(Measured {
-        done: events,
-        taken,
-    })
+    Ok(())
 }
 
-/// How long it takes to gather books.
-fn time_books<R>(rt: &R, books: &[Book], events: u64) -> Result<Measured>
-where
-    R: Clock + Alloc<A = Global>,
-{
-    let start = Instant::now(rt)?;
-    let gathered = books_gather(rt.alloc(), books);
-    let taken = start.elapsed(rt)?;
-    if !gathered {
+/// The same of books.
+fn gather_all(alloc: Global, books: &[Book]) -> Result<()> {
+    if gather_books(alloc, books).is_err() {
         bail!("the books do not gather");
     }
-    Ok(Measured {
-        done: events,
-        taken,
-    })
+    Ok(())
 }
 
 /// How long it takes to gather nodes that ran apart, by their journals and by their books.
@@ -185,11 +157,19 @@ fn time_both<R>(rt: &R, books: &[Book]) -> Result<Gathered>
 where
     R: Clock + Alloc<A = Global>,
 {
-    let events = events_of(books);
+    let done = events_of(books);
     let journals = journals_of(rt.alloc(), books)?;
+    let by_journals = time_runs(rt, 1, |_| gather_journals(rt.alloc(), &journals))?;
+    let by_books = time_runs(rt, 1, |_| gather_all(rt.alloc(), books))?;
     Ok(Gathered {
-        by_journals: time_journals(rt, journals.as_slice(), events)?,
-        by_books: time_books(rt, books, events)?,
+        by_journals: Measured {
+            done,
+            taken: by_journals,
+        },
+        by_books: Measured {
+            done,
+            taken: by_books,
+        },
     })
 }
 

@@ -1,9 +1,30 @@
-//! What is done some times, of which the least time counts.
+//! What is done some times, and how long it takes.
 
 use anyhow::Result;
-use std::time::Duration;
+use std::alloc::Global;
+use std::time::{Clock, Duration, Instant};
 
-/// How often each is done.
+/// What a benchmark needs of the machine.
+pub(crate) trait Machine: Clock + Print + Eprint + Alloc<A = Global> {}
+
+impl<R: Clock + Print + Eprint + Alloc<A = Global>> Machine for R {}
+
+/// How long so many runs take, one behind the other. Each is given its number, from 0 on.
+pub(crate) fn time_runs<T: Drop, F: FnMut(u64) -> Result<T>>(
+    rt: &impl Clock,
+    runs: u64,
+    mut run: F,
+) -> Result<Duration>
+    requires { F.IsAlwaysCallable run }
+{
+    let start = Instant::now(rt)?;
+    for number in 0..runs {
+        let _done = run(number)?;
+    }
+    Ok(start.elapsed(rt)?)
+}
+
+/// How often each is done, where the least time counts.
 pub(crate) const RUNS: u32 = 5;
 
 /// How many of what was wanted were done, and how long all took.

@@ -6,9 +6,9 @@
 
 use crate::Size;
 use crate::cluster::Cluster;
+use crate::measured::Machine;
 use anyhow::{Result, anyhow};
 use sc_world::WorldFault;
-use std::alloc::Global;
 use std::time::{Clock, Duration, Instant};
 
 /// Runs the rounds, and answers how long they took and how many messages they delivered.
@@ -40,10 +40,7 @@ fn tell(rt: &(impl Clock + Print + Eprint), cluster: &mut Cluster, size: Size) -
 }
 
 /// Times so many rounds.
-pub(crate) fn run(
-    rt: &(impl Clock + Print + Eprint + Alloc<A = Global>),
-    size: Size,
-) -> Result<()> {
+pub(crate) fn run(rt: &impl Machine, size: Size) -> Result<()> {
     let mut cluster = Cluster::new(rt.alloc(), size.count).map_err(refused)?;
     tell(rt, &mut cluster, size)
 }
