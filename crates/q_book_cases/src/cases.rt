@@ -5,7 +5,7 @@ ghost use Rattle.q_board.specs.BoardId.{board_id};
 
 use crate::asker::{Asker, askers};
 use crate::founder::{Founder, Served};
-use crate::gate::passes_with;
+use crate::gate::holds_none_up;
 use crate::many::right_answers;
 use crate::muster::musters;
 use crate::runner::{Runner, runners};
@@ -131,7 +131,7 @@ impl Cases<'_> {
         let third = number(rest).unwrap_or(0);
         let alloc = self.alloc;
         match word {
-            "gate" => passes_with(rt, alloc, first as usize, second),
+            "gate" => holds_none_up(rt, alloc, first as usize, second),
             "threads" => musters(rt, alloc, first as usize, second),
             "many" => right_answers(rt, alloc, first as usize, second as usize, third),
             "run" | "back" => self.runner_step(word, first, second),

@@ -1,13 +1,11 @@
 //! A run that is held in its gate holds no other one up, where a second runner is there.
 
-ghost use Rattle.std.specs.Prelude.{◌≡◌, All};
-ghost use Rattle.q_board.specs.BoardId.{board_id};
-
-use crate::asker::{Asker, askers};
+use crate::asker::Asker;
 use crate::founder::Founder;
 use crate::requests::furnished;
 use crate::step::Outcome;
-use q_board::{Board, Gate, RunnerSeat, with_runners};
+use crate::trial::{Trial, passes_with};
+use q_board::Gate;
 use std::alloc::Global;
 use std::sync::Wait;
 use std::sync::atomic::AtomicBool;
@@ -117,42 +115,19 @@ fn answers_three<R: Wait + Clock>(
     }
 }
 
-/// The same in the first of these seats.
-fn first_answers_three<R: Wait + Clock>(
-    rt: &R,
-    alloc: Global,
-    mut askers: Vec<Asker<'_>>,
-    signs: &Signs,
-) -> bool {
-    match askers.first_mut() {
-        Some(asker) => answers_three(rt, alloc, asker, signs),
-        None => false,
+impl<R: Wait + Clock + Sync> Trial for Held<'_, R> {
+    fn ask(&self, alloc: Global, asker: &mut Asker<'_>) -> bool {
+        answers_three(self.rt, alloc, asker, self.signs)
     }
-}
 
-/// The same while runners run, behind the gate. Whether no run held up another, too.
-fn passes<R: Wait + Threads + Clock + Sync>(
-    rt: &R,
-    alloc: Global,
-    board: &Board,
-    askers: Vec<Asker<'_>>,
-    seats: Vec<RunnerSeat>,
-    signs: &Signs,
-) -> bool
-    requires { All (λ s. s.table ≡ board_id board.now) seats.items }
-{
-    let gate = Held { rt, signs };
-    let answered = with_runners(rt, alloc, board, seats, &gate, move || -> bool {
-        first_answers_three(rt, alloc, askers, signs)
-    });
-    match answered {
-        Ok(answered) => answered && !signs.late.load(SeqCst),
-        Err(_) => false,
+    /// Whether no run held up another.
+    fn is_passed(&self) -> bool {
+        !self.signs.late.load(SeqCst)
     }
 }
 
 /// Whether the gate is passed by so many runners, where each side looks so often; refused where there is no such board.
-pub fn passes_with<R: Wait + Threads + Clock + Sync>(
+pub fn holds_none_up<R: Wait + Threads + Clock + Sync>(
     rt: &R,
     alloc: Global,
     runners: usize,
@@ -164,11 +139,5 @@ pub fn passes_with<R: Wait + Threads + Clock + Sync>(
         late: AtomicBool::new(false),
         looks,
     };
-    match Board::open(alloc, 1, runners) {
-        Ok((board, seats, runners)) => match askers(alloc, &board, seats) {
-            Some(askers) => Outcome::of(passes(rt, alloc, &board, askers, runners, &signs)),
-            None => Outcome::Nothing,
-        },
-        Err(fault) => Outcome::Refused(fault.reason().number()),
-    }
+    passes_with(rt, alloc, runners, &Held { rt, signs: &signs })
 }

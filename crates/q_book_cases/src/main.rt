@@ -46,6 +46,7 @@ mod requests;
 mod runner;
 mod step;
 mod stream;
+mod trial;
 
 use crate::cases::{Cases, seated};
 use crate::requests::want_of_memory_is_answered;

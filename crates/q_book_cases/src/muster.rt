@@ -1,13 +1,11 @@
 //! There is a thread for each seat: as many runs are held at once as there are runners.
 
-ghost use Rattle.std.specs.Prelude.{◌≡◌, All};
-ghost use Rattle.q_board.specs.BoardId.{board_id};
-
-use crate::asker::{Asker, askers};
+use crate::asker::Asker;
 use crate::gate::NAP_MICROS;
 use crate::many::ask_all;
 use crate::step::Outcome;
-use q_board::{Board, Gate, RunnerSeat, with_runners};
+use crate::trial::{Trial, passes_with};
+use q_board::Gate;
 use std::alloc::Global;
 use std::sync::Wait;
 use std::sync::atomic::AtomicU64;
@@ -72,33 +70,13 @@ impl<R: Clock> Gate for Muster<'_, R> {
     }
 }
 
-/// Asks so many queries in the first of these seats, and pumps until all are answered; how many answers are right.
-fn ask_in_first<R: Wait>(rt: &R, alloc: Global, mut askers: Vec<Asker<'_>>, queries: u64) -> u64 {
-    match askers.first_mut() {
-        Some(asker) => ask_all(rt, alloc, asker, queries),
-        None => 0,
+impl<R: Wait + Clock + Sync> Trial for Muster<'_, R> {
+    fn ask(&self, alloc: Global, asker: &mut Asker<'_>) -> bool {
+        ask_all(self.rt, alloc, asker, self.tally.wanted) == self.tally.wanted
     }
-}
 
-/// The same while runners run, behind the gate. Whether all answers are right, and all runs were held at once.
-fn passes<R: Wait + Threads + Clock + Sync>(
-    rt: &R,
-    alloc: Global,
-    board: &Board,
-    askers: Vec<Asker<'_>>,
-    seats: Vec<RunnerSeat>,
-    tally: &Tally,
-) -> bool
-    requires { All (λ s. s.table ≡ board_id board.now) seats.items }
-{
-    let gate = Muster { rt, tally };
-    let wanted = tally.wanted;
-    let right = with_runners(rt, alloc, board, seats, &gate, move || -> u64 {
-        ask_in_first(rt, alloc, askers, wanted)
-    });
-    match right {
-        Ok(right) => right == wanted && tally.is_full(),
-        Err(_) => false,
+    fn is_passed(&self) -> bool {
+        self.tally.is_full()
     }
 }
 
@@ -117,11 +95,5 @@ pub fn musters<R: Wait + Threads + Clock + Sync>(
         wanted: runners as u64,
         looks,
     };
-    match Board::open(alloc, 1, runners) {
-        Ok((board, seats, runners)) => match askers(alloc, &board, seats) {
-            Some(askers) => Outcome::of(passes(rt, alloc, &board, askers, runners, &tally)),
-            None => Outcome::Nothing,
-        },
-        Err(fault) => Outcome::Refused(fault.reason().number()),
-    }
+    passes_with(rt, alloc, runners, &Muster { rt, tally: &tally })
 }
