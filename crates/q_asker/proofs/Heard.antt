@@ -11,6 +11,8 @@ use Rattle.spelling.specs.Numbers.{number_bytes}
 use Rattle.spelling.proofs.Numbers.{length-number_bytes}
 use Rattle.spelling.proofs.Codes.{one_byte, number_front}
 use Rattle.q_net.specs.Replies.{reply_bytes}
+use Rattle.q_net.specs.Requests.{Got}
+use Rattle.q_net.proofs.Reading.{got_none}
 use Rattle.q_net.specs.declared.replies.Reply.{Reply}
 use Rattle.q_net.specs.declared.replies.Reply.TheVariants.{Program, Number, Open, Answer, Refused}
 use Rattle.q_asker.specs.declared.replies.ReplyKind.{ReplyKind}
@@ -66,27 +68,10 @@ cut : (kind : ReplyKind) (front : List ℕ) (few : ℕ) → ((said : Reply) (byt
     → (a b : Option (List ℕ)) (part : List ℕ) → Consumes a b part → length part < few → IsAtEnd b → BeginsNone kind front a
 cut kind front few long a b part p less end = none_begins kind front a (λ bytes is said rest can e. omega (arith, ap length (all_read a b part bytes p end is), less, long said bytes rest can e))
 
--- ---- a program's number
+-- ---- behind a 0
 
-program_long : (said : Reply) (bytes rest : List ℕ) → CanBe kind.Program said → 0 ∷ bytes ≡ reply_bytes said ++ rest → 4 ≤ length bytes
-program_long (Refused n) bytes rest can e = absurd (not_zero n can cc)
-program_long (Program n) bytes rest can e = let t : bytes ≡ number_bytes 4 n ++ rest = cc in omega (arith, ap length t, length-append (number_bytes 4 n) rest, length-number_bytes 4 n)
-program_long said bytes rest can e = absurd can
-
-pub program_cut : (a b : Option (List ℕ)) (part : List ℕ) → Consumes a b part → length part < 4 → IsAtEnd b → BeginsNone kind.Program (0 ∷ []) a
-program_cut = cut kind.Program (0 ∷ []) 4 program_long
-
--- ---- a number
-
-number_long : (said : Reply) (bytes rest : List ℕ) → CanBe kind.Number said → 0 ∷ bytes ≡ reply_bytes said ++ rest → 8 ≤ length bytes
-number_long (Refused n) bytes rest can e = absurd (not_zero n can cc)
-number_long (Number n) bytes rest can e = let t : bytes ≡ number_bytes 8 n ++ rest = cc in omega (arith, ap length t, length-append (number_bytes 8 n) rest, length-number_bytes 8 n)
-number_long said bytes rest can e = absurd can
-
-pub number_cut : (a b : Option (List ℕ)) (part : List ℕ) → Consumes a b part → length part < 8 → IsAtEnd b → BeginsNone kind.Number (0 ∷ []) a
-number_cut = cut kind.Number (0 ∷ []) 8 number_long
-
--- ---- an answer
+number_long : (width n : ℕ) (bytes rest : List ℕ) → bytes ≡ number_bytes width n ++ rest → width ≤ length bytes
+number_long width n bytes rest is = omega (arith, ap length is, length-append (number_bytes width n) rest, length-number_bytes width n)
 
 answer_long : (said : Reply) (bytes rest : List ℕ) → CanBe kind.Answer said → 0 ∷ bytes ≡ reply_bytes said ++ rest → (bytes ≡ 0 ∷ rest) ⊎ ((more : List ℕ) × (bytes ≡ 1 ∷ more) × (16 ≤ length more))
 answer_long (Refused n) bytes rest can e = absurd (not_zero n can cc)
@@ -96,12 +81,27 @@ answer_long (Answer acc steps) bytes rest can e =
     inr ((number_bytes 8 acc ++ number_bytes 8 steps) ++ rest, t, omega (arith, length-append (number_bytes 8 acc ++ number_bytes 8 steps) rest, length-append (number_bytes 8 acc) (number_bytes 8 steps), length-number_bytes 8 acc, length-number_bytes 8 steps))
 answer_long said bytes rest can e = absurd can
 
--- the input ended behind a 0
-pub look_cut : (a b : Option (List ℕ)) (part : List ℕ) → Consumes a b part → length part < 1 → IsAtEnd b → BeginsNone kind.Answer (0 ∷ []) a
-look_cut = cut kind.Answer (0 ∷ []) 1 (λ said bytes rest can e. elim (answer_long said bytes rest can e) [
+-- how many bytes a reply of a kind has there at least, if it is no refusal
+abbrev fewest : ReplyKind → ℕ
+fewest kind.Program = 4
+fewest kind.Number = 8
+fewest kind.Answer = 1
+
+accepted_long : (kind : ReplyKind) (said : Reply) (bytes rest : List ℕ) → CanBe kind said → 0 ∷ bytes ≡ reply_bytes said ++ rest → fewest kind ≤ length bytes
+accepted_long kind (Refused n) bytes rest can e = absurd (not_zero n can cc)
+accepted_long kind.Program (Program n) bytes rest can e = number_long 4 n bytes rest cc
+accepted_long kind.Number (Number n) bytes rest can e = number_long 8 n bytes rest cc
+accepted_long kind.Answer said bytes rest can e = elim (answer_long said bytes rest can e) [
   | inl alone ↦ omega (arith, ap length alone)
   | inr more ↦ omega (arith, ap length more.1)
-])
+]
+accepted_long kind said bytes rest can e = absurd can
+
+-- the input ended before so many
+pub none_accepted : {A : Type 0} (kind : ReplyKind) (bytes_of : A → List ℕ) (a b : Option (List ℕ)) (o : Option A) → o ≡ None → Got bytes_of (fewest kind) a b o → BeginsNone kind (0 ∷ []) a × ((part : List ℕ) × Consumes a b part)
+none_accepted kind bytes_of a b o is got =
+    let (part, consumed, less, end) = got_none bytes_of (fewest kind) a b o is got in
+    (cut kind (0 ∷ []) (fewest kind) (accepted_long kind) a b part consumed less end, (part, consumed))
 
 -- behind a 0 stands neither 0 nor 1
 pub look_other : (n : ℕ) (a b : Option (List ℕ)) → (n ≡ 0 → ⊥) → (n ≡ 1 → ⊥) → Consumes a b (n ∷ []) → BeginsNone kind.Answer (0 ∷ []) a
