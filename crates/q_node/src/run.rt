@@ -68,47 +68,8 @@ where
     J: JournalFile + Send,
     S: Start + Send,
 {
-    /// Runs the threads of a node while its console is minded, and ends them then.
-    fn run_minded<D, C, W>(
-        &self,
-        alloc: Global,
-        greeting: &str,
-        door: &D,
-        crew: Crew<'_>,
-        console: &mut C,
-        out: &mut Counted<W>,
-    ) -> Talk
-    where
-        D: Door + Sync,
-        D::Stream: Send + Drop,
-        C: BufRead,
-        W: Write,
-        ensures said { Talks S.id greeting.now (W.contents out.old.inner) result (W.contents out.new.inner) }
-        ensures counted { out.new.failures ≡ talk_count result out.old.failures }
-    {
-        let mut crew = Some(crew);
-        let (_, talk) = thread::join_mut(
-            self.rt,
-            &mut || {
-                if let Some(crew) = crew.take() {
-                    self.run_threads(alloc, door, crew);
-                }
-            },
-            &mut || -> Talk
-                ensures said { Talks S.id greeting.entry.now (W.contents out.entry.now.inner) result (W.contents out.exit.now.inner) }
-                ensures counted { out.exit.now.failures ≡ talk_count result out.entry.now.failures }
-            {
-                let talk = hold_talk(self, alloc, greeting, console, out);
-                self.end();
-                self.shut_door(door);
-                talk
-            },
-        );
-        talk
-    }
-
-    /// Writes the beginning of the journal, sends what waits, and runs the node. Where the journal is not written,
-    /// nothing runs.
+    /// Writes the beginning of the journal, sends what waits, and runs the threads of a node while its console is
+    /// minded, and ends them then. Where the journal is not written, nothing runs.
     fn begin_and_run<D, C, W>(
         &self,
         alloc: Global,
@@ -129,7 +90,25 @@ where
         if !self.settle(alloc) {
             return Talk::Unstarted;
         }
-        self.run_minded(alloc, greeting, door, crew, console, out)
+        let mut crew = Some(crew);
+        let (_, talk) = thread::join_mut(
+            self.rt,
+            &mut || {
+                if let Some(crew) = crew.take() {
+                    self.run_threads(alloc, door, crew);
+                }
+            },
+            &mut || -> Talk
+                ensures said { Talks S.id greeting.entry.now (W.contents out.entry.now.inner) result (W.contents out.exit.now.inner) }
+                ensures counted { out.exit.now.failures ≡ talk_count result out.entry.now.failures }
+            {
+                let talk = hold_talk(self, alloc, greeting, console, out);
+                self.end();
+                self.shut_door(door);
+                talk
+            },
+        );
+        talk
     }
 }
 
