@@ -1,5 +1,5 @@
 -- The events that are calls of one book, and what the ledger records of them.
-use Rattle.std.proofs.Common.{◌≡◌, ℕ, List, Option, Some, None, Result, Ok, ap, sym, ◌∙◌}
+use Rattle.std.proofs.Common.{◌≡◌, ℕ, List, Option, None, Result}
 use Rattle.sc_msg.specs.declared.message.Message.{Message}
 use Rattle.sc_node.specs.declared.answer.Begun.{Begun}
 use Rattle.sc_operations.specs.declared.progress.Progress.{Progress}

@@ -16,6 +16,7 @@ use Rattle.q_history.specs.declared.event.ClusterStep.{ClusterStep}
 use Rattle.q_history.specs.declared.event.EventAnswer.TheVariants as told
 use Rattle.q_history.specs.Headline.{BookMap, ClusterState}
 use Rattle.q_history.specs.Clusters.{Said, live, live_at, enters, entered, crashed}
+use Rattle.q_history.specs.Calls.{Follows}
 use Rattle.q_history.proofs.Histories.{history_next}
 use Rattle.q_cluster.specs.Acts.{cluster_of, IsCluster, IsThere}
 use Rattle.q_cluster.proofs.Histories.{follows}
@@ -55,15 +56,25 @@ module _ (version : Version) (books : BookMap) (past : Past) (jobs : List Job) (
   crashed_by None h past' t is tells = absurd (cc)
   crashed_by (Some b) h past' t is tells = λ i. Ok (sym tells i, cluster_of version books (sym is i) jobs)
 
-  module _ (past' : Past) (sent : Sent) (is : past' ≡ stopped past id) (numbers : sent ≡ record { first = length past.sent; count = 0 }) (lives : true ≡ is_some (live_at c id)) where
-    pub crash_says : (t : ClusterStep) → t ≡ record { told = told.Crashed; sent = sent } → crashed c id (live_at c id) ≡ Ok (t, cluster_of version books past' jobs)
-    crash_says t tells = crashed_by (live_at c id) lives past' t is (tells ∙ ap (λ (s : Sent). let x : ClusterStep = record { told = told.Crashed; sent = s } in x) numbers)
+  module _ {x : ClusterState} (same : c ≡ x) (lives : true ≡ is_some (live_at x id)) (past' : Past) (sent : Sent) (is : past' ≡ stopped past id) (numbers : sent ≡ record { first = length past.sent; count = 0 }) where
+    abbrev stopped_so : ClusterState
+    stopped_so = cluster_of version books past' jobs
+
+    live_inside : true ≡ is_some (live_at c id)
+    live_inside = lives ∙ ap (λ (z : ClusterState). is_some (live_at z id)) (sym same)
+
+    crash_follows : (t : ClusterStep) → t ≡ record { told = told.Crashed; sent = sent } → Follows c (event.Crash id) t stopped_so
+    crash_follows t tells =
+        follows c (event.Crash id) t stopped_so (λ _. tt)
+        (λ _. crashed_by (live_at c id) live_inside past' t is (tells ∙ ap (λ (s : Sent). let y : ClusterStep = record { told = told.Crashed; sent = s } in y) numbers))
+
+    pub crash_says : (t : ClusterStep) → t ≡ record { told = told.Crashed; sent = sent } → Follows x (event.Crash id) t stopped_so
+    crash_says t tells = subst (λ (z : ClusterState). Follows z (event.Crash id) t stopped_so) same (crash_follows t tells)
 
     pub crash_goes : IsCluster version books past jobs → IsCluster version books past' jobs
     crash_goes old =
         let t : ClusterStep = record { told = told.Crashed; sent = sent } in
-        let d : ClusterState = cluster_of version books past' jobs in
-        history_next c d (event.Crash id) t old (follows c (event.Crash id) t d (λ _. tt) (λ _. crash_says t refl))
+        history_next c stopped_so (event.Crash id) t old (crash_follows t refl)
 
   -- ---- a node enters
 
@@ -77,13 +88,15 @@ module _ (version : Version) (books : BookMap) (past : Past) (jobs : List Job) (
 
   module _ (absent : fin.get books id ≡ None) (b : BookState) (outs : List Message) (made : book.entered version past.config id ≡ (b, outs)) (books' : BookMap) (put_in : books' ≡ fin.insert books id b)
       (past' : Past) (records : past' ≡ recorded past (world_event.Enter id) id outs None None) (sent : Sent) (numbers : sent ≡ numbered past outs) where
-    pub enter_says : (t : ClusterStep) → t ≡ record { told = told.Entered; sent = sent } → entered c id (fin.get books id) ≡ Ok (t, cluster_of version books' past' jobs)
-    enter_says t tells =
+    entered_by : (t : ClusterStep) → t ≡ record { told = told.Entered; sent = sent } → entered c id (fin.get books id) ≡ Ok (t, cluster_of version books' past' jobs)
+    entered_by t tells =
         ap (entered c id) absent ∙ ap (λ (e : BookState × List Message). let r : Said = Ok (enters c id e) in r) made
         ∙ (λ i. Ok (sym (tells ∙ ap (λ (s : Sent). let x : ClusterStep = record { told = told.Entered; sent = s } in x) numbers) i, cluster_of version (sym put_in i) (sym records i) jobs))
+
+    pub enter_says : (t : ClusterStep) → t ≡ record { told = told.Entered; sent = sent } → Follows c (event.Enter id) t (cluster_of version books' past' jobs)
+    enter_says t tells = follows c (event.Enter id) t (cluster_of version books' past' jobs) (λ _. tt) (λ _. entered_by t tells)
 
     pub enter_goes : IsCluster version books past jobs → IsCluster version books' past' jobs
     enter_goes old =
         let t : ClusterStep = record { told = told.Entered; sent = sent } in
-        let d : ClusterState = cluster_of version books' past' jobs in
-        history_next c d (event.Enter id) t old (follows c (event.Enter id) t d (λ _. tt) (λ _. enter_says t refl))
+        history_next c (cluster_of version books' past' jobs) (event.Enter id) t old (enter_says t refl)

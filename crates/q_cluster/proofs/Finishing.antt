@@ -84,11 +84,7 @@ module _ {version : Version} {books : BookMap} {past : Past} {jobs : List Job} {
       tell = told.Finished (record { node = k.node; query = k.query; ran = f.ran })
 
       pub finish_says : Follows x (event.Finish number) t (cluster_of version (table b') past jobs)
-      finish_says = record {
-        ran = f.ran;
-        right = subst (λ (o : Option Job). IfSome o (λ q. Answers q f.ran)) (sym (may.job ∙ ap (λ (q : Job). let o : Option Job = Some q in o) (sym is_job))) (answers h);
-        stepped = quiet_says call old is there has f.ran (so h) (same_post ∙ steps) tell jobs refl numbers tells;
-      }
+      finish_says = quiet_says call old is there has f.ran (so h) (same_post ∙ steps) tell jobs refl numbers tells
 
       pub finish_goes : IsCluster version (table b') past jobs
       finish_goes = quiet_goes call old is there has f.ran (so h) (same_post ∙ steps) tell jobs refl numbers tells

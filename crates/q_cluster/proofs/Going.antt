@@ -1,5 +1,5 @@
 -- What a call of one book and the record of it make of a cluster.
-use Rattle.std.proofs.Common.{◌≡◌, ◌≢◌, ℕ, List, length, Option, Some, None, refl, sym, ap, subst, ◌∙◌, slice_get, Result, Ok, Err}
+use Rattle.std.proofs.Common.{◌≡◌, ◌≢◌, ℕ, List, length, Option, Some, None, sym, ap, subst, ◌∙◌, slice_get, Result, Ok, Err}
 use Rattle.std.specs.Prelude.{option_map, IsErrAnd}
 use Rattle.std.proofs.lemmas.Result.{err_from_is_err_and}
 use Rattle.std.specs.FinMap as fin
@@ -15,7 +15,6 @@ use Rattle.sc_world.specs.Acts.{IsReady, answered}
 use Rattle.sc_world.specs.Ledgers.{recorded, numbered, IsRight}
 use Rattle.sc_world.specs.State.{Past}
 use Rattle.sc_world.proofs.Moving.{delivery_right}
-use Rattle.forms.specs.Calls.{Steps}
 use Rattle.q_session.specs.declared.job.Job.{Job}
 use Rattle.q_session.specs.declared.ran.Ran.{Ran}
 use Rattle.q_book.specs.State.{BookState}
@@ -28,7 +27,8 @@ use Rattle.q_history.specs.declared.event.ClusterStep.{ClusterStep}
 use Rattle.q_history.specs.declared.event.EventAnswer.{EventAnswer}
 use Rattle.q_history.specs.Headline.{BookMap, ClusterState}
 use Rattle.q_history.specs.World.{nodes_of, world}
-use Rattle.q_history.specs.Clusters.{Said, put, quiet, noted, lift, by_book, at, live_at, delivered_as, stepped}
+use Rattle.q_history.specs.Clusters.{Said, put, quiet, noted, lift, by_book, at, delivered_as, stepped}
+use Rattle.q_history.specs.Calls.{Follows, Takes}
 use Rattle.q_history.proofs.Lists.{same_some}
 use Rattle.q_history.proofs.Ops.{insert_same}
 use Rattle.q_history.proofs.World.{node_of, get-nodes, at_live}
@@ -78,34 +78,39 @@ module _ {A : Type 0} {version : Version} {books : BookMap} {past : Past} {jobs 
         subst (λ (m : BookMap). IsCluster version m past' jobs') (sym same_books)
         (subst (λ (p : Past). IsCluster version books p jobs') (sym same_past) (subst (λ (js : List Job). IsCluster version books past js) (sym same_jobs) old))
 
-    pub refuses : (r : Result ClusterStep Reason) → IsErrAnd r (λ f. f ≡ y) → Steps memory (stepped ran x k.event) x (cluster_of version (table b') past' jobs') r
-    refuses r h =
+    -- and so is the event, which asks for no answer of a job
+    pub refuses : ((q : Ran) → stepped q c k.event ≡ stepped ran c k.event) → (r : Result ClusterStep Reason) → IsErrAnd r (λ f. f ≡ y) → Takes x k.event (cluster_of version (table b') past' jobs') r
+    refuses any r h =
         let why = err_from_is_err_and r h in
-        subst (λ (z : ClusterState). Steps memory (stepped ran z k.event) z (cluster_of version (table b') past' jobs') r) same
-        (subst (λ (z : Result ClusterStep Reason). Steps memory (stepped ran c k.event) c (cluster_of version (table b') past' jobs') z) (sym why.1) (
+        subst (λ (z : ClusterState). Takes z k.event (cluster_of version (table b') past' jobs') r) same
+        (subst (λ (z : Result ClusterStep Reason). Takes c k.event (cluster_of version (table b') past' jobs') z) (sym why.1) (
           (λ i. cluster_of version (same_books i) (same_past i) (same_jobs i)),
-          λ loud. turns ∙ ap (lift (k.next c)) (steps.1 (λ full. loud (why.2 ∙ full))) ∙ ap (λ (z : Reason). let q : Said = Err z in q) (sym why.2),
+          λ loud q. any q ∙ turns ∙ ap (lift (k.next c)) (steps.1 (λ full. loud (why.2 ∙ full))) ∙ ap (λ (z : Reason). let q : Said = Err z in q) (sym why.2),
         ))
 
   -- the call is accepted
   module _ {b' : BookState} {a : A} (steps : k.said b ≡ Ok (a, b')) where
     -- and the cluster goes on to this past and these jobs
     module _ (past' : Past) (jobs' : List Job) (t : ClusterStep) (is : k.next c a b' ≡ (t, put c past' jobs' id b')) where
-      went : stepped ran c k.event ≡ Ok (t, cluster_of version (table b') past' jobs')
-      went = turns ∙ ap (lift (k.next c)) steps ∙ ap (λ (p : ClusterStep × ClusterState). let r : Said = Ok p in r) is
+      went : Follows c k.event t (cluster_of version (table b') past' jobs')
+      went = record {
+        ran = ran;
+        right = so.0;
+        stepped = turns ∙ ap (lift (k.next c)) steps ∙ ap (λ (p : ClusterStep × ClusterState). let r : Said = Ok p in r) is;
+      }
 
-      says : stepped ran x k.event ≡ Ok (t, cluster_of version (table b') past' jobs')
-      says = subst (λ (z : ClusterState). stepped ran z k.event ≡ Ok (t, cluster_of version (table b') past' jobs')) same went
+      says : Follows x k.event t (cluster_of version (table b') past' jobs')
+      says = subst (λ (z : ClusterState). Follows z k.event t (cluster_of version (table b') past' jobs')) same went
 
       goes : IsCluster version (table b') past' jobs'
-      goes = history_next c (cluster_of version (table b') past' jobs') k.event t old (record { ran = ran; right = so.0; stepped = went })
+      goes = history_next c (cluster_of version (table b') past' jobs') k.event t old went
 
     -- nothing is recorded
     module _ (tell : EventAnswer) (jobs' : List Job) (does_so : k.next c a b' ≡ quiet c tell jobs' id b') {sent : Sent} {t : ClusterStep} (numbers : sent ≡ record { first = length past.sent; count = 0 }) (tells : t ≡ record { told = tell; sent = sent }) where
       quiet_is : k.next c a b' ≡ (t, put c past jobs' id b')
       quiet_is = does_so ∙ (λ i. ((ap (λ (s : Sent). let x : ClusterStep = record { told = tell; sent = s } in x) (sym numbers) ∙ sym tells) i, put c past jobs' id b'))
 
-      pub quiet_says : stepped ran x k.event ≡ Ok (t, cluster_of version (table b') past jobs')
+      pub quiet_says : Follows x k.event t (cluster_of version (table b') past jobs')
       quiet_says = says past jobs' t quiet_is
 
       pub quiet_goes : IsCluster version (table b') past jobs'
@@ -123,7 +128,7 @@ module _ {A : Type 0} {version : Version} {books : BookMap} {past : Past} {jobs 
       noted_is : k.next c a b' ≡ (t, put c past' jobs id b')
       noted_is = does_so ∙ (λ i. (sym told_is i, put c (sym past_is i) jobs id b'))
 
-      pub noted_says : stepped ran x k.event ≡ Ok (t, cluster_of version (table b') past' jobs)
+      pub noted_says : Follows x k.event t (cluster_of version (table b') past' jobs)
       noted_says = says past' jobs t noted_is
 
       pub noted_goes : IsCluster version (table b') past' jobs

@@ -1,14 +1,16 @@
--- What an event says of the history of a cluster, and a run.
-use Rattle.std.proofs.Common.{◌≡◌, refl, ℕ, List, [], ◌∷◌, take, ◌∙◌, Result, Ok, Err}
-use Rattle.forms.specs.Calls.{Steps}
+-- What an event says of the history of a cluster, and a run; and what is true of every history.
+use Rattle.std.proofs.Common.{◌≡◌, refl, ℕ, List, [], ◌∷◌, take, subst, Result, Ok, Err}
+use Rattle.sc_world.proofs.EveryHistory.{IsLawful}
 use Rattle.q_session.specs.declared.ran.Ran.{Ran}
 use Rattle.q_history.specs.declared.event.ClusterEvent.{ClusterEvent}
 use Rattle.q_history.specs.declared.event.ClusterStep.{ClusterStep}
 use Rattle.reasons.specs.declared.Reason.{Reason}
-use Rattle.reasons.specs.declared.Reason.TheVariants.{OutOfMemory as memory}
-use Rattle.q_history.specs.Headline.{ClusterState}
+use Rattle.q_history.specs.Headline.{AnswersStay, ClusterState}
+use Rattle.q_history.specs.World.{world}
 use Rattle.q_history.specs.Clusters.{stepped}
-use Rattle.q_history.specs.Calls.{AnswersTo, Follows, Takes, Reaches, Runs}
+use Rattle.q_history.specs.Calls.{AnswersTo, Follows, Takes, Reaches, Runs, IsHistory}
+use Rattle.q_history.proofs.EveryHistory.{every_stays}
+use Rattle.q_history.proofs.Histories.{history_kept}
 
 abbrev pub nothing : Ran
 nothing = record { acc = 0; steps = 0 }
@@ -17,17 +19,24 @@ nothing = record { acc = 0; steps = 0 }
 pub follows : (c : ClusterState) (e : ClusterEvent) (told : ClusterStep) (d : ClusterState) → ((ran : Ran) → AnswersTo c e ran) → ((ran : Ran) → stepped ran c e ≡ Ok (told, d)) → Follows c e told d
 follows c e told d any is = record { ran = nothing; right = any nothing; stepped = is nothing }
 
-pub takes : (c : ClusterState) (e : ClusterEvent) (d : ClusterState) (said : Result (ClusterStep × ClusterState) Reason) (r : Result ClusterStep Reason)
-    → ((ran : Ran) → AnswersTo c e ran) → ((ran : Ran) → stepped ran c e ≡ said) → Steps memory said c d r → Takes c e d r
-takes c e d said (Ok told) any is h = follows c e told d any (λ ran. is ran ∙ h)
-takes c e d said (Err f) any is h = (h.0, λ loud ran. is ran ∙ h.1 loud)
+-- some list of events leads from one cluster to the other
+abbrev pub Leads : ClusterState → ClusterState → Type 0
+Leads c d = (es : List ClusterEvent) × Reaches c es d
 
--- what a run leads to, some events lead to
-pub runs_reach : (c : ClusterState) (es : List ClusterEvent) (d : ClusterState) (r : Result (Unit {0}) (ℕ × Reason)) → Runs c es d r → (fs : List ClusterEvent) × Reaches c fs d
-runs_reach c es d (Ok u) h = (es, h)
-runs_reach c es d (Err x) h = (take x.0 es, h.0)
+-- one event leads there, also where it is refused
+pub event_leads : (c : ClusterState) (e : ClusterEvent) (d : ClusterState) (r : Result ClusterStep Reason) → Takes c e d r → Leads c d
+event_leads c e d (Ok told) h = (e ∷ [], (told, d, h, refl))
+event_leads c e d (Err f) h = ([], h.0)
 
--- what one event leads to, some events lead to
-pub takes_reach : (c : ClusterState) (e : ClusterEvent) (d : ClusterState) (r : Result ClusterStep Reason) → Takes c e d r → (fs : List ClusterEvent) × Reaches c fs d
-takes_reach c e d (Ok told) h = (e ∷ [], (told, d, h, refl))
-takes_reach c e d (Err f) h = ([], h.0)
+-- a run leads there, also where it stops at an event that is refused
+pub run_leads : (c : ClusterState) (es : List ClusterEvent) (d : ClusterState) (r : Result (Unit {0}) (ℕ × Reason)) → Runs c es d r → Leads c d
+run_leads c es d (Ok u) h = (es, h)
+run_leads c es d (Err x) h = (take x.0 es, h.0)
+
+-- an answer that a cluster has recorded stays, wherever events lead from there
+pub answers_kept : (c d : ClusterState) → IsHistory c → Leads c d → AnswersStay c d
+answers_kept c d h led = every_stays c.version c.past.config c.past.founders h.0 led.0 c d h.1 led.1
+
+-- the world of a cluster, as contracts see it, is lawful
+pub world_lawful : {inside c : ClusterState} → IsHistory inside → inside ≡ c → IsLawful (world c)
+world_lawful {inside} {c} h is = (history_kept c (subst (λ (x : ClusterState). IsHistory x) is h)).world

@@ -1,5 +1,5 @@
 -- How a cluster is stored.
-use Rattle.std.specs.Prelude.{Bool, false, List, refl}
+use Rattle.std.specs.Prelude.{false, List, refl}
 use Rattle.std.specs.Coded.{Coded, code_by, coded×, coded_list, coded_ℕ}
 use Rattle.std.specs.FinMap as fin
 use Rattle.sc_msg.specs.declared.version.Version.{Version}

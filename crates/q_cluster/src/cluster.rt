@@ -1,16 +1,16 @@
 //! A cluster: what each event makes of it, and what its answers are.
 
-ghost use Rattle.std.specs.Prelude.{◌≡◌, ◌≢◌, ◌<◌, ℕ, List, Ok, Err, IfOk, IfErr, IfSome, is_some, option_copied, slice_get, length, vec_len, vec_capacity};
-ghost use Rattle.std.specs.FinMap as fin;
+ghost use Rattle.std.specs.Prelude.{◌≡◌, ◌≢◌, ◌<◌, ℕ, true, List, None, Ok, Err, IfOk, IfErr, IfSome, is_some, option_copied, slice_get, length, vec_len, vec_capacity};
 ghost use Rattle.sc_msg.specs.Lengths.{Fits};
+ghost use Rattle.sc_world.specs.Ledgers.{recorded, numbered};
 ghost use Rattle.sc_world.specs.Records.{AreRecords, AreSent};
 ghost use Rattle.sc_world.specs.Regular.{IsRegular, EndsAreRecorded, EndsAreTold};
 ghost use Rattle.sc_world.specs.Worlds.{IsHistory as IsWorldHistory};
-ghost use Rattle.forms.specs.Calls.{Steps, Gives};
+ghost use Rattle.forms.specs.Calls.{Gives};
 ghost use Rattle.q_session.specs.declared.ran.Ran.{Ran};
 ghost use Rattle.reasons.specs.declared.Reason.TheVariants.{OutOfMemory as memory};
 ghost use Rattle.q_history.specs.World.{world};
-ghost use Rattle.q_history.specs.Clusters.{at, live_at, registered, asked, stored, delivered, handed_out, handed, with_job, finished, entered, left, crashed, started};
+ghost use Rattle.q_history.specs.Clusters.{at, live_at, handed, with_job, finished, started};
 ghost use Rattle.q_history.specs.Calls.{Takes, Runs, IsHistory};
 ghost use Rattle.q_history.specs.Headline.{AnswersAreTrue, AnswersStay, ViewsAreReturned};
 ghost use Rattle.q_history.specs.Books.{BooksAreReplays};
@@ -20,15 +20,15 @@ use crate::books::{Books, found_books};
 use bq_frame::Block;
 use q_book::{Asked, Book, Delivery};
 use q_history::laws::{
-    answers_stay, every_answer_is_true, every_book_is_a_replay, every_message_fits,
-    every_view_is_returned, every_world_is_a_history,
+    every_answer_is_true, every_book_is_a_replay, every_message_fits, every_view_is_returned,
+    every_world_is_a_history,
 };
 use q_history::{Answer, ClusterEvent, ClusterFault, ClusterStep, EventAnswer, Handed};
 use q_session::{Done, Job};
 use q_table::{Program, ProgramId};
 use sc_members::Config;
 use sc_msg::{Message, Version};
-use sc_node::Begun;
+use sc_node::{Begun, Outs};
 use sc_view::Value;
 use sc_world::{Ledger, Op, Opened, Sent, WorldEvent};
 use std::alloc::Global;
@@ -119,7 +119,6 @@ impl Cluster {
         self.answers_are_true();
         self.views_are_returned();
         self.books_are_replays();
-        answers_stay();
         stepped
     }
 
@@ -158,7 +157,6 @@ impl Cluster {
         self.answers_are_true();
         self.views_are_returned();
         self.books_are_replays();
-        answers_stay();
         ran
     }
 
@@ -304,7 +302,7 @@ impl Cluster {
 
 impl Cluster {
     fn enter(&mut self, id: u64) -> Result<ClusterStep, ClusterFault>
-        ensures { Steps memory (entered self.old id (fin.get self.old.books id)) self.old self.new result }
+        ensures { Takes self.old (ClusterEvent.Enter id) self.new result }
     {
         if self.books.get(id).is_some() {
             return Err(ClusterFault::IdUsed);
@@ -312,14 +310,12 @@ impl Cluster {
         self.ledger.reserve(id)?;
         let (book, outs) = Book::entering_as(self.alloc, self.version, self.ledger.config(), id)?;
         self.books.insert(id, book)?;
-        let sent = self
-            .ledger
-            .record(WorldEvent::Enter(id), id, outs, None, None, None);
+        let sent = record_call(&mut self.ledger, WorldEvent::Enter(id), id, outs, None);
         Ok(told(EventAnswer::Entered, sent))
     }
 
     fn leave(&mut self, id: u64) -> Result<ClusterStep, ClusterFault>
-        ensures { Steps memory (at self.old id (left self.old id)) self.old self.new result }
+        ensures { Takes self.old (ClusterEvent.Leave id) self.new result }
     {
         self.check_live(id)?;
         self.ledger.reserve(id)?;
@@ -327,14 +323,12 @@ impl Cluster {
             unreachable!()
         };
         let outs = book.leave()?;
-        let sent = self
-            .ledger
-            .record(WorldEvent::Leave(id), id, outs, None, None, None);
+        let sent = record_call(&mut self.ledger, WorldEvent::Leave(id), id, outs, None);
         Ok(told(EventAnswer::Left, sent))
     }
 
     fn crash(&mut self, id: u64) -> Result<ClusterStep, ClusterFault>
-        ensures { Steps memory (crashed self.old id (live_at self.old id)) self.old self.new result }
+        ensures { Takes self.old (ClusterEvent.Crash id) self.new result }
     {
         if !self.is_live(id) {
             return Err(ClusterFault::NoSuchNode);
@@ -344,7 +338,7 @@ impl Cluster {
     }
 
     fn register(&mut self, id: u64, program: &Program) -> Result<ClusterStep, ClusterFault>
-        ensures { Steps memory (at self.old id (registered self.old id program.now)) self.old self.new result }
+        ensures { Takes self.old (ClusterEvent.Register id program.now) self.new result }
     {
         self.check_live(id)?;
         let Some(book) = self.books.get_mut(id) else {
@@ -355,7 +349,7 @@ impl Cluster {
     }
 
     fn ask(&mut self, id: u64, program: ProgramId, start: u64) -> Result<ClusterStep, ClusterFault>
-        ensures { Steps memory (at self.old id (asked self.old id program start)) self.old self.new result }
+        ensures { Takes self.old (ClusterEvent.Ask id program start) self.new result }
     {
         self.check_live(id)?;
         self.ledger.reserve(id)?;
@@ -365,14 +359,12 @@ impl Cluster {
         let Asked { query, begun } = book.ask(program, start)?;
         let Begun { tag, session, outs } = begun;
         let opened = Some(Opened { tag, session });
-        let sent = self
-            .ledger
-            .record(WorldEvent::Collect(id), id, outs, None, opened, None);
+        let sent = record_call(&mut self.ledger, WorldEvent::Collect(id), id, outs, opened);
         Ok(told(EventAnswer::Asked(query), sent))
     }
 
     fn store(&mut self, id: u64, value: &Value) -> Result<ClusterStep, ClusterFault>
-        ensures { Steps memory (at self.old id (stored self.old id value.now)) self.old self.new result }
+        ensures { Takes self.old (ClusterEvent.Store id value.now) self.new result }
     {
         self.check_live(id)?;
         self.ledger.reserve(id)?;
@@ -385,12 +377,12 @@ impl Cluster {
             node: id,
             value: *value,
         };
-        let sent = self.ledger.record(event, id, outs, None, opened, None);
+        let sent = record_call(&mut self.ledger, event, id, outs, opened);
         Ok(told(EventAnswer::Stored(tag), sent))
     }
 
     fn deliver(&mut self, message: usize, id: u64) -> Result<ClusterStep, ClusterFault>
-        ensures { Steps memory (at self.old id (delivered self.old message id)) self.old self.new result }
+        ensures { Takes self.old (ClusterEvent.Deliver message id) self.new result }
     {
         self.check_live(id)?;
         self.ledger.reserve(id)?;
@@ -414,7 +406,7 @@ impl Cluster {
     }
 
     fn hand_out(&mut self, id: u64) -> Result<ClusterStep, ClusterFault>
-        ensures { Steps memory (at self.old id (handed_out self.old id)) self.old self.new result }
+        ensures { Takes self.old (ClusterEvent.HandOut id) self.new result }
     {
         self.check_live(id)?;
         self.jobs.reserve(1)?;
@@ -486,6 +478,21 @@ fn put_job(jobs: &mut Vec<Job>, job: Option<Job>) -> Option<Handed>
     };
     jobs.push_reserved(job);
     Some(handed)
+}
+
+// Records a call that a node makes by itself: it may begin an operation, and moves none.
+fn record_call(
+    ledger: &mut Ledger,
+    event: WorldEvent,
+    node: u64,
+    outs: Outs,
+    begun: Option<Opened>,
+) -> Sent
+    requires { ledger.old.room ≡ true }
+    ensures past { ledger.new.past ≡ recorded ledger.old.past event node outs None begun }
+    ensures sent { result ≡ numbered ledger.old.past outs }
+{
+    ledger.record(event, node, outs, None, begun, None)
 }
 
 fn told(told: EventAnswer, sent: Sent) -> ClusterStep

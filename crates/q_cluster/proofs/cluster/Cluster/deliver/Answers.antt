@@ -21,7 +21,7 @@ invariant_of-self-in_err-outs c =
 pub returns-in_err-outs : goal.returns-in_err-outs
 returns-in_err-outs c =
     let so = is_delivery c.self.invariant c.args.message c.in-Some.taken.now c.args.id c.in_ok-reserve.ensures.past c.sent.ensures (slice_get_read c.sent.result.now _ c.args.message c.in-Some.taken.now refl c.in-Some.ensures.lookup.3.0 c.in-Some.ensures.lookup.1) in
-    refuses (delivering c.args.message c.in-Some.taken.now c.args.id) c.self.invariant c.self.view_is c.in_ok-check_live.ensures.there c.in-Some-get_mut.ensures.book nothing so c.in_err-outs.ensures c.in_ok-reserve.ensures.past refl c.from_residual-in_err-outs.result c.from_residual-in_err-outs.ensures.1
+    refuses (delivering c.args.message c.in-Some.taken.now c.args.id) c.self.invariant c.self.view_is c.in_ok-check_live.ensures.there c.in-Some-get_mut.ensures.book nothing so c.in_err-outs.ensures c.in_ok-reserve.ensures.past refl (λ _. refl) c.from_residual-in_err-outs.result c.from_residual-in_err-outs.ensures.1
 
 pub invariant_of-self-2 : goal.invariant_of-self-2
 invariant_of-self-2 c =

@@ -18,7 +18,7 @@ invariant_of-self-in_err-job c =
 
 pub returns-in_err-job : goal.returns-in_err-job
 returns-in_err-job c =
-    refuses (handing c.args.id) c.self.invariant c.self.view_is c.in_ok-check_live.ensures.there c.in-Some.ensures.book nothing (tt, refl) c.in_err-job.ensures refl c.reserve.ensures.items c.from_residual-in_err-job.result c.from_residual-in_err-job.ensures.1
+    refuses (handing c.args.id) c.self.invariant c.self.view_is c.in_ok-check_live.ensures.there c.in-Some.ensures.book nothing (tt, refl) c.in_err-job.ensures refl c.reserve.ensures.items (λ _. refl) c.from_residual-in_err-job.result c.from_residual-in_err-job.ensures.1
 
 module _ (c : goal.After-told) where
   pub handed_so : handed c.self.inside.jobs.items c.in_ok-job.job ≡ c.put_job-handed.result

@@ -15,7 +15,7 @@ invariant_of-self c =
 
 pub returns-in_err-program : goal.returns-in_err-program
 returns-in_err-program c =
-    refuses (registering c.args.id c.args.program.now) c.self.invariant c.self.view_is c.in_ok-check_live.ensures.there c.in-Some.ensures.book nothing (tt, refl) c.in_err-program.ensures refl refl c.from_residual-in_err-program.result c.from_residual-in_err-program.ensures.1
+    refuses (registering c.args.id c.args.program.now) c.self.invariant c.self.view_is c.in_ok-check_live.ensures.there c.in-Some.ensures.book nothing (tt, refl) c.in_err-program.ensures refl refl (λ _. refl) c.from_residual-in_err-program.result c.from_residual-in_err-program.ensures.1
 
 pub invariant_of-self-2 : goal.invariant_of-self-2
 invariant_of-self-2 c =
