@@ -32,7 +32,7 @@ all_true books c gathers place query b q view ran at numbered recorded =
     let true_one = kept_true c kept b.id query b q view ran there numbered recorded in
     let collect : Op = true_one.returned.collect in
     record {
-      answer = record { book = b; at = there; numbered = numbered; recorded = recorded; is_true = true_one; };
+      answer = record { book = b; at = there; numbered = numbered; recorded = recorded; is_true = true_one };
       genuine = λ end ended. (lawful_regular (world c) kept.world).genuine collect view end true_one.returned.among
           (view_stored (kind_of collect.session) collect.end (stored collect.session) view true_one.returned.returned) ended;
     }
