@@ -11,6 +11,7 @@ use Rattle.sc_view.specs.declared.view.Stored.{Stored}
 use Rattle.sc_view.specs.Values.{Lengths, IsWithin, is_within, all_lengths}
 use Rattle.sc_view.specs.Views.{ViewMap, IsView, HasValuesWithin, has_values_within, newer, put, merge, joined}
 use Rattle.sc_view.specs.Rows.{Rises}
+use Rattle.sc_view.proofs.AllLemmas.{all_both, all_first, all_second}
 use Rattle.sc_view.proofs.EntryLemmas.{find_here, rises_from}
 use Rattle.sc_view.proofs.ViewLemmas.{get-put, get-merge, from_either, by_cases}
 use Rattle.sc_view.proofs.MapLemmas.{Tells, tells_all, from_tail, entries_rising}
@@ -95,18 +96,6 @@ pub short_within : (v : ViewMap) → IsView v → HasValuesWithin all_lengths v
 short_within v valid = record { at = λ id x has. record { least = omega arith; most = valid.short id x has } }
 
 -- ---- by the chunks
-
-all_both : {X : Type 0} (P : X → Type 0) (xs ys : List X) → AllByRecursion P xs → AllByRecursion P ys → AllByRecursion P (xs ++ ys)
-all_both P [] ys f s = s
-all_both P (x ∷ xs) ys f s = (f.0, all_both P xs ys f.1 s)
-
-all_first : {X : Type 0} (P : X → Type 0) (xs ys : List X) → AllByRecursion P (xs ++ ys) → AllByRecursion P xs
-all_first P [] ys h = tt
-all_first P (x ∷ xs) ys h = (h.0, all_first P xs ys h.1)
-
-all_second : {X : Type 0} (P : X → Type 0) (xs ys : List X) → AllByRecursion P (xs ++ ys) → AllByRecursion P ys
-all_second P [] ys h = h
-all_second P (x ∷ xs) ys h = all_second P xs ys h.1
 
 all_joined : (P : ℕ × Stored → Type 0) (cs : List (List (ℕ × Stored))) → AllByRecursion (λ c. All P c) cs → AllByRecursion P (joined cs)
 all_joined P [] h = tt

@@ -10,6 +10,7 @@ use Rattle.std.specs.FinMap.Entries.{put, find}
 use Rattle.sc_view.specs.declared.view.Stored.{Stored}
 use Rattle.sc_view.specs.Rows.{Over, Under, Rises, joined, HasAtMost, HasAtLeast, IsRow, LearnsAt, starts_above}
 use Rattle.sc_chunk.proofs.EntryLemmas.{put_by_one}
+use Rattle.sc_view.proofs.AllLemmas.{all_at, all_both, all_first, all_second}
 use Rattle.sc_view.proofs.EntryLemmas.{put_within, under_before, over_from, rises_right, put_longer, rises_put, find_within, rises_left}
 
 pub flat-append : (cs ds : List (List (ℕ × Stored))) → joined (cs ++ ds) ≡ joined cs ++ joined ds
@@ -22,16 +23,6 @@ parts cs k d h = sym (take-append-drop k cs) ∙ ap (λ r. take k cs ++ r) (drop
 pub flat_parts : (cs : List (List (ℕ × Stored))) (k : ℕ) (d : List (ℕ × Stored)) → k < length cs → joined cs ≡ joined (take k cs) ++ (get_or cs k d ++ joined (drop (k + 1) cs))
 flat_parts cs k d h = ap joined (parts cs k d h) ∙ flat-append (take k cs) (get_or cs k d ∷ drop (k + 1) cs)
 
-pub length_at : (n : ℕ) (cs : List (List (ℕ × Stored))) (k : ℕ) (d : List (ℕ × Stored)) → HasAtLeast n cs → k < length cs → n ≤ length (get_or cs k d)
-length_at n [] k d h l = absurd (omega (arith, l))
-length_at n (c ∷ cs) zero d h l = h.0
-length_at n (c ∷ cs) (suc k) d h l = length_at n cs k d h.1 (omega (arith, l))
-
-pub length_at_most : (n : ℕ) (cs : List (List (ℕ × Stored))) (k : ℕ) (d : List (ℕ × Stored)) → HasAtMost n cs → k < length cs → length (get_or cs k d) ≤ n
-length_at_most n [] k d h l = absurd (omega (arith, l))
-length_at_most n (c ∷ cs) zero d h l = h.0
-length_at_most n (c ∷ cs) (suc k) d h l = length_at_most n cs k d h.1 (omega (arith, l))
-
 -- ---- the place of an id
 
 not_yet_by : (id : ℕ) (c pre post : List (ℕ × Stored)) → 1 ≤ length c → starts_above id c ≡ false → Rises (pre ++ (c ++ post)) → Under id pre
@@ -41,7 +32,7 @@ not_yet_by id (e ∷ c) pre post h above r = under_before id pre e (c ++ post) r
 -- a chunk that doesn't start above has only smaller ids before it
 pub not_yet : (id : ℕ) (cs : List (List (ℕ × Stored))) (k : ℕ) (d : List (ℕ × Stored)) → IsRow cs → 1 ≤ k → k < length cs → starts_above id (get_or cs k d) ≡ false → Under id (joined (take k cs))
 not_yet id cs k d row h l above =
-    let large : 16 ≤ length (get_or cs k d) = length_at 16 cs k d (row.least (omega (arith, h, l))) l in
+    let large : 16 ≤ length (get_or cs k d) = all_at (λ c. 16 ≤ length c) cs k d (row.least (omega (arith, h, l))) l in
     not_yet_by id (get_or cs k d) (joined (take k cs)) (joined (drop (k + 1) cs)) (omega (arith, large)) above (subst Rises (flat_parts cs k d l) row.rises)
 
 past_by : (id : ℕ) (c post : List (ℕ × Stored)) → starts_above id c ≡ true → Rises (c ++ post) → Over id (c ++ post)
@@ -58,37 +49,13 @@ over_end id cs n h = subst (λ r. Over id (joined r)) (sym (drop_all n cs h)) tt
 
 -- ---- one chunk for another
 
-most_left : (n : ℕ) (xs ys : List (List (ℕ × Stored))) → HasAtMost n (xs ++ ys) → HasAtMost n xs
-most_left n [] ys h = tt
-most_left n (x ∷ xs) ys h = (h.0, most_left n xs ys h.1)
-
-most_right : (n : ℕ) (xs ys : List (List (ℕ × Stored))) → HasAtMost n (xs ++ ys) → HasAtMost n ys
-most_right n [] ys h = h
-most_right n (x ∷ xs) ys h = most_right n xs ys h.1
-
-most_join : (n : ℕ) (xs ys : List (List (ℕ × Stored))) → HasAtMost n xs → HasAtMost n ys → HasAtMost n (xs ++ ys)
-most_join n [] ys g h = h
-most_join n (x ∷ xs) ys g h = (g.0, most_join n xs ys g.1 h)
-
-least_left : (n : ℕ) (xs ys : List (List (ℕ × Stored))) → HasAtLeast n (xs ++ ys) → HasAtLeast n xs
-least_left n [] ys h = tt
-least_left n (x ∷ xs) ys h = (h.0, least_left n xs ys h.1)
-
-least_right : (n : ℕ) (xs ys : List (List (ℕ × Stored))) → HasAtLeast n (xs ++ ys) → HasAtLeast n ys
-least_right n [] ys h = h
-least_right n (x ∷ xs) ys h = least_right n xs ys h.1
-
-least_join : (n : ℕ) (xs ys : List (List (ℕ × Stored))) → HasAtLeast n xs → HasAtLeast n ys → HasAtLeast n (xs ++ ys)
-least_join n [] ys g h = h
-least_join n (x ∷ xs) ys g h = (g.0, least_join n xs ys g.1 h)
-
 -- the others are large, even where there are none
 others_large : (pre : List (List (ℕ × Stored))) (c : List (ℕ × Stored)) (post : List (List (ℕ × Stored))) → (1 < length (pre ++ c ∷ post) → HasAtLeast 16 (pre ++ c ∷ post)) → HasAtLeast 16 pre × HasAtLeast 16 post
 others_large [] c [] h = (tt, tt)
 others_large [] c (d ∷ post) h = (tt, (h (omega arith)).1)
 others_large (p ∷ pre) c post h =
     let all : HasAtLeast 16 (p ∷ (pre ++ c ∷ post)) = h (omega (arith, length-append pre (c ∷ post))) in
-    ((all.0, least_left 16 pre (c ∷ post) all.1), (least_right 16 pre (c ∷ post) all.1).1)
+    ((all.0, all_first _ pre (c ∷ post) all.1), (all_second _ pre (c ∷ post) all.1).1)
 
 -- ---- how many entries, and in chunks of which sizes
 
@@ -132,11 +99,11 @@ row_whole pre c all post row longer by_one fits rises =
     let same : length (pre ++ all ∷ post) ≡ length (pre ++ c ∷ post) = omega (arith, length-append pre (all ∷ post), length-append pre (c ∷ post)) in
     record {
       some = omega (arith, same, row.some);
-      most = most_join 32 pre (all ∷ post) (most_left 32 pre (c ∷ post) row.most) (fits, (most_right 32 pre (c ∷ post) row.most).1);
+      most = all_both (λ d. length d ≤ 32) pre (all ∷ post) (all_first _ pre (c ∷ post) row.most) (fits, (all_second _ pre (c ∷ post) row.most).1);
       least = λ several.
           let old : HasAtLeast 16 (pre ++ c ∷ post) = row.least (omega (arith, same, several)) in
-          let here : HasAtLeast 16 (c ∷ post) = least_right 16 pre (c ∷ post) old in
-          least_join 16 pre (all ∷ post) (least_left 16 pre (c ∷ post) old) (omega (arith, here.0, longer), here.1);
+          let here : HasAtLeast 16 (c ∷ post) = all_second _ pre (c ∷ post) old in
+          all_both (λ d. 16 ≤ length d) pre (all ∷ post) (all_first _ pre (c ∷ post) old) (omega (arith, here.0, longer), here.1);
       single = λ few. same ∙ row.single (omega (arith, flat_length pre c post, flat_length pre all post, longer, few));
       split = split_kept (nat_lt (length c) (length all)) pre c all post row longer by_one fits refl;
       rises = rises;
@@ -148,8 +115,8 @@ row_split pre c f b post row f_long b_least b_most rises =
     let others = others_large pre c post row.least in
     record {
       some = omega (arith, length-append pre (f ∷ b ∷ post));
-      most = most_join 32 pre (f ∷ b ∷ post) (most_left 32 pre (c ∷ post) row.most) (omega (arith, f_long), (b_most, (most_right 32 pre (c ∷ post) row.most).1));
-      least = λ _. least_join 16 pre (f ∷ b ∷ post) others.0 (omega (arith, f_long), (omega (arith, b_least), others.1));
+      most = all_both (λ d. length d ≤ 32) pre (f ∷ b ∷ post) (all_first _ pre (c ∷ post) row.most) (omega (arith, f_long), (b_most, (all_second _ pre (c ∷ post) row.most).1));
+      least = λ _. all_both (λ d. 16 ≤ length d) pre (f ∷ b ∷ post) others.0 (omega (arith, f_long), (omega (arith, b_least), others.1));
       single = λ few. absurd (omega (arith, few, flat_length pre f (b ∷ post), length-append b (joined post), f_long, b_least));
       split = split_first pre f b post others.0 others.1 f_long b_least;
       rises = rises;
@@ -176,7 +143,7 @@ whole_at id x pre c post row u o fits =
 split_at : (id : ℕ) (x : Stored) (pre : List (List (ℕ × Stored))) (c f b : List (ℕ × Stored)) (post : List (List (ℕ × Stored))) → IsRow (pre ++ c ∷ post) → Under id (joined pre) → Over id (joined post)
     → f ++ b ≡ put nat_cmp id x c → length f ≡ 16 → 17 ≤ length b → IsPut id x (pre ++ c ∷ post) (pre ++ f ∷ b ∷ post)
 split_at id x pre c f b post row u o all f_long b_long =
-    let fits : length c ≤ 32 = (most_right 32 pre (c ∷ post) row.most).0 in
+    let fits : length c ≤ 32 = (all_second _ pre (c ∷ post) row.most).0 in
     let long : length f + length b ≤ length c + 1 = subst (λ n. n ≤ length c + 1) (sym (ap length all) ∙ length-append f b) (put_by_one id x c) in
     let is : joined (pre ++ f ∷ b ∷ post) ≡ put nat_cmp id x (joined (pre ++ c ∷ post)) =
     flat-append pre (f ∷ b ∷ post) ∙ ap (λ r. joined pre ++ r) (sym (append_assoc f b (joined post)) ∙ ap (λ r. r ++ joined post) all) ∙ flat_put id x pre c post u o in

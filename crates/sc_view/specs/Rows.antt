@@ -1,5 +1,6 @@
 -- Rows of chunks: entries in rising id order, within each chunk and across them.
 use Rattle.std.specs.Prelude.{◌≡◌, ℕ, suc, ◌≤◌, ◌<◌, nat_lt, slice_set, slice_index_or, Bool, true, false, cond, length, map, List, [], ◌∷◌, is_some}
+use Rattle.std.specs.List.{AllByRecursion}
 use Rattle.std.specs.Ordering.{nat_cmp}
 use Rattle.std.specs.FinMap.Entries.{find, put}
 use Rattle.std.specs.FinMap as fin
@@ -29,8 +30,7 @@ LearnsAt at id x old new true = (new ≡ slice_set old at (put nat_cmp id x (sli
 LearnsAt at id x old new false = new ≡ old
 
 abbrev pub HasAtMost : ℕ → List (List (ℕ × Stored)) → Type 0
-HasAtMost n [] = Unit {0}
-HasAtMost n (c ∷ cs) = (length c ≤ n) × HasAtMost n cs
+HasAtMost n cs = AllByRecursion (λ c. length c ≤ n) cs
 
 -- a row of chunks of at most 32 entries, and where there are several of at least 16; up to 32 entries are in one chunk,
 -- and the 33rd splits it

@@ -1,6 +1,6 @@
 -- A view: a finite map from ids to the sequence number and the bytes that were stored.
 use Rattle.std.specs.Prelude.{◌≡◌, ℕ, List, [], ◌∷◌, length, ◌≤◌, ◌<◌, ◌++◌, map, Bool, true, Option, Some, None, nat_lt, if◌then◌else◌, ◌⊎◌}
-use Rattle.std.specs.List.{list_all}
+use Rattle.std.specs.List.{AllByRecursion, list_all}
 use Rattle.std.specs.Ordering.{nat_cmp}
 use Rattle.std.specs.Coded.{Coded, coded_ℕ}
 use Rattle.std.specs.FinMap as fin
@@ -84,13 +84,11 @@ joined (c ∷ cs) = c ++ joined cs
 
 -- each list has 1 to 32 entries
 abbrev pub HasSmallChunks : List (List (ℕ × Stored)) → Type 0
-HasSmallChunks [] = Unit {0}
-HasSmallChunks (c ∷ cs) = ((1 ≤ length c) × (length c ≤ 32)) × HasSmallChunks cs
+HasSmallChunks cs = AllByRecursion (λ c. (1 ≤ length c) × (length c ≤ 32)) cs
 
 -- each list has at least so many entries
 abbrev pub HasAtLeast : ℕ → List (List (ℕ × Stored)) → Type 0
-HasAtLeast n [] = Unit {0}
-HasAtLeast n (c ∷ cs) = (n ≤ length c) × HasAtLeast n cs
+HasAtLeast n cs = AllByRecursion (λ c. n ≤ length c) cs
 
 -- a view's entries in rising id order, cut into at most 16 chunks, where there are several of at least 16 entries; up to
 -- 32 entries are in one chunk, and the 33rd splits it into 16 and 17

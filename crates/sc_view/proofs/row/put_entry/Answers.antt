@@ -1,12 +1,13 @@
 -- put_entry: learns an entry.
-use Rattle.std.proofs.Common.{◌<◌, [], length, subst}
+use Rattle.std.proofs.Common.{◌≤◌, ◌<◌, [], length, subst}
 use Rattle.sc_view.specs.Rows.{LearnsAt}
-use Rattle.sc_view.proofs.RowLemmas.{length_at_most, put_learnt}
+use Rattle.sc_view.proofs.AllLemmas.{all_at}
+use Rattle.sc_view.proofs.RowLemmas.{put_learnt}
 use Rattle.sc_view.proofs.row.put_entry.Goals as goal
 
 pub learn_at-requires-clause-few : goal.learn_at-requires-clause-few
 learn_at-requires-clause-few c =
-    length_at_most 32 c.args.row.now.items c.place-at.result [] c.requires.row.most (subst (λ cs. c.place-at.result < length cs) c.as_slice.ensures.value c.place-at.ensures.within)
+    all_at (λ c. length c ≤ 32) c.args.row.now.items c.place-at.result [] c.requires.row.most (subst (λ cs. c.place-at.result < length cs) c.as_slice.ensures.value c.place-at.ensures.within)
 
 pub returns-then-branch-clause-ok : goal.returns-then-branch-clause-ok
 returns-then-branch-clause-ok c =
