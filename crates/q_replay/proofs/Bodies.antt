@@ -1,7 +1,6 @@
 -- Bodies that are those of no event of their kind.
-use Rattle.std.proofs.Common.{◌≡◌, ℕ, ◌+◌, ◌^◌, ◌<◌, List, [], ◌++◌, length, Option, Result, Err, refl, ◌⊎◌, inl, inr, sym, ap, ◌∙◌, arith, length-append}
+use Rattle.std.proofs.Common.{◌≡◌, ℕ, ◌+◌, ◌^◌, ◌<◌, List, ◌++◌, length, Option, Result, Err, refl, sym, ap, ◌∙◌, arith, length-append}
 use Rattle.std.specs.Prelude.{IfErr}
-use Rattle.std.proofs.lemmas.List.{append-nil}
 use Rattle.bq_insn.specs.declared.insn.Insn.{Insn}
 use Rattle.bq_insn.specs.Slots.{spelling, IsText}
 use Rattle.bq_insn.specs.declared.fault.DecodeFault.{DecodeFault}
@@ -18,48 +17,13 @@ use Rattle.sc_msg.specs.declared.fault.MessageFault.TheVariants as messages
 use Rattle.sc_msg.specs.Messages.{message_bytes, IsMessage}
 use Rattle.spelling.proofs.Codes.{same_front, number_front}
 use Rattle.q_replay.specs.declared.raw_entry.RawEntry.{RawEntry}
-use Rattle.q_replay.specs.declared.raw_entry.RawEntry.TheVariants.{Leave, Register, Ask, Deliver, HandOut, Post}
+use Rattle.q_replay.specs.declared.raw_entry.RawEntry.TheVariants.{Register, Deliver}
 use Rattle.q_replay.specs.declared.read.ReadFault.{ReadFault}
 use Rattle.q_replay.specs.declared.read.ReadFault.TheVariants.{Form, OutOfMemory}
 use Rattle.q_replay.specs.Spelling.{code, form_of, body_bytes}
 use Rattle.q_replay.specs.Reading.{IsBody, IsNoBody, of_text, of_notes, of_message}
 use Rattle.q_replay.proofs.Exits.{passed}
-use Rattle.q_replay.proofs.Sizes.{text_small, length-registered, length-asked, length-posted}
-
--- ---- by how long they are
-
-no_fixed : (version : Version) (kind n : ℕ) (body : List ℕ) → ((w : RawEntry) → code w ≡ kind → length (body_bytes version w) ≡ n) → (length body ≡ n → ⊥) → IsNoBody version kind body
-no_fixed version kind n body as_long other = record { none = λ w h. other (ap length h.spelled ∙ as_long w h.is) }
-
-pub no_bare : (version : Version) (kind : ℕ) (body : List ℕ) → (kind ≡ 1) ⊎ (kind ≡ 6) → 0 < length body → IsNoBody version kind body
-no_bare version kind body which more = no_fixed version kind 0 body (λ w is. empty w is which) (λ e. omega (arith, more, e))
-  where
-    empty : (w : RawEntry) → code w ≡ kind → (kind ≡ 1) ⊎ (kind ≡ 6) → length (body_bytes version w) ≡ 0
-    empty Leave is which = refl
-    empty HandOut is which = refl
-    empty w is (inl one) = absurd (omega (arith, is, one))
-    empty w is (inr six) = absurd (omega (arith, is, six))
-
-pub no_ask : (version : Version) (body : List ℕ) → (length body ≡ 12 → ⊥) → IsNoBody version 3 body
-no_ask version body other = no_fixed version 3 12 body as_long other
-  where
-    as_long : (w : RawEntry) → code w ≡ 3 → length (body_bytes version w) ≡ 12
-    as_long (Ask program start) is = length-asked program start
-    as_long w is = absurd (omega (arith, is))
-
-pub no_post : (version : Version) (body : List ℕ) → (length body ≡ 24 → ⊥) → IsNoBody version 7 body
-no_post version body other = no_fixed version 7 24 body as_long other
-  where
-    as_long : (w : RawEntry) → code w ≡ 7 → length (body_bytes version w) ≡ 24
-    as_long (Post query acc steps) is = length-posted query acc steps
-    as_long w is = absurd (omega (arith, is))
-
--- numbers one behind another, and nothing more
-pub last_number : (width n : ℕ) (bytes rest : List ℕ) → bytes ≡ number_bytes width n ++ rest → rest ≡ [] → bytes ≡ number_bytes width n
-last_number width n bytes rest parts end = parts ∙ ap (λ (l : List ℕ). number_bytes width n ++ l) end ∙ append-nil (number_bytes width n)
-
-pub number_before : (width n : ℕ) (bytes rest behind : List ℕ) → bytes ≡ number_bytes width n ++ rest → rest ≡ behind → bytes ≡ number_bytes width n ++ behind
-number_before width n bytes rest behind parts is = parts ∙ ap (λ (l : List ℕ). number_bytes width n ++ l) is
+use Rattle.q_replay.proofs.Sizes.{text_small, length-registered}
 
 -- ---- messages
 

@@ -21,27 +21,16 @@ use Rattle.sc_msg.specs.Values.{IsLength}
 use Rattle.spelling.proofs.Numbers.{length-number_bytes}
 use Rattle.sc_msg.proofs.Unique.{message_small}
 use Rattle.q_replay.specs.declared.raw_entry.RawEntry.{RawEntry}
-use Rattle.q_replay.specs.declared.raw_entry.RawEntry.TheVariants.{Leave, Register, Ask, Store, Deliver, HandOut, Post}
+use Rattle.q_replay.specs.declared.raw_entry.RawEntry.TheVariants.{Register, Store, Deliver}
 use Rattle.q_replay.specs.Spelling.{config_bytes, form_of, body_bytes, IsWritten}
 
--- ---- two and more parts
+-- ---- numbers
 
-pub length-pair : (a b : List ℕ) (m n : ℕ) → length a ≡ m → length b ≡ n → length (a ++ b) ≡ m + n
-length-pair a b m n p q = omega (arith, length-append a b, p, q)
+-- by these the length of numbers one behind another is a sum
+pub ruleset lengths = (length-append, length-number_bytes)
 
 pub length-config : (c : Config) → length (config_bytes c) ≡ 8
-length-config c =
-    length-pair (number_bytes 2 c.beta_num) (number_bytes 2 c.beta_den ++ (number_bytes 2 c.gamma_num ++ number_bytes 2 c.gamma_den)) 2 6 (length-number_bytes 2 c.beta_num)
-    (length-pair (number_bytes 2 c.beta_den) (number_bytes 2 c.gamma_num ++ number_bytes 2 c.gamma_den) 2 4 (length-number_bytes 2 c.beta_den)
-    (length-pair (number_bytes 2 c.gamma_num) (number_bytes 2 c.gamma_den) 2 2 (length-number_bytes 2 c.gamma_num) (length-number_bytes 2 c.gamma_den)))
-
-pub length-asked : (program start : ℕ) → length (number_bytes 4 program ++ number_bytes 8 start) ≡ 12
-length-asked program start = length-pair (number_bytes 4 program) (number_bytes 8 start) 4 8 (length-number_bytes 4 program) (length-number_bytes 8 start)
-
-pub length-posted : (query acc steps : ℕ) → length (number_bytes 8 query ++ (number_bytes 8 acc ++ number_bytes 8 steps)) ≡ 24
-length-posted query acc steps =
-    length-pair (number_bytes 8 query) (number_bytes 8 acc ++ number_bytes 8 steps) 8 16 (length-number_bytes 8 query)
-    (length-pair (number_bytes 8 acc) (number_bytes 8 steps) 8 8 (length-number_bytes 8 acc) (length-number_bytes 8 steps))
+length-config c = omega (arith, length-append {A = ℕ}, length-number_bytes)
 
 -- ---- texts
 
@@ -94,10 +83,7 @@ length-registered version t ns =
 
 -- each length fits four bytes
 pub body_small : (version : Version) (w : RawEntry) → IsWritten version w → length (body_bytes version w) < 2 ^ 32
-body_small version Leave p = omega arith
 body_small version (Register t ns) p = omega (arith, length-registered version t ns, text_small t p.0, notes_small (form_of version) ns p.1)
-body_small version (Ask program start) p = omega (arith, length-asked program start)
 body_small version (Store value) p = omega (arith, value_small version (length value) p.0)
 body_small version (Deliver m) p = omega (arith, message_small version m p)
-body_small version HandOut p = omega arith
-body_small version (Post query acc steps) p = omega (arith, length-posted query acc steps)
+body_small version w p = omega (arith, length-append {A = ℕ}, length-number_bytes)

@@ -1,6 +1,6 @@
 //! The bodies of events by their kinds.
 
-ghost use Rattle.std.specs.Prelude.{◌≡◌, ◌⊎◌, List, Option, IfOk, IfErr, MatchResult};
+ghost use Rattle.std.specs.Prelude.{◌≡◌, ◌⊎◌, List, Option, length, IfOk, IfErr, OnErr, MatchResult};
 ghost use Rattle.bq_state.specs.Kinds.{StateKinds};
 ghost use Rattle.bq_check.specs.Spelling.{notes_bytes, IsNotes};
 ghost use Rattle.q_replay.specs.Spelling.{form_of};
@@ -19,7 +19,7 @@ use std::alloc::Global;
 fn bare(kind: u8, reader: &Reader<'_>) -> Result<RawEntry, ReadFault>
     requires { (kind ≡ 1) ⊎ (kind ≡ 6) }
     ensures body { (version : Version) → IfOk result (IsBody version kind reader.now.rest.now) }
-    ensures none { (version : Version) → IfErr result (λ e. e ≡ ReadFault.Form → IsNoBody version kind reader.now.rest.now) }
+    ensures none { OnErr result (length reader.now.rest.now ≡ 0 → ⊥) }
 {
     reader.end()?;
     if kind == 1 {
@@ -54,11 +54,10 @@ fn register(alloc: Global, version: Version, reader: &mut Reader<'_>) -> Result<
 
 fn ask(reader: &mut Reader<'_>) -> Result<RawEntry, ReadFault>
     ensures body { (version : Version) → IfOk result (IsBody version 3 reader.old.rest.now) }
-    ensures none { (version : Version) → IfErr result (λ e. e ≡ ReadFault.Form → IsNoBody version 3 reader.old.rest.now) }
+    ensures none { OnErr result (length reader.old.rest.now ≡ 12 → ⊥) }
 {
     let program = reader.word()?;
-    let start = reader.number()?;
-    reader.end()?;
+    let start = reader.last_number()?;
     Ok(RawEntry::Ask { program, start })
 }
 
@@ -85,16 +84,16 @@ fn deliver(alloc: Global, version: Version, body: &[u8]) -> Result<RawEntry, Rea
 
 fn post(reader: &mut Reader<'_>) -> Result<RawEntry, ReadFault>
     ensures body { (version : Version) → IfOk result (IsBody version 7 reader.old.rest.now) }
-    ensures none { (version : Version) → IfErr result (λ e. e ≡ ReadFault.Form → IsNoBody version 7 reader.old.rest.now) }
+    ensures none { OnErr result (length reader.old.rest.now ≡ 24 → ⊥) }
 {
     let query = reader.number()?;
     let acc = reader.number()?;
-    let steps = reader.number()?;
-    reader.end()?;
+    let steps = reader.last_number()?;
     Ok(RawEntry::Post { query, acc, steps })
 }
 
 /// The event of this kind that has the body in that version.
+#[tactic(auto, using(crate::proofs::Sizes::lengths))]
 pub(crate) fn body_of(
     alloc: Global,
     version: Version,

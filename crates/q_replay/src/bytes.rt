@@ -7,7 +7,6 @@ ghost use Rattle.q_replay.specs.Writing.{with_more};
 ghost use Rattle.q_replay.specs.Journal.{head_of, entries_bytes as bytes_of_entries};
 ghost use Rattle.q_replay.specs.Checked.{IsChecked};
 
-use crate::write::write_entry;
 use crate::writer::Writer;
 use q_book::Book;
 use q_desk::Entry;
@@ -49,7 +48,7 @@ fn write_entries(writer: &mut Writer, entries: &[Entry]) -> Result<(), AllocErro
     ensures { OnOk result (writer.new ≡ with_more writer.old (bytes_of_entries writer.old.version entries.now)) }
 {
     for entry in entries {
-        write_entry(writer, entry)?;
+        writer.entry(entry)?;
     }
     Ok(())
 }

@@ -1,6 +1,6 @@
 //! The parts of heads and events, read from left to right.
 
-ghost use Rattle.std.specs.Prelude.{◌≡◌, ◌<◌, ◌^◌, ◌++◌, ◌∷◌, [], length, List, ℕ, option_map, IfOk, IfErr, OnOk, OnErr};
+ghost use Rattle.std.specs.Prelude.{◌≡◌, ◌<◌, ◌+◌, ◌^◌, ◌++◌, ◌∷◌, [], length, List, ℕ, option_map, IfOk, IfErr, OnOk, OnErr};
 ghost use Rattle.spelling.specs.Codes.{BeginsNone};
 ghost use Rattle.spelling.specs.Numbers.{number_bytes};
 ghost use Rattle.sc_msg.specs.Values.{version_byte};
@@ -40,27 +40,33 @@ impl<'a> Reader<'a> {
     }
 
     /// A number of two bytes.
+    #[tactic(auto, using(spelling::proofs::Codes::number_then))]
     fn short(&mut self) -> Result<u16, ReadFault>
         ensures fits { IfOk result (λ n. n < 2 ^ 16) }
         ensures parts { IfOk result (λ n. self.old.rest.now ≡ number_bytes 2 n ++ self.new.rest.now) }
+        ensures long { OnOk result (length self.old.rest.now ≡ 2 + length self.new.rest.now) }
         ensures none { OnErr result (length self.old.rest.now < 2) }
     {
         take_u16(&mut self.rest).ok_or(ReadFault::Form)
     }
 
     /// A number of four bytes.
+    #[tactic(auto, using(spelling::proofs::Codes::number_then))]
     pub(crate) fn word(&mut self) -> Result<u32, ReadFault>
         ensures fits { IfOk result (λ n. n < 2 ^ 32) }
         ensures parts { IfOk result (λ n. self.old.rest.now ≡ number_bytes 4 n ++ self.new.rest.now) }
+        ensures long { OnOk result (length self.old.rest.now ≡ 4 + length self.new.rest.now) }
         ensures none { OnErr result (length self.old.rest.now < 4) }
     {
         take_u32(&mut self.rest).ok_or(ReadFault::Form)
     }
 
     /// A number of eight bytes.
+    #[tactic(auto, using(spelling::proofs::Codes::number_then))]
     pub(crate) fn number(&mut self) -> Result<u64, ReadFault>
         ensures fits { IfOk result (λ n. n < 2 ^ 64) }
         ensures parts { IfOk result (λ n. self.old.rest.now ≡ number_bytes 8 n ++ self.new.rest.now) }
+        ensures long { OnOk result (length self.old.rest.now ≡ 8 + length self.new.rest.now) }
         ensures none { OnErr result (length self.old.rest.now < 8) }
     {
         take_u64(&mut self.rest).ok_or(ReadFault::Form)
@@ -86,6 +92,17 @@ impl<'a> Reader<'a> {
         }
     }
 
+    /// A number of eight bytes, and nothing more.
+    pub(crate) fn last_number(&mut self) -> Result<u64, ReadFault>
+        ensures fits { IfOk result (λ n. n < 2 ^ 64) }
+        ensures is { IfOk result (λ n. self.old.rest.now ≡ number_bytes 8 n) }
+        ensures none { OnErr result (length self.old.rest.now ≡ 8 → ⊥) }
+    {
+        let number = self.number()?;
+        self.end()?;
+        Ok(number)
+    }
+
     /// The first four bytes of a journal, of which the last tells its version.
     pub(crate) fn format(&mut self) -> Result<Version, ReadFault>
         ensures parts { IfOk result (λ version. self.old.rest.now ≡ 0x42 ∷ 0x51 ∷ 0x4a ∷ version_byte version ∷ self.new.rest.now) }
@@ -103,6 +120,7 @@ impl<'a> Reader<'a> {
         ensures numerator { IfOk result (λ f. f.numerator < 2 ^ 16) }
         ensures denominator { IfOk result (λ f. f.denominator < 2 ^ 16) }
         ensures parts { IfOk result (λ f. self.old.rest.now ≡ number_bytes 2 f.numerator ++ number_bytes 2 f.denominator ++ self.new.rest.now) }
+        ensures long { OnOk result (length self.old.rest.now ≡ 4 + length self.new.rest.now) }
         ensures none { OnErr result (length self.old.rest.now < 4) }
     {
         let numerator = self.short()?;

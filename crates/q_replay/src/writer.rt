@@ -5,18 +5,19 @@ ghost use Rattle.std.specs.List.{flat_map, AllByRecursion};
 ghost use Rattle.bq_sound.specs.Passes.{AreSuited};
 ghost use Rattle.bq_check.specs.Spelling.{notes_bytes, IsNotes};
 ghost use Rattle.spelling.specs.Numbers.{number_bytes};
-ghost use Rattle.sc_msg.specs.Values.{IsLength};
-ghost use Rattle.sc_msg.specs.Lengths.{Fits};
-ghost use Rattle.q_replay.specs.Spelling.{config_bytes, head_bytes, event_bytes, form_of, AreShort, IsHead, IsWritten};
+ghost use Rattle.q_book.specs.Replays.{EntryFits};
+ghost use Rattle.q_replay.specs.Spelling.{config_bytes, head_bytes, body_bytes, event_bytes, code, form_of, AreShort, IsHead, IsWritten};
 ghost use Rattle.q_replay.specs.Reading.{ids_bytes};
 ghost use Rattle.q_replay.specs.Writing.{with_more, record_lengths};
+ghost use Rattle.q_replay.specs.Journal.{written_of, IsEntry};
+ghost use Rattle.q_replay.specs.Checked.{IsChecked};
 ghost use Rattle.q_replay.specs.declared.raw_entry.RawEntry.TheVariants as written;
 
 use bq_check::Notes;
 use bq_insn::Text;
+use q_desk::Entry;
 use sc_members::Config;
-use sc_msg::{Message, Version, encode_fitting};
-use sc_view::Value;
+use sc_msg::{Version, encode_fitting};
 use spelling::{put_u16, put_u32, put_u64};
 use std::alloc::{AllocError, Global};
 use std::marker::Model;
@@ -95,13 +96,63 @@ impl Bytes {
         Ok(())
     }
 
-    /// The kind of an event, and how long its body is.
-    fn front(&mut self, kind: u8, length: usize) -> Result<(), AllocError>
-        requires { length < 2 ^ 32 }
-        ensures { OnOk result (self.new ≡ self.old ++ kind ∷ number_bytes 4 length) }
+    /// A text behind its length, and notes, in the form of that version.
+    fn program(
+        &mut self,
+        alloc: Global,
+        version: Version,
+        text: &Text,
+        notes: &Notes,
+    ) -> Result<(), AllocError>
+        requires { AreSuited (record_lengths version) notes.now }
+        ensures legal { OnOk result (IsWritten version (written.Register text.now notes.now)) }
+        ensures spelled { OnOk result (self.new ≡ self.old ++ body_bytes version (written.Register text.now notes.now)) }
     {
-        self.byte(kind)?;
-        self.word(length as u32)
+        let spelling = bq_insn::encode(alloc, text)?;
+        let notes = spelled_notes(alloc, version, notes)?;
+        self.word(spelling.len() as u32)?;
+        self.append(&spelling)?;
+        self.append(&notes)
+    }
+
+    /// The body of an entry in that version. Answers the entry's kind.
+    fn body(&mut self, alloc: Global, version: Version, entry: &Entry) -> Result<u8, AllocError>
+        requires fits { EntryFits version entry.now }
+        requires checked { IsChecked version entry.now }
+        ensures kind { IfOk result (λ kind. kind ≡ code (written_of entry.now)) }
+        ensures legal { OnOk result (IsEntry version entry.now) }
+        ensures spelled { OnOk result (self.new ≡ self.old ++ body_bytes version (written_of entry.now)) }
+    {
+        match entry {
+            Entry::Leave => Ok(1),
+            Entry::Register(program) => {
+                let certified = program.certified();
+                let _longest = certified.longest();
+                self.program(alloc, version, certified.text(), certified.notes())?;
+                Ok(2)
+            }
+            Entry::Ask { program, start } => {
+                self.word(program.number())?;
+                self.number(*start)?;
+                Ok(3)
+            }
+            Entry::Store(value) => {
+                self.append(value.bytes())?;
+                Ok(4)
+            }
+            Entry::Deliver(message) => {
+                let bytes = encode_fitting(alloc, version, message)?;
+                self.append(&bytes)?;
+                Ok(5)
+            }
+            Entry::HandOut => Ok(6),
+            Entry::Post { query, ran } => {
+                self.number(*query as u64)?;
+                self.number(ran.acc)?;
+                self.number(ran.steps)?;
+                Ok(7)
+            }
+        }
     }
 }
 
@@ -175,78 +226,21 @@ impl Writer {
         }
     }
 
-    /// That the node left.
-    pub fn leave(&mut self) -> Result<(), AllocError>
-        ensures legal { OnOk result (IsWritten self.old.version written.Leave) }
-        ensures spelled { OnOk result (self.new ≡ with_more self.old (event_bytes self.old.version written.Leave)) }
+    /// An entry, whose values have lengths of the version, and whose program was checked for the version's records.
+    #[tactic(auto, using(crate::proofs::Sizes::body_small))]
+    pub fn entry(&mut self, entry: &Entry) -> Result<(), AllocError>
+        requires fits { EntryFits self.old.version entry.now }
+        requires checked { IsChecked self.old.version entry.now }
+        ensures legal { OnOk result (IsEntry self.old.version entry.now) }
+        ensures spelled { OnOk result (self.new ≡ with_more self.old (event_bytes self.old.version (written_of entry.now))) }
     {
-        self.out.front(1, 0)
-    }
-
-    /// That a program was registered, with these notes, which are for records of 64 bytes in version 1 and of 16 to 128
-    /// in version 2.
-    pub fn register(&mut self, text: &Text, notes: &Notes) -> Result<(), AllocError>
-        requires { AreSuited (record_lengths self.old.version) notes.now }
-        ensures legal { OnOk result (IsWritten self.old.version (written.Register text.now notes.now)) }
-        ensures spelled { OnOk result (self.new ≡ with_more self.old (event_bytes self.old.version (written.Register text.now notes.now))) }
-    {
-        let spelling = bq_insn::encode(self.alloc, text)?;
-        let notes = spelled_notes(self.alloc, self.version, notes)?;
-        self.out.front(2, 4 + spelling.len() + notes.len())?;
-        self.out.word(spelling.len() as u32)?;
-        self.out.append(&spelling)?;
-        self.out.append(&notes)
-    }
-
-    /// That a query of this program began.
-    pub fn ask(&mut self, program: u32, start: u64) -> Result<(), AllocError>
-        ensures legal { OnOk result (IsWritten self.old.version (written.Ask program start)) }
-        ensures spelled { OnOk result (self.new ≡ with_more self.old (event_bytes self.old.version (written.Ask program start))) }
-    {
-        self.out.front(3, 12)?;
-        self.out.word(program)?;
-        self.out.number(start)
-    }
-
-    /// That a store of this value began, which has a length of the version.
-    pub fn store(&mut self, value: &Value) -> Result<(), AllocError>
-        requires { IsLength self.old.version (length value.now) }
-        ensures legal { OnOk result (IsWritten self.old.version (written.Store value.now)) }
-        ensures spelled { OnOk result (self.new ≡ with_more self.old (event_bytes self.old.version (written.Store value.now))) }
-    {
-        let bytes = value.bytes();
-        self.out.front(4, bytes.len())?;
-        self.out.append(bytes)
-    }
-
-    /// That a message was delivered, whose values have lengths of the version.
-    pub fn deliver(&mut self, message: &Message) -> Result<(), AllocError>
-        requires { Fits self.old.version message.now }
-        ensures legal { OnOk result (IsWritten self.old.version (written.Deliver message.now)) }
-        ensures spelled { OnOk result (self.new ≡ with_more self.old (event_bytes self.old.version (written.Deliver message.now))) }
-    {
-        let body = encode_fitting(self.alloc, self.version, message)?;
-        self.out.front(5, body.len())?;
-        self.out.append(&body)
-    }
-
-    /// That a job was handed out.
-    pub fn hand_out(&mut self) -> Result<(), AllocError>
-        ensures legal { OnOk result (IsWritten self.old.version written.HandOut) }
-        ensures spelled { OnOk result (self.new ≡ with_more self.old (event_bytes self.old.version written.HandOut)) }
-    {
-        self.out.front(6, 0)
-    }
-
-    /// That the answer of a query was recorded.
-    pub fn post(&mut self, query: u64, acc: u64, steps: u64) -> Result<(), AllocError>
-        ensures legal { OnOk result (IsWritten self.old.version (written.Post query acc steps)) }
-        ensures spelled { OnOk result (self.new ≡ with_more self.old (event_bytes self.old.version (written.Post query acc steps))) }
-    {
-        self.out.front(7, 24)?;
-        self.out.number(query)?;
-        self.out.number(acc)?;
-        self.out.number(steps)
+        let mut body = Bytes {
+            bytes: Vec::new(self.alloc),
+        };
+        let kind = body.body(self.alloc, self.version, entry)?;
+        self.out.byte(kind)?;
+        self.out.word(body.bytes.len() as u32)?;
+        self.out.append(&body.bytes)
     }
 
     /// All that was written.
