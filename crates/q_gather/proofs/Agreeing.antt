@@ -1,23 +1,18 @@
 -- Whether books are of different nodes, and agree on their heads.
-use Rattle.std.proofs.Common.{◌≡◌, ◌<◌, ◌≤◌, ◌+◌, ℕ, ◌==◌, Bool, true, false, cond, List, [], ◌∷◌, length, take, Option, Some, None, Result, Ok, refl, sym, ap, ◌∙◌, subst, slice_get, arith, rules, inl, inr, ⊎_elim}
-use Rattle.std.specs.Prelude.{MatchBool, nat_eq, ◌&&◌}
+use Rattle.std.proofs.Common.{◌≡◌, ◌<◌, ◌≤◌, ◌+◌, ℕ, Bool, true, false, cond, List, [], ◌∷◌, length, take, Option, Some, None, Result, Ok, sym, ap, ◌∙◌, subst, slice_get, arith, inl, inr, ⊎_elim}
+use Rattle.std.specs.Prelude.{MatchBool, nat_eq}
 use Rattle.std.specs.List.{list_any}
 use Rattle.std.specs.Ordering.{nat_cmp}
 use Rattle.std.specs.FinSet as set
-use Rattle.std.proofs.lemmas.Bool.{eqb-true, eq-eqb, cases_eq, cases_order}
+use Rattle.std.proofs.lemmas.Bool.{cases_eq, cases_order}
 use Rattle.std.proofs.lemmas.Option.{slice_get_within}
 use Rattle.sc_members.specs.Members.{Config}
 use Rattle.sc_msg.specs.declared.version.Version.{Version}
-use Rattle.sc_msg.specs.declared.version.Version.TheVariants.{First, Second}
-use Rattle.sc_msg.specs.contracts.version.Version as versions
-use Rattle.sc_msg.specs.contracts.version.VersionPartialEq.TheImpl.{eq-value as version_eq}
-use denote.Enum.Bare.{same_true}
 use Rattle.sc_node.specs.Nodes.{are_founders}
 use Rattle.reasons.specs.declared.Reason.{Reason}
 use Rattle.reasons.specs.declared.Reason.TheVariants as reasons
 use Rattle.sc_world.proofs.Acting.{has_at}
 use Rattle.forms.proofs.Calls.{same_answer, passed}
-use Rattle.sc_world.proofs.Steps.{and_left, and_right}
 use Rattle.q_book.specs.State.{BookState}
 use Rattle.q_history.specs.Headline.{ClusterState}
 use Rattle.q_history.specs.Heads.{founders_for}
@@ -25,7 +20,7 @@ use Rattle.q_history.specs.Clusters.{start, started}
 use Rattle.q_history.proofs.Lists.{same_some, no_some}
 use Rattle.q_gather.specs.Gathered.{HasBook, AreDistinct, AgreeOn}
 use Rattle.q_gather.specs.Gather.{AreReplayed, Agree, IsRefused}
-use Rattle.q_gather.specs.Heads.{IsHeaded, AreHeaded, AreThere, HasHead}
+use Rattle.q_gather.specs.Heads.{AreHeaded, AreThere, HasHead}
 use Rattle.q_gather.specs.declared.fault.GatherFault.TheVariants.{BadFounders}
 use Rattle.q_gather.proofs.Finding.{get_take, take_within}
 
@@ -118,60 +113,7 @@ agree_on books version config ids c h heads there = record {
   there = there;
 }
 
--- ---- one head
-
-same_config : (x y : Config) → (x.beta_num == y.beta_num && (x.beta_den == y.beta_den && (x.gamma_num == y.gamma_num && (x.gamma_den == y.gamma_den)))) ≡ true → x ≡ y
-same_config x y h =
-    let r = and_right (x.beta_num == y.beta_num) _ h in
-    let s = and_right (x.beta_den == y.beta_den) _ r in
-    let a = eqb-true x.beta_num y.beta_num (and_left (x.beta_num == y.beta_num) _ h) in
-    let b = eqb-true x.beta_den y.beta_den (and_left (x.beta_den == y.beta_den) _ r) in
-    let d = eqb-true x.gamma_num y.gamma_num (and_left (x.gamma_num == y.gamma_num) _ s) in
-    let e = eqb-true x.gamma_den y.gamma_den (and_right (x.gamma_num == y.gamma_num) _ s) in
-    λ i. record { beta_num = a i; beta_den = b i; gamma_num = d i; gamma_den = e i }
-
-equal_config : (x y : Config) → x ≡ y → (x.beta_num == y.beta_num && (x.beta_den == y.beta_den && (x.gamma_num == y.gamma_num && (x.gamma_den == y.gamma_den)))) ≡ true
-equal_config x y same =
-    let a = eq-eqb x.beta_num y.beta_num (ap (λ (c : Config). c.beta_num) same) in
-    let b = eq-eqb x.beta_den y.beta_den (ap (λ (c : Config). c.beta_den) same) in
-    let d = eq-eqb x.gamma_num y.gamma_num (ap (λ (c : Config). c.gamma_num) same) in
-    let e = eq-eqb x.gamma_den y.gamma_den (ap (λ (c : Config). c.gamma_den) same) in
-    λ i. a i && (b i && (d i && e i))
-
-self_version : (x : Version) → version_eq.it x x ≡ true
-self_version First = refl
-self_version Second = refl
-
--- whether something holds
-abbrev pub Tells : Bool → Type 0 → Type 0
-Tells r P = MatchBool r P (P → ⊥)
-
--- the version and the founders are as they should be
-abbrev pub IsFront : BookState → Version → List ℕ → Type 0
-IsFront b version ids = (b.version ≡ version) × (b.founders ≡ founders_for b.id ids)
-
--- the versions are compared, where the founders are as they should be
-pub front_then : (b : BookState) (x version : Version) (ids : List ℕ) (value r : Bool) → b.founders ≡ founders_for b.id ids → x ≡ b.version → r ≡ version_eq.it x version → value ≡ r → Tells value (IsFront b version ids)
-front_then b x version ids true r founders own is same = (sym own ∙ same_true versions.the_type (search rules) x version (sym (same ∙ is)), founders)
-front_then b x version ids false r founders own is same =
-    λ h. let e : false ≡ true = same ∙ is ∙ ap (version_eq.it x) (sym (own ∙ h.0)) ∙ self_version x in absurd (cc)
-
--- where they are not, the versions are not looked at
-pub front_else : (b : BookState) (version : Version) (ids : List ℕ) (value r : Bool) → (b.founders ≡ founders_for b.id ids → ⊥) → r ≡ false → value ≡ r → Tells value (IsFront b version ids)
-front_else b version ids true r other is same = absurd (cc)
-front_else b version ids false r other is same = λ h. other h.1
-
--- then the fractions are
-pub headed_then : (b : BookState) (version : Version) (x config : Config) (ids : List ℕ) (value r : Bool) → Tells value (IsFront b version ids) → value ≡ true → x ≡ b.config
-    → r ≡ (x.beta_num == config.beta_num && (x.beta_den == config.beta_den && (x.gamma_num == config.gamma_num && (x.gamma_den == config.gamma_den)))) → Tells r (IsHeaded b version config ids)
-headed_then b version x config ids false r front known own is = absurd (cc)
-headed_then b version x config ids true true front known own is = (front.0, sym own ∙ same_config x config (sym is), front.1)
-headed_then b version x config ids true false front known own is =
-    λ h. let e : false ≡ true = is ∙ equal_config x config (own ∙ h.1) in absurd (cc)
-
-pub headed_else : (b : BookState) (version : Version) (config : Config) (ids : List ℕ) (value : Bool) → Tells value (IsFront b version ids) → value ≡ false → Tells value (IsHeaded b version config ids)
-headed_else b version config ids true front known = absurd (cc)
-headed_else b version config ids false front known = λ h. front (h.0, h.2)
+-- ---- who is listed
 
 -- a node is listed among the founders, or it is not
 pub founders_listed : (b : BookState) (ids : List ℕ) (k r : Bool) → set.contains (set.from_list {R = nat_cmp} ids) b.id ≡ k → MatchBool r (b.founders ≡ cond k (Some ids) None) (b.founders ≡ cond k (Some ids) None → ⊥)

@@ -1,5 +1,5 @@
 -- The books are gathered by the events that are found, until none is.
-use Rattle.std.proofs.Common.{◌≡◌, ◌<◌, ℕ, List, [], ◌∷◌, ◌++◌, length, length-append, refl, sym, ap, ◌∙◌, subst, slice_get, slice_set, arith, ◌+◌, inl, inr}
+use Rattle.std.proofs.Common.{◌≡◌, ◌<◌, ℕ, List, [], ◌∷◌, ◌++◌, length, length-append, Option, Some, refl, sym, ap, ◌∙◌, subst, slice_get, slice_set, arith, ◌+◌, inl, inr}
 use Rattle.std.proofs.lemmas.List.{append-nil}
 use Rattle.sc_msg.specs.declared.message.Message.{Message}
 use Rattle.q_desk.specs.declared.journal.Entry.{Entry}
@@ -21,7 +21,8 @@ use Rattle.q_gather.proofs.Merging.{over_at, all_over, merges_next, merges_stuck
 use Rattle.q_gather.proofs.BooksGather.{gathered, done_at}
 use Rattle.q_gather.proofs.Tracing.{traces_one}
 use Rattle.q_gather.specs.Gather.{Merge}
-use Rattle.q_gather.specs.Gathering.{IsNextOf, IsNextAmong, HasTaken, HaveTaken, AreIdle, IsGathering, IsMerged}
+use Rattle.q_gather.specs.declared.rounds.Rounds.{Rounds}
+use Rattle.q_gather.specs.Gathering.{Finds, IsNextOf, IsNextAmong, HasTaken, HaveTaken, AreIdle, AreWaiting, IsGathering, IsMerged}
 use Rattle.q_gather.proofs.Turns.{Turn, left_by, all_left, turn_of, next_is, turn_goes, left_later, less_left, trace_length}
 
 -- ---- one event
@@ -76,6 +77,29 @@ module _ (books : List BookState) (c later : ClusterState) (numbers after : Numb
             let one : n.book ≡ b = same_some n.book b (sym n.at ∙ ap (slice_get books) (sym new.0) ∙ at) in
             idle k b ev among at (subst (λ (x : BookState). IsNextOf c x ev) one n.next)
       ]
+
+-- ---- the rounds
+
+-- the books are gathered this far, and the rounds know who waits
+pub record AreGoing (books : List BookState) (c : ClusterState) (numbers : NumberList) (rounds : Rounds) : Type 0 where
+  pub gathering : IsGathering books c numbers
+  pub waiting : AreWaiting c books rounds
+
+-- the event that the rounds answered is taken
+module _ (books : List BookState) (c later : ClusterState) (numbers after : NumberList) (rounds : Rounds) (g : AreGoing books c numbers rounds) (answer : Option ClusterEvent) (ev : ClusterEvent) (is : answer ≡ Some ev)
+    (next : AreNumbers c.past.sent numbers → AreWaiting c books rounds → Finds (IsNextAmong c books) answer) (told : ClusterStep) (f : Follows c ev told later) where
+  found : IsNextAmong c books ev
+  found = subst (λ (o : Option ClusterEvent). Finds (IsNextAmong c books) o) is (next g.gathering.numbered g.waiting)
+
+  pub turn_less : all_left later books < all_left c books
+  turn_less = goes_less books c later numbers after g.gathering ev found told f
+
+  pub turn_kept : ((outs : List Message) → AreNumbers c.past.sent numbers → later.past.sent ≡ c.past.sent ++ outs → AreNumbers later.past.sent after) → (turned : Rounds)
+      → (AreNumbers c.past.sent numbers → AreWaiting c books rounds → AreIdle c books turned.waiting.keys) → turned.sent ≡ length c.past.sent → AreGoing books later after turned
+  turn_kept numbered turned idle sent = record {
+    gathering = goes_on books c later numbers after g.gathering ev found told f numbered;
+    waiting = λ long. idle_on books c later numbers after g.gathering ev found told f turned.waiting.keys (idle g.gathering.numbered g.waiting) (long ∙ sent);
+  }
 
 -- ---- no event
 

@@ -5,7 +5,6 @@ use Rattle.sc_node.specs.State.{NodeState}
 use Rattle.sc_node.specs.Nodes as node
 use Rattle.reasons.specs.declared.Reason.{Reason}
 use Rattle.sc_world.proofs.Inverts.{same_answer}
-use Rattle.q_desk.specs.Desks as desk
 use Rattle.q_desk.specs.declared.journal.Entry.{Entry}
 use Rattle.q_book.specs.State.{BookState}
 use Rattle.q_book.specs.Books as book

@@ -17,6 +17,10 @@ use Rattle.q_gather.specs.declared.fault.GatherFault.TheVariants.{BadFounders, O
 abbrev pub AreReplays : List BookState → Type 0
 AreReplays books = (k : ℕ) (b : BookState) → slice_get books k ≡ Some b → IsReplay b × AnswersAreRight b.desk
 
+-- the book has this version; and these founders, where its node is one
+abbrev pub IsOfCluster : BookState → Version → List ℕ → Type 0
+IsOfCluster b version founders = (b.version ≡ version) × (b.founders ≡ founders_for b.id founders)
+
 -- the book has this version and these fractions; and these founders, where its node is one
 abbrev pub IsHeaded : BookState → Version → Config → List ℕ → Type 0
 IsHeaded b version config founders = (b.version ≡ version) × (b.config ≡ config) × (b.founders ≡ founders_for b.id founders)

@@ -7,7 +7,7 @@ ghost use Rattle.q_book.specs.State.{BookState};
 ghost use Rattle.q_history.specs.Heads.{founders_for};
 ghost use Rattle.q_history.specs.Clusters.{start};
 ghost use Rattle.q_gather.specs.Gathered.{HasBook, AreDistinct, AgreeOn};
-ghost use Rattle.q_gather.specs.Heads.{AreReplays, IsHeaded, AreHeaded, AreThere, HasHead, IsUnfounded};
+ghost use Rattle.q_gather.specs.Heads.{AreReplays, IsOfCluster, IsHeaded, AreHeaded, AreThere, HasHead, IsUnfounded};
 
 use crate::fault::GatherFault;
 use q_book::Book;
@@ -98,7 +98,13 @@ fn are_headed(books: &[Book], version: Version, config: Config, founders: &[u64]
 fn is_headed(book: &Book, version: Version, config: Config, founders: &[u64]) -> bool
     ensures { MatchBool result (IsHeaded book.now version config founders.now) (IsHeaded book.now version config founders.now → ⊥) }
 {
-    has_founders(book, founders) && book.version() == version && book.config() == config
+    is_of_cluster(book, version, founders) && book.config() == config
+}
+
+fn is_of_cluster(book: &Book, version: Version, founders: &[u64]) -> bool
+    ensures { MatchBool result (IsOfCluster book.now version founders.now) (IsOfCluster book.now version founders.now → ⊥) }
+{
+    has_founders(book, founders) && book.version() == version
 }
 
 /// Whether the book is that of one of these founders, who knows all of them; or that of no founder, of a node that

@@ -1,9 +1,9 @@
 -- take_all: takes events of the books, until none can go on.
-use Rattle.std.proofs.Common.{Option, None, subst, ◌∙◌}
+use Rattle.std.proofs.Common.{Option, None, subst}
 use Rattle.q_history.specs.declared.event.ClusterEvent.{ClusterEvent}
 use Rattle.q_gather.specs.Gathering.{Finds, IsNextAmong}
 use Rattle.q_gather.proofs.Waiting.{idle_none}
-use Rattle.q_gather.proofs.Going.{goes_on, goes_less, idle_on, merged, stuck}
+use Rattle.q_gather.proofs.Going.{turn_less, turn_kept, merged, stuck}
 use Rattle.q_gather.proofs.rounds.take_all.Goals as goal
 
 pub loop-rounds-init : goal.loop-rounds-init
@@ -24,31 +24,21 @@ returns-clause-ok c = merged c.args.books.now c.loop-rounds.gathering.cluster c.
 pub loop-rounds-smaller-in_ok-take : goal.loop-rounds-smaller-in_ok-take
 loop-rounds-smaller-in_ok-take c =
     let t = c.in_ok-take.ensures {u = tt} in
-    let found = subst (λ (o : Option ClusterEvent). Finds (IsNextAmong c.loop-rounds.gathering.cluster c.args.books.now) o) c.in-Some.is (c.in_ok-event.ensures.next c.loop-rounds.invariant.gathering.numbered c.loop-rounds.invariant.waiting) in
-    goes_less c.args.books.now c.loop-rounds.gathering.cluster c.take.new.self.cluster c.loop-rounds.gathering.numbers c.take.new.self.numbers c.loop-rounds.invariant.gathering c.in-Some.event found t.event.0 t.event.1
+    turn_less c.args.books.now c.loop-rounds.gathering.cluster c.take.new.self.cluster c.loop-rounds.gathering.numbers c.take.new.self.numbers c.loop-rounds.rounds c.loop-rounds.invariant _ c.in-Some.event c.in-Some.is c.in_ok-event.ensures.next t.event.0 t.event.1
 
 pub loop-rounds-smaller : goal.loop-rounds-smaller
 loop-rounds-smaller c =
     let t = c.in_ok-take.ensures {u = tt} in
-    let found = subst (λ (o : Option ClusterEvent). Finds (IsNextAmong c.loop-rounds.gathering.cluster c.args.books.now) o) c.in-Some.is (c.in_ok-event.ensures.next c.loop-rounds.invariant.gathering.numbered c.loop-rounds.invariant.waiting) in
-    goes_less c.args.books.now c.loop-rounds.gathering.cluster c.take.new.self.cluster c.loop-rounds.gathering.numbers c.take.new.self.numbers c.loop-rounds.invariant.gathering c.in-Some.event found t.event.0 t.event.1
+    turn_less c.args.books.now c.loop-rounds.gathering.cluster c.take.new.self.cluster c.loop-rounds.gathering.numbers c.take.new.self.numbers c.loop-rounds.rounds c.loop-rounds.invariant _ c.in-Some.event c.in-Some.is c.in_ok-event.ensures.next t.event.0 t.event.1
 
 pub loop-rounds-preserved-in_ok-take : goal.loop-rounds-preserved-in_ok-take
 loop-rounds-preserved-in_ok-take c =
     let t = c.in_ok-take.ensures {u = tt} in
-    let found = subst (λ (o : Option ClusterEvent). Finds (IsNextAmong c.loop-rounds.gathering.cluster c.args.books.now) o) c.in-Some.is (c.in_ok-event.ensures.next c.loop-rounds.invariant.gathering.numbered c.loop-rounds.invariant.waiting) in
-    let idle = c.in_ok-event.ensures.waiting c.loop-rounds.invariant.gathering.numbered c.loop-rounds.invariant.waiting in
-    record {
-      gathering = goes_on c.args.books.now c.loop-rounds.gathering.cluster c.take.new.self.cluster c.loop-rounds.gathering.numbers c.take.new.self.numbers c.loop-rounds.invariant.gathering c.in-Some.event found t.event.0 t.event.1 t.numbers;
-      waiting = λ long. idle_on c.args.books.now c.loop-rounds.gathering.cluster c.take.new.self.cluster c.loop-rounds.gathering.numbers c.take.new.self.numbers c.loop-rounds.invariant.gathering c.in-Some.event found t.event.0 t.event.1 c.next.new.self.waiting.keys idle (long ∙ c.next.ensures.sent);
-    }
+    turn_kept c.args.books.now c.loop-rounds.gathering.cluster c.take.new.self.cluster c.loop-rounds.gathering.numbers c.take.new.self.numbers c.loop-rounds.rounds c.loop-rounds.invariant _ c.in-Some.event c.in-Some.is c.in_ok-event.ensures.next t.event.0 t.event.1
+    t.numbers c.next.new.self c.in_ok-event.ensures.waiting c.next.ensures.sent
 
 pub loop-rounds-preserved : goal.loop-rounds-preserved
 loop-rounds-preserved c =
     let t = c.in_ok-take.ensures {u = tt} in
-    let found = subst (λ (o : Option ClusterEvent). Finds (IsNextAmong c.loop-rounds.gathering.cluster c.args.books.now) o) c.in-Some.is (c.in_ok-event.ensures.next c.loop-rounds.invariant.gathering.numbered c.loop-rounds.invariant.waiting) in
-    let idle = c.in_ok-event.ensures.waiting c.loop-rounds.invariant.gathering.numbered c.loop-rounds.invariant.waiting in
-    record {
-      gathering = goes_on c.args.books.now c.loop-rounds.gathering.cluster c.take.new.self.cluster c.loop-rounds.gathering.numbers c.take.new.self.numbers c.loop-rounds.invariant.gathering c.in-Some.event found t.event.0 t.event.1 t.numbers;
-      waiting = λ long. idle_on c.args.books.now c.loop-rounds.gathering.cluster c.take.new.self.cluster c.loop-rounds.gathering.numbers c.take.new.self.numbers c.loop-rounds.invariant.gathering c.in-Some.event found t.event.0 t.event.1 c.next.new.self.waiting.keys idle (long ∙ c.next.ensures.sent);
-    }
+    turn_kept c.args.books.now c.loop-rounds.gathering.cluster c.take.new.self.cluster c.loop-rounds.gathering.numbers c.take.new.self.numbers c.loop-rounds.rounds c.loop-rounds.invariant _ c.in-Some.event c.in-Some.is c.in_ok-event.ensures.next t.event.0 t.event.1
+    t.numbers c.next.new.self c.in_ok-event.ensures.waiting c.next.ensures.sent
