@@ -10,7 +10,6 @@ use crate::question::{Question, goes_again};
 use q_held::{Held, Unsent, addressee};
 use sc_msg::{Message, Version};
 use std::alloc::{AllocError, Global};
-use std::mem;
 
 /// Keeps a message that was given, if it goes again.
 fn keep(questions: &mut Vec<Question>, message: Message)
@@ -24,54 +23,36 @@ fn keep(questions: &mut Vec<Question>, message: Message)
 }
 
 /// Does the first message that waits, if one does: its letter stands behind others. At Err, for want of memory, all is
-/// as it was.
+/// as it was. A message that has no bytes in the version is counted as unsent, and one that goes again is kept as a
+/// question.
 fn give_next(
     alloc: Global,
     version: Version,
-    waiting: &mut Vec<Message>,
+    held: &mut Held<'_>,
     questions: &mut Vec<Question>,
-    unsent: &mut Unsent,
     letters: &mut Vec<Letter>,
 ) -> Result<(), AllocError>
-    ensures { Adds version (outbox waiting.old.items questions.old.items unsent.old) letters.old.items
-        (outbox waiting.new.items questions.new.items unsent.new) letters.new.items }
+    ensures added { Adds version (outbox held.old.waiting.items questions.old.items held.old.unsent)
+        letters.old.items (outbox held.new.waiting.items questions.new.items held.new.unsent) letters.new.items }
+    ensures book { held.new.book ≡ held.old.book }
+    ensures asker { held.new.asker ≡ held.old.asker }
+    ensures lost { held.new.lost ≡ held.old.lost }
 {
-    let Some(message) = waiting.first() else {
+    let Some(message) = held.waiting.first() else {
         return Ok(());
     };
     if !message.fits(version) {
-        let _ = waiting.remove(0);
-        *unsent = unsent.and(Unsent::message());
+        let _ = held.waiting.remove(0);
+        held.unsent = held.unsent.and(Unsent::message());
         return Ok(());
     }
     questions.reserve(1)?;
     push_letter(alloc, version, addressee(message), message, letters)?;
-    keep(questions, waiting.remove(0));
+    keep(questions, held.waiting.remove(0));
     Ok(())
 }
 
-/// Gives the messages that wait as letters, in turn, up to the first for which memory is short. A message that has no
-/// bytes in the version is counted as unsent, and one that goes again is kept as a question.
-fn give(
-    alloc: Global,
-    version: Version,
-    waiting: &mut Vec<Message>,
-    questions: &mut Vec<Question>,
-    unsent: &mut Unsent,
-) -> Vec<Letter>
-    ensures { Gives version (outbox waiting.old.items questions.old.items unsent.old) result.items
-        (outbox waiting.new.items questions.new.items unsent.new) }
-{
-    let mut letters = Vec::new(alloc);
-    for _ in 0..waiting.len() {
-        if give_next(alloc, version, waiting, questions, unsent, &mut letters).is_err() {
-            break;
-        }
-    }
-    letters
-}
-
-/// The same of a node's waiting messages.
+/// Gives the messages that wait as letters, in turn, up to the first for which memory is short.
 pub(crate) fn give_waiting(
     alloc: Global,
     held: &mut Held<'_>,
@@ -84,10 +65,11 @@ pub(crate) fn give_waiting(
     ensures lost { held.new.lost ≡ held.old.lost }
 {
     let version = held.book.version();
-    let mut waiting = mem::replace(&mut held.waiting, Vec::new(alloc));
-    let mut unsent = held.unsent;
-    let letters = give(alloc, version, &mut waiting, questions, &mut unsent);
-    held.waiting = waiting;
-    held.unsent = unsent;
+    let mut letters = Vec::new(alloc);
+    for _ in 0..held.waiting.len() {
+        if give_next(alloc, version, held, questions, &mut letters).is_err() {
+            break;
+        }
+    }
     letters
 }
