@@ -6,8 +6,7 @@ use crate::rows::{ROWS, Row};
 use q_cluster::Cluster;
 use q_history::{ClusterEvent, ClusterFault, ClusterStep, EventAnswer};
 use q_script::{Founding, Script, ScriptLine};
-use q_sim::{Refusal, certified_code, event_of, print_pairs, print_told};
-use sc_members::Config;
+use q_sim::{Refusal, certified_code, config_of, event_of, print_pairs, print_told};
 use sc_view::Value;
 use sc_world::Op;
 use std::alloc::{AllocError, Global};
@@ -26,15 +25,9 @@ struct Course {
 
 /// The cluster that a script founds.
 fn found(alloc: Global, founding: &Founding) -> Result<Cluster, Refusal> {
-    let Founding { count, beta, gamma } = founding;
-    let config = Config::new(
-        beta.numerator,
-        beta.denominator,
-        gamma.numerator,
-        gamma.denominator,
-    )?;
+    let config = config_of(founding)?;
     let ids = [1, 2, 3];
-    let count = (*count as usize).min(NODES);
+    let count = (founding.count as usize).min(NODES);
     Ok(Cluster::new(alloc, config, &ids[..count])?)
 }
 

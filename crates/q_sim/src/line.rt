@@ -1,57 +1,27 @@
 //! The line of a refusal.
 
-ghost use Rattle.std.specs.Prelude.{◌≡◌, ◌++◌, ◌∷◌, [], ℕ, List, OnOk, OnErr, codes, decimal};
+ghost use Rattle.std.specs.Prelude.{◌≡◌, ◌++◌, ℕ, List, OnOk, OnErr};
 ghost use Rattle.std.specs.Io.KnownBytes.{Appends};
-ghost use Rattle.reasons.specs.Table.{number, name};
 ghost use Rattle.q_outside.specs.Counts.{count_after};
+ghost use Rattle.q_outside.specs.Pieces.{piece_text};
 ghost use Rattle.q_sim.specs.Line.{line_of};
-ghost use Rattle.q_sim.specs.Refusal.{refusal_line};
+ghost use Rattle.q_sim.specs.Refusal.{place_text, refusal_line};
 
 use crate::refusal::{Refusal, RefusalPlace};
 use q_outside::{Counted, Piece, TransportFailed};
 use reasons::Reason;
 use std::io::Write;
 
-/// Writes the line of a refusal that arose at a place, which stands behind words.
-fn put_placed<W: Write>(
-    out: &mut Counted<W>,
-    reason: Reason,
-    words: &str,
-    place: usize,
-) -> Result<(), TransportFailed>
-    ensures written { OnOk result (Appends
-        (W.contents out.old.inner) (W.contents out.new.inner)
-        ((codes "refused " ++ (decimal (number reason) ++ (32 ∷ (name reason ++ (words.now ++ decimal place))))) ++ 10 ∷ [])) }
-    ensures failed { OnErr result ((part : List ℕ) × Appends
-        (W.contents out.old.inner) (W.contents out.new.inner) part) }
-    ensures counted { out.new.failures ≡ count_after result out.old.failures }
+/// The words that tell a place, and the number behind them.
+fn place_pieces(place: RefusalPlace) -> (Piece<'static>, Piece<'static>)
+    ensures { piece_text result.0 ++ piece_text result.1 ≡ place_text place }
 {
-    out.put_all(&[
-        Piece::Words("refused "),
-        Piece::Number(u64::from(reason.number())),
-        Piece::Words(" "),
-        Piece::Words(reason.name()),
-        Piece::Words(words),
-        Piece::Number(place as u64),
-        Piece::Words("\n"),
-    ])
-}
-
-/// Writes the line of a refusal that tells no place.
-fn put_unplaced<W: Write>(out: &mut Counted<W>, reason: Reason) -> Result<(), TransportFailed>
-    ensures written { OnOk result (Appends
-        (W.contents out.old.inner) (W.contents out.new.inner) (line_of reason RefusalPlace.Untold)) }
-    ensures failed { OnErr result ((part : List ℕ) × Appends
-        (W.contents out.old.inner) (W.contents out.new.inner) part) }
-    ensures counted { out.new.failures ≡ count_after result out.old.failures }
-{
-    out.put_all(&[
-        Piece::Words("refused "),
-        Piece::Number(u64::from(reason.number())),
-        Piece::Words(" "),
-        Piece::Words(reason.name()),
-        Piece::Words("\n"),
-    ])
+    match place {
+        RefusalPlace::Untold => (Piece::Words(""), Piece::Words("")),
+        RefusalPlace::Unit(unit) => (Piece::Words(" at "), Piece::Number(unit as u64)),
+        RefusalPlace::Event(event) => (Piece::Words(" at "), Piece::Number(event as u64)),
+        RefusalPlace::Line(line) => (Piece::Words(" line "), Piece::Number(line as u64)),
+    }
 }
 
 /// Writes the line of a refusal: the number and the name of its reason, and where it arose if the line tells that. It
@@ -69,12 +39,16 @@ pub fn put_line<W: Write>(
         (W.contents out.old.inner) (W.contents out.new.inner) part) }
     ensures counted { out.new.failures ≡ count_after result out.old.failures }
 {
-    match place {
-        RefusalPlace::Untold => put_unplaced(out, reason),
-        RefusalPlace::Unit(unit) => put_placed(out, reason, " at ", unit),
-        RefusalPlace::Event(event) => put_placed(out, reason, " at ", event),
-        RefusalPlace::Line(line) => put_placed(out, reason, " line ", line),
-    }
+    let (words, number) = place_pieces(place);
+    out.put_all(&[
+        Piece::Words("refused "),
+        Piece::Number(u64::from(reason.number())),
+        Piece::Words(" "),
+        Piece::Words(reason.name()),
+        words,
+        number,
+        Piece::Words("\n"),
+    ])
 }
 
 /// The same of a refusal of a script.
