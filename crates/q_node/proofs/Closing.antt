@@ -7,8 +7,8 @@ use Rattle.q_kept.specs.declared.fault.Unrecorded.{Unrecorded}
 use Rattle.q_node.specs.Journal.{HoldsBeginning, HoldsJournal, IsKept}
 use Rattle.q_node.specs.Runs.{Closes, IsFront, IsJournal, IsWritten, ending_of, failures_after, last_line}
 use Rattle.q_node.specs.Talks.{Talks, talk_count}
-use Rattle.q_node.specs.declared.ending.Ending.{Ending}
-use Rattle.q_node.specs.declared.ending.Ending.TheVariants as ending
+use Rattle.q_node.specs.declared.ending.NodeEnding.{NodeEnding}
+use Rattle.q_node.specs.declared.ending.NodeEnding.TheVariants as ending
 use Rattle.q_node.specs.declared.fault.StartFault.{StartFault}
 use Rattle.q_node.specs.declared.talk_end.Talk.TheVariants as talk
 
@@ -19,13 +19,13 @@ told : (node : ℕ) (greeting : List ℕ) (a b c : Option (List ℕ)) (events : 
 told node greeting a b c (Ok n) front is first last = (front, is, Appends-trans a b c front _ first last)
 told node greeting a b c (Err f) front is first last = (front, inl is, Appends-trans a b c front _ first last)
 
-pub written_ended : (node : ℕ) (greeting : List ℕ) (a b c : Option (List ℕ)) (events : Result ℕ Unrecorded) (e : Ending) → Talks node greeting a talk.Ended b → Closes events b e c → IsWritten node greeting e a c
-written_ended node greeting a b c events e t (inl h) = subst (λ (x : Ending). IsWritten node greeting x a c) (sym h.0) (told node greeting a b c events t.0 t.1 t.2 h.1)
-written_ended node greeting a b c events e t (inr h) = subst (λ (x : Ending). IsWritten node greeting x a c) (sym h.0) (t.0 ++ h.1.0, Appends-trans a b c t.0 h.1.0 t.2 h.1.1)
+pub written_ended : (node : ℕ) (greeting : List ℕ) (a b c : Option (List ℕ)) (events : Result ℕ Unrecorded) (e : NodeEnding) → Talks node greeting a talk.Ended b → Closes events b e c → IsWritten node greeting e a c
+written_ended node greeting a b c events e t (inl h) = subst (λ (x : NodeEnding). IsWritten node greeting x a c) (sym h.0) (told node greeting a b c events t.0 t.1 t.2 h.1)
+written_ended node greeting a b c events e t (inr h) = subst (λ (x : NodeEnding). IsWritten node greeting x a c) (sym h.0) (t.0 ++ h.1.0, Appends-trans a b c t.0 h.1.0 t.2 h.1.1)
 
-pub written_unstarted : (node : ℕ) (greeting : List ℕ) (b c : Option (List ℕ)) (f : Unrecorded) (e : Ending) → Closes (Err f) b e c → IsWritten node greeting e b c
-written_unstarted node greeting b c f e (inl h) = subst (λ (x : Ending). IsWritten node greeting x b c) (sym h.0) ([], inr refl, h.1)
-written_unstarted node greeting b c f e (inr h) = subst (λ (x : Ending). IsWritten node greeting x b c) (sym h.0) h.1
+pub written_unstarted : (node : ℕ) (greeting : List ℕ) (b c : Option (List ℕ)) (f : Unrecorded) (e : NodeEnding) → Closes (Err f) b e c → IsWritten node greeting e b c
+written_unstarted node greeting b c f e (inl h) = subst (λ (x : NodeEnding). IsWritten node greeting x b c) (sym h.0) ([], inr refl, h.1)
+written_unstarted node greeting b c f e (inr h) = subst (λ (x : NodeEnding). IsWritten node greeting x b c) (sym h.0) h.1
 
 -- ---- the journal
 
@@ -44,13 +44,13 @@ journal_of_ending : (node : ℕ) (first file : Option (List ℕ)) (events : Resu
 journal_of_ending node first file (Ok n) h = h
 journal_of_ending node first file (Err f) h = h
 
-pub journal_ended : (node : ℕ) (first file b c : Option (List ℕ)) (events : Result ℕ Unrecorded) (e : Ending) → Closes events b e c → IsKept node first file events → IsJournal node first file e
+pub journal_ended : (node : ℕ) (first file b c : Option (List ℕ)) (events : Result ℕ Unrecorded) (e : NodeEnding) → Closes events b e c → IsKept node first file events → IsJournal node first file e
 journal_ended node first file b c events e (inl h) k = subst (IsJournal node first file) (sym h.0) (journal_of_ending node first file events k)
 journal_ended node first file b c events e (inr h) k = subst (IsJournal node first file) (sym h.0) (inl (kept_beginning node first file events k))
 
 -- ---- it began
 
-abbrev IsBegun : Ending → Type 0
+abbrev IsBegun : NodeEnding → Type 0
 IsBegun (ending.Refused f) = ⊥
 IsBegun e = Unit {0}
 
@@ -58,7 +58,7 @@ ending_begun : (events : Result ℕ Unrecorded) → IsBegun (ending_of events)
 ending_begun (Ok n) = tt
 ending_begun (Err f) = tt
 
-pub not_refused : (b c : Option (List ℕ)) (events : Result ℕ Unrecorded) (e : Ending) → Closes events b e c → (f : StartFault) → e ≡ ending.Refused f → ⊥
+pub not_refused : (b c : Option (List ℕ)) (events : Result ℕ Unrecorded) (e : NodeEnding) → Closes events b e c → (f : StartFault) → e ≡ ending.Refused f → ⊥
 not_refused b c events e (inl h) f is = subst IsBegun (sym h.0 ∙ is) (ending_begun events)
 not_refused b c events e (inr h) f is = subst IsBegun (sym h.0 ∙ is) tt
 

@@ -3,7 +3,7 @@ use Rattle.std.proofs.Common.{◌≡◌, ℕ, List, Option, inl, inr}
 use Rattle.q_script.specs.File.{IsFault}
 use Rattle.q_script.specs.declared.fault.ClusterFileFault.TheVariants.{OutOfMemory, Syntax}
 use Rattle.q_script.proofs.Refusals.{not_refused}
-use Rattle.q_node.specs.declared.ending.Ending.TheVariants as ending
+use Rattle.q_node.specs.declared.ending.NodeEnding.TheVariants as ending
 use Rattle.q_node.specs.declared.fault.StartFault.TheVariants.{FileFailed}
 use Rattle.q_node.proofs.Refusing as refusing
 use Rattle.q_node.specs.Files.{RunsText}

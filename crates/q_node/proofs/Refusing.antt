@@ -2,7 +2,7 @@
 use Rattle.std.proofs.Common.{◌≡◌, ◌⊎◌, ℕ, List, Option, inl, inr}
 use Rattle.q_script.specs.declared.fault.ClusterFileFault.{ClusterFileFault}
 use Rattle.q_node.specs.Runs.{EndsRefused}
-use Rattle.q_node.specs.declared.ending.Ending.TheVariants.{Refused, Unwritten}
+use Rattle.q_node.specs.declared.ending.NodeEnding.TheVariants.{Refused, Unwritten}
 use Rattle.q_node.specs.declared.fault.StartFault.TheVariants.{Cluster, FileFailed}
 
 another_end : (f : ClusterFileFault) → (Refused FileFailed ≡ Refused (Cluster f)) ⊎ (Refused FileFailed ≡ Unwritten) → ⊥

@@ -12,9 +12,9 @@ use Rattle.q_node.specs.Journal.{HoldsBeginning, HoldsJournal}
 use Rattle.q_node.specs.Console.{IsSaid, said_line}
 use Rattle.q_node.specs.Faults.{reason, place_of}
 use Rattle.q_node.specs.declared.console.Said.{Said}
-use Rattle.q_node.specs.declared.ending.Ending.{Ending}
-use Rattle.q_node.specs.declared.ending.Ending.TheVariants as ending
-use Rattle.q_node.specs.declared.ending.Ending.TheVariants.{Refused, Unwritten}
+use Rattle.q_node.specs.declared.ending.NodeEnding.{NodeEnding}
+use Rattle.q_node.specs.declared.ending.NodeEnding.TheVariants as ending
+use Rattle.q_node.specs.declared.ending.NodeEnding.TheVariants.{Refused, Unwritten}
 use Rattle.q_node.specs.declared.fault.StartFault.{StartFault}
 
 -- ---- what is printed
@@ -29,7 +29,7 @@ pub record IsFront (node : ℕ) (greeting text : List ℕ) : Type 0 where
 abbrev pub journal_line : ℕ → List ℕ
 journal_line events = codes "journal " ++ (decimal events ++ codes " events\n")
 
-abbrev pub IsWritten : ℕ → List ℕ → Ending → Option (List ℕ) → Option (List ℕ) → Type 0
+abbrev pub IsWritten : ℕ → List ℕ → NodeEnding → Option (List ℕ) → Option (List ℕ) → Type 0
 -- the node ran to its end
 IsWritten node greeting (ending.Ended events) before after =
     (front : List ℕ) × IsFront node greeting front × Appends before after (front ++ journal_line events)
@@ -43,7 +43,7 @@ IsWritten node greeting (ending.Refused fault) before after = Appends before aft
 IsWritten node greeting ending.Unwritten before after = (part : List ℕ) × Appends before after part
 
 -- a write of the output failed where a run ends so, and no other
-abbrev pub failures_after : Ending → ℕ → ℕ
+abbrev pub failures_after : NodeEnding → ℕ → ℕ
 failures_after ending.Unwritten n = one_more n
 failures_after e n = n
 
@@ -51,7 +51,7 @@ failures_after e n = n
 
 -- the file holds the whole journal of a book of the node where it ran to its end, and else a beginning of it; and what it
 -- held at first where the node did not begin
-abbrev pub IsJournal : ℕ → Option (List ℕ) → Option (List ℕ) → Ending → Type 0
+abbrev pub IsJournal : ℕ → Option (List ℕ) → Option (List ℕ) → NodeEnding → Type 0
 IsJournal node first file (ending.Ended events) = HoldsJournal node first file events
 IsJournal node first file (ending.Stopped fault) = HoldsBeginning node first file
 IsJournal node first file (ending.Refused fault) = file ≡ first
@@ -59,7 +59,7 @@ IsJournal node first file ending.Unwritten = HoldsBeginning node first file ⊎ 
 
 -- ---- the exit status
 
-abbrev pub status_of : Ending → ℕ
+abbrev pub status_of : NodeEnding → ℕ
 status_of (ending.Ended events) = 0
 status_of e = 1
 
@@ -69,22 +69,22 @@ abbrev pub last_line : Result ℕ Unrecorded → List ℕ
 last_line (Ok events) = journal_line events
 last_line (Err fault) = line_of (recorder.reason fault) Untold
 
-abbrev pub ending_of : Result ℕ Unrecorded → Ending
+abbrev pub ending_of : Result ℕ Unrecorded → NodeEnding
 ending_of (Ok events) = ending.Ended events
 ending_of (Err fault) = ending.Stopped fault
 
 -- the last line was written, and the run ends so; or a write failed
-abbrev pub Closes : Result ℕ Unrecorded → Option (List ℕ) → Ending → Option (List ℕ) → Type 0
+abbrev pub Closes : Result ℕ Unrecorded → Option (List ℕ) → NodeEnding → Option (List ℕ) → Type 0
 Closes events before e after =
     ((e ≡ ending_of events) × Appends before after (last_line events))
     ⊎ ((e ≡ ending.Unwritten) × ((part : List ℕ) × Appends before after part))
 
 -- a run of this node ends so, behind some line that tells where it hears
-abbrev pub IsRun : ℕ → Ending → Option (List ℕ) → Option (List ℕ) → Type 0
+abbrev pub IsRun : ℕ → NodeEnding → Option (List ℕ) → Option (List ℕ) → Type 0
 IsRun node e before after = (greeting : List ℕ) × IsWritten node greeting e before after
 
 -- ---- it did not begin
 
 -- a node that does not begin for this fault, which is told unless the output fails
-abbrev pub EndsRefused : StartFault → Ending → Option (List ℕ) → Option (List ℕ) → Type 0
+abbrev pub EndsRefused : StartFault → NodeEnding → Option (List ℕ) → Option (List ℕ) → Type 0
 EndsRefused f e before after = ((e ≡ Refused f) ⊎ (e ≡ Unwritten)) × IsWritten 0 [] e before after

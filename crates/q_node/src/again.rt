@@ -30,7 +30,7 @@ fn look_once<R: Wait, P, J: JournalFile, S: Start>(
     } else {
         None
     };
-    watch.look(own.status(), own.is_mute());
+    watch.look(own.status(), own.ids(), own.is_mute());
     ToSend {
         waiting,
         again: own.again(alloc, process.nodes),

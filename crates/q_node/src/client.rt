@@ -109,57 +109,47 @@ impl<R: Wait + Clock, P: Post, J: JournalFile, S: Start> Serving
     }
 }
 
-/// Whether a call of a stream only waited for long enough.
-fn is_slow(error: &io::Error) -> bool {
-    matches!(
-        error.kind(),
-        ErrorKind::WouldBlock | ErrorKind::TimedOut | ErrorKind::Interrupted
-    )
-}
-
-/// What a client sends. A read fails where the client is silent for too long, and where the node ends.
+/// What a client sends and takes. A read fails where the client is silent for too long, a write where it takes nothing
+/// for too long, and both where the node ends.
 #[derive(Drop)]
-struct Incoming<'p, 'a, 'b, C, R, P, J: JournalFile, S: Start> {
+struct Peer<'p, 'a, 'b, C, R, P, J: JournalFile, S: Start> {
     stream: &'p C,
     process: &'p Process<'a, 'b, R, P, J, S>,
 }
 
-impl<C: Stream, R, P, J: JournalFile, S: Start> Read for Incoming<'_, '_, '_, C, R, P, J, S> {
-    fn read(&mut self, buf: &mut [u8]) -> io::Result<usize> {
-        for _ in 0..SILENCE / PATIENCE {
-            match self.stream.read(buf) {
-                Err(error) if is_slow(&error) => {
-                    if self.process.is_over() {
-                        break;
-                    }
-                }
-                read => return read,
-            }
-        }
-        Err(io::Error::from(ErrorKind::TimedOut))
+impl<C, R, P, J: JournalFile, S: Start> Peer<'_, '_, '_, C, R, P, J, S> {
+    /// Whether a call is made again: it only waited for long enough, and the node goes on.
+    fn may_wait(&self, error: &io::Error) -> bool {
+        let is_slow = matches!(
+            error.kind(),
+            ErrorKind::WouldBlock | ErrorKind::TimedOut | ErrorKind::Interrupted
+        );
+        is_slow && !self.process.is_over()
     }
 }
 
-/// What a client takes. A write fails where the client takes nothing for too long, and where the node ends.
-#[derive(Drop)]
-struct Outgoing<'p, 'a, 'b, C, R, P, J: JournalFile, S: Start> {
-    stream: &'p C,
-    process: &'p Process<'a, 'b, R, P, J, S>,
-}
-
-impl<C: Stream, R, P, J: JournalFile, S: Start> Write for Outgoing<'_, '_, '_, C, R, P, J, S> {
-    fn write(&mut self, buf: &[u8]) -> io::Result<usize> {
-        for _ in 0..DEAFNESS / PATIENCE {
-            match self.stream.write(buf) {
-                Err(error) if is_slow(&error) => {
-                    if self.process.is_over() {
-                        break;
-                    }
-                }
-                written => return written,
+/// A call, made again while the peer may wait, for so many milliseconds.
+macro_rules! patiently {
+    ($calls:lifetime: $peer:expr, $most:expr, $call:expr) => {{
+        $calls: for _ in 0..$most / PATIENCE {
+            match $call {
+                Err(error) if $peer.may_wait(&error) => {}
+                done => return done,
             }
         }
         Err(io::Error::from(ErrorKind::TimedOut))
+    }};
+}
+
+impl<C: Stream, R, P, J: JournalFile, S: Start> Read for Peer<'_, '_, '_, C, R, P, J, S> {
+    fn read(&mut self, buf: &mut [u8]) -> io::Result<usize> {
+        patiently!('reads: self, SILENCE, self.stream.read(buf))
+    }
+}
+
+impl<C: Stream, R, P, J: JournalFile, S: Start> Write for Peer<'_, '_, '_, C, R, P, J, S> {
+    fn write(&mut self, buf: &[u8]) -> io::Result<usize> {
+        patiently!('writes: self, DEAFNESS, self.stream.write(buf))
     }
 
     fn flush(&mut self) -> io::Result<()> {
@@ -182,11 +172,11 @@ pub(crate) fn serve_stream<C: Stream + Drop, R: Wait + Clock, P: Post, J: Journa
         process,
         version: version(process),
     };
-    let mut input = Counted::new(Incoming {
+    let mut input = Counted::new(Peer {
         stream: &stream,
         process,
     });
-    let mut out = Counted::new(Outgoing {
+    let mut out = Counted::new(Peer {
         stream: &stream,
         process,
     });

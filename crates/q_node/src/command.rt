@@ -1,10 +1,11 @@
 //! The command `node`: a node whose cluster's file, door and journal are named by words.
 
-ghost use Rattle.std.specs.Prelude.{◌≡◌};
-ghost use Rattle.q_node.specs.Files.{IsWrittenFile, RunsBytes, RunsNode, RunsText, longest_file};
-ghost use Rattle.q_node.specs.Runs.{IsRun, IsWritten, failures_after};
+ghost use Rattle.std.specs.Prelude.{◌≡◌, ℕ, List, Option, IfErr, IfOk};
+ghost use Rattle.q_node.specs.Files.{IsWrittenFile, RunsNode, longest_file};
+ghost use Rattle.q_node.specs.Runs.{EndsRefused, failures_after};
+ghost use Rattle.q_node.specs.declared.ending.NodeEnding.{NodeEnding as How};
 
-use crate::ending::{Ending, print_refusal};
+use crate::ending::{NodeEnding, print_refusal};
 use crate::fault::StartFault;
 use crate::run::{Setup, run_node};
 use q_board::MOST_RUNNERS;
@@ -118,58 +119,69 @@ where
     R: SystemFiles + Wait + Threads + Clock + Eprint,
     R::File: Send,
 {
-    /// Makes the journal's file, and runs the node.
-    fn run_with_journal<C: BufRead, W: Write, N: Write>(
+    /// The cluster of the file. Why there is none goes to the notes.
+    fn cluster<F: Files, N: Write>(
         &self,
-        file: &ClusterFile,
-        post: &UdpPost,
-        door: &ClientDoor<'_, R>,
-        console: &mut C,
-        out: &mut Counted<W>,
+        files: &mut F,
         notes: &mut N,
-    ) -> Ending
-        ensures written { IsRun self.now.words.now.id result (W.contents out.old.inner) (W.contents out.new.inner) }
-        ensures counted { out.new.failures ≡ failures_after result out.old.failures }
+    ) -> Result<ClusterFile, StartFault>
+        // What the node of that file prints, or the refusal, is what the command prints.
+        ensures read { IfOk result (λ file. (e : How) (before after : Option (List ℕ))
+            → RunsNode file self.now.words.now.id e before after
+            → IsWrittenFile (F.read_gives longest_file) self.now.words.now.file.now self.now.words.now.id
+            files.old files.new e before after) }
+        ensures refused { IfErr result (λ fault. (e : How) (before after : Option (List ℕ))
+            → EndsRefused fault e before after
+            → IsWrittenFile (F.read_gives longest_file) self.now.words.now.file.now self.now.words.now.id
+            files.old files.new e before after) }
     {
-        let words = self.words;
-        let Ok(greeting) = greeting(self.alloc, words, post, door) else {
-            return print_refusal(StartFault::OutOfMemory, out);
+        let name = self.words.file;
+        let bytes = files.read(self.alloc, name, LONGEST_TEXT)?;
+        let Ok(source) = str::from_utf8(bytes.as_slice()) else {
+            let _ = writeln!(notes, "{name}: It is not UTF-8, which text files are.");
+            return Err(StartFault::FileFailed);
         };
-        let setup = Setup {
-            file,
-            id: words.id,
-            runners: words.runners,
-            keeps: words.sync,
-            greeting: greeting.as_str(),
-        };
-        match File::create_new(self.rt, words.journal) {
-            Ok(journal) => {
-                let journal = DiskFile { file: journal };
-                run_node(
-                    self.rt, self.alloc, &setup, post, door, journal, console, out,
-                )
-                .ending
-            }
-            Err(error) => {
-                let name = words.journal;
-                let _ = writeln!(notes, "{name}: {error}");
-                print_refusal(StartFault::NoJournal, out)
+        match read_cluster(self.alloc, source) {
+            Ok(file) => Ok(file),
+            Err(fault) => {
+                let advice = advice(source, fault);
+                let _ = writeln!(notes, "{name}: {advice}");
+                Err(StartFault::Cluster(fault))
             }
         }
     }
 
-    /// Opens the door, runs the node, and closes the door.
-    fn run_with_door<C: BufRead, W: Write, N: Write>(
+    /// The node's socket, which is opened. Why it is not goes to the notes.
+    fn open_post<N: Write>(
         &self,
         file: &ClusterFile,
-        post: &UdpPost,
-        console: &mut C,
-        out: &mut Counted<W>,
         notes: &mut N,
-    ) -> Ending
-        ensures written { IsRun self.now.words.now.id result (W.contents out.old.inner) (W.contents out.new.inner) }
-        ensures counted { out.new.failures ≡ failures_after result out.old.failures }
-    {
+    ) -> Result<UdpPost, StartFault> {
+        let id = self.words.id;
+        let Some(address) = address_of(&file.nodes, id) else {
+            let name = self.words.file;
+            let _ = writeln!(notes, "{name}: It has no node with the id {id}.");
+            return Err(StartFault::NoSuchNode);
+        };
+        if !is_runners(self.words.runners) {
+            return Err(StartFault::BadCount);
+        }
+        let patience = Duration::from_millis(PATIENCE);
+        match UdpPost::open(self.rt, self.alloc, file, id, patience) {
+            Ok(post) => Ok(post),
+            Err(PostFault::OutOfMemory) => Err(StartFault::OutOfMemory),
+            Err(PostFault::Failed | PostFault::NoSuchNode) => {
+                let _ = writeln!(
+                    notes,
+                    "{address}: the address is in use, or not one of this machine's"
+                );
+                Err(StartFault::TransportFailed)
+            }
+        }
+    }
+
+    /// The door, which is opened. Why it is not goes to the notes.
+    fn open_door<N: Write>(&self, notes: &mut N) -> Result<ClientDoor<'_, R>, StartFault> {
         let clients = self.words.clients;
         let address = DoorAddress::of(clients);
         if !is_door(address) {
@@ -177,99 +189,76 @@ where
                 notes,
                 "{clients}: It is no address, as 127.0.0.1:8001, and no path of a socket, which has a slash."
             );
-            return print_refusal(StartFault::TransportFailed, out);
+            return Err(StartFault::TransportFailed);
         }
         match ClientDoor::open(self.rt, address) {
-            Ok(door) => {
-                let ending = self.run_with_journal(file, post, &door, console, out, notes);
-                door.close();
-                ending
-            }
+            Ok(door) => Ok(door),
             Err(error) => {
                 note_unopened(notes, clients, &error);
-                print_refusal(StartFault::TransportFailed, out)
+                Err(StartFault::TransportFailed)
             }
         }
     }
 
-    /// Opens the node's socket, and runs it.
-    fn run_of<C: BufRead, W: Write, N: Write>(
+    /// The journal's file, which is made, and the line that is printed once the node hears. Why there is no file goes
+    /// to the notes.
+    fn begin<N: Write>(
+        &self,
+        post: &UdpPost,
+        door: &ClientDoor<'_, R>,
+        notes: &mut N,
+    ) -> Result<(DiskFile<R::File>, String), StartFault> {
+        let greeting = greeting(self.alloc, self.words, post, door)?;
+        match File::create_new(self.rt, self.words.journal) {
+            Ok(file) => Ok((DiskFile { file }, greeting)),
+            Err(error) => {
+                let name = self.words.journal;
+                let _ = writeln!(notes, "{name}: {error}");
+                Err(StartFault::NoJournal)
+            }
+        }
+    }
+
+    /// Opens what the words name, runs the node, and closes its door.
+    fn run<C: BufRead, W: Write, N: Write>(
         &self,
         file: &ClusterFile,
         console: &mut C,
         out: &mut Counted<W>,
         notes: &mut N,
-    ) -> Ending
-        ensures written { RunsNode file.now self.now.words.now.id result (W.contents out.old.inner) (W.contents out.new.inner) }
+    ) -> NodeEnding
+        ensures written { RunsNode file.now self.now.words.now.id result
+            (W.contents out.old.inner) (W.contents out.new.inner) }
         ensures counted { out.new.failures ≡ failures_after result out.old.failures }
     {
-        let id = self.words.id;
-        let Some(address) = address_of(&file.nodes, id) else {
-            let name = self.words.file;
-            let _ = writeln!(notes, "{name}: It has no node with the id {id}.");
-            return print_refusal(StartFault::NoSuchNode, out);
+        let post = match self.open_post(file, notes) {
+            Ok(post) => post,
+            Err(fault) => return print_refusal(fault, out),
         };
-        if !is_runners(self.words.runners) {
-            return print_refusal(StartFault::BadCount, out);
-        }
-        match UdpPost::open(
-            self.rt,
-            self.alloc,
-            file,
-            id,
-            Duration::from_millis(PATIENCE),
-        ) {
-            Ok(post) => self.run_with_door(file, &post, console, out, notes),
-            Err(PostFault::OutOfMemory) => print_refusal(StartFault::OutOfMemory, out),
-            Err(PostFault::Failed | PostFault::NoSuchNode) => {
-                let _ = writeln!(
-                    notes,
-                    "{address}: the address is in use, or not one of this machine's"
-                );
-                print_refusal(StartFault::TransportFailed, out)
+        let door = match self.open_door(notes) {
+            Ok(door) => door,
+            Err(fault) => return print_refusal(fault, out),
+        };
+        match self.begin(&post, &door, notes) {
+            Ok((journal, greeting)) => {
+                let words = self.words;
+                let setup = Setup {
+                    file,
+                    id: words.id,
+                    runners: words.runners,
+                    keeps: words.sync,
+                    greeting: greeting.as_str(),
+                };
+                let ending = run_node(
+                    self.rt, self.alloc, &setup, &post, &door, journal, console, out,
+                )
+                .ending;
+                door.close();
+                ending
             }
-        }
-    }
-
-    /// Runs the node of the file that a text spells.
-    fn run_text<C: BufRead, W: Write, N: Write>(
-        &self,
-        source: &str,
-        console: &mut C,
-        out: &mut Counted<W>,
-        notes: &mut N,
-    ) -> Ending
-        ensures written { RunsText source.now self.now.words.now.id result (W.contents out.old.inner) (W.contents out.new.inner) }
-        ensures counted { out.new.failures ≡ failures_after result out.old.failures }
-    {
-        match read_cluster(self.alloc, source) {
-            Ok(file) => self.run_of(&file, console, out, notes),
             Err(fault) => {
-                let name = self.words.file;
-                let advice = advice(source, fault);
-                let _ = writeln!(notes, "{name}: {advice}");
-                print_refusal(StartFault::Cluster(fault), out)
-            }
-        }
-    }
-
-    /// The same of bytes, which may be no text.
-    fn run_bytes<C: BufRead, W: Write, N: Write>(
-        &self,
-        bytes: &[u8],
-        console: &mut C,
-        out: &mut Counted<W>,
-        notes: &mut N,
-    ) -> Ending
-        ensures written { RunsBytes bytes.now self.now.words.now.id result (W.contents out.old.inner) (W.contents out.new.inner) }
-        ensures counted { out.new.failures ≡ failures_after result out.old.failures }
-    {
-        match str::from_utf8(bytes) {
-            Ok(source) => self.run_text(source, console, out, notes),
-            Err(_) => {
-                let name = self.words.file;
-                let _ = writeln!(notes, "{name}: It is not UTF-8, which text files are.");
-                print_refusal(StartFault::FileFailed, out)
+                door.close();
+                print_refusal(fault, out)
             }
         }
     }
@@ -287,7 +276,7 @@ pub fn run_file<R, F, C, W, N>(
     console: &mut C,
     out: &mut Counted<W>,
     notes: &mut N,
-) -> Ending
+) -> NodeEnding
 where
     R: Net<Listener = TcpListener, Stream = TcpStream> + Sync,
     R: SystemFiles + Wait + Threads + Clock + Eprint,
@@ -299,11 +288,9 @@ where
     ensures written { IsWrittenFile (F.read_gives longest_file) words.now.file.now words.now.id files.old files.new result (W.contents out.old.inner) (W.contents out.new.inner) }
     ensures counted { out.new.failures ≡ failures_after result out.old.failures }
 {
-    match files.read(alloc, words.file, LONGEST_TEXT) {
-        Ok(bytes) => {
-            let launch = Launch { rt, alloc, words };
-            launch.run_bytes(bytes.as_slice(), console, out, notes)
-        }
-        Err(fault) => print_refusal(StartFault::from(fault), out),
+    let launch = Launch { rt, alloc, words };
+    match launch.cluster(files, notes) {
+        Ok(file) => launch.run(&file, console, out, notes),
+        Err(fault) => print_refusal(fault, out),
     }
 }

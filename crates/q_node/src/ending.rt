@@ -9,7 +9,7 @@ ghost use Rattle.q_outside.specs.Counts.{count_after};
 ghost use Rattle.q_node.specs.Journal.{IsKept};
 ghost use Rattle.q_node.specs.Runs.{Closes, EndsRefused, IsJournal, IsWritten, failures_after, journal_line, status_of};
 ghost use Rattle.q_node.specs.Talks.{Talks, talk_count};
-ghost use Rattle.q_node.specs.declared.ending.Ending.TheVariants.{Refused};
+ghost use Rattle.q_node.specs.declared.ending.NodeEnding.TheVariants.{Refused};
 ghost use Rattle.q_node.specs.declared.fault.StartFault.{StartFault as Fault};
 
 use crate::fault::StartFault;
@@ -21,7 +21,7 @@ use std::io::Write;
 
 /// How the run of a node ended.
 #[derive(Clone, Copy, Debug, PartialEq, Eq)]
-pub enum Ending {
+pub enum NodeEnding {
     /// It was ended at its console, and its whole journal is written.
     Ended {
         /// How many events the journal has.
@@ -36,14 +36,14 @@ pub enum Ending {
     Unwritten,
 }
 
-impl Ending {
+impl NodeEnding {
     /// The exit status: 0 where the node was ended and its journal is whole, and else 1.
     pub fn status(self) -> u8
         ensures { result ≡ status_of self }
     {
         match self {
-            Ending::Ended { .. } => 0,
-            Ending::Stopped(_) | Ending::Refused(_) | Ending::Unwritten => 1,
+            NodeEnding::Ended { .. } => 0,
+            NodeEnding::Stopped(_) | NodeEnding::Refused(_) | NodeEnding::Unwritten => 1,
         }
     }
 }
@@ -62,25 +62,25 @@ fn put_events<W: Write>(out: &mut Counted<W>, events: usize) -> Result<(), Trans
 }
 
 /// Prints the last line of a node that ran, or could not be started.
-fn print_end<W: Write>(events: Result<usize, Unrecorded>, out: &mut Counted<W>) -> Ending
+fn print_end<W: Write>(events: Result<usize, Unrecorded>, out: &mut Counted<W>) -> NodeEnding
     ensures written { Closes events (W.contents out.old.inner) result (W.contents out.new.inner) }
     ensures counted { out.new.failures ≡ failures_after result out.old.failures }
 {
     let (written, ending) = match events {
-        Ok(events) => (put_events(out, events), Ending::Ended { events }),
+        Ok(events) => (put_events(out, events), NodeEnding::Ended { events }),
         Err(fault) => (
             put_line(out, fault.reason(), RefusalPlace::Untold),
-            Ending::Stopped(fault),
+            NodeEnding::Stopped(fault),
         ),
     };
     match written {
         Ok(()) => ending,
-        Err(_) => Ending::Unwritten,
+        Err(_) => NodeEnding::Unwritten,
     }
 }
 
 /// Prints the last line of a node whose threads were not started, or whose journal could not be begun.
-fn close_unstarted<W: Write>(events: Result<usize, Unrecorded>, out: &mut Counted<W>) -> Ending
+fn close_unstarted<W: Write>(events: Result<usize, Unrecorded>, out: &mut Counted<W>) -> NodeEnding
     ensures written { (node : ℕ) (greeting : List ℕ) → IsWritten node greeting result (W.contents out.old.inner) (W.contents out.new.inner) }
     ensures journal { (node : ℕ) (first file : Option (List ℕ)) → IsKept node first file events → IsJournal node first file result }
     ensures begun { (fault : Fault) → result ≡ Refused fault → ⊥ }
@@ -95,7 +95,7 @@ pub fn close<W: Write>(
     talk: Talk,
     events: Result<usize, Unrecorded>,
     out: &mut Counted<W>,
-) -> Ending
+) -> NodeEnding
     ensures written { (node : ℕ) (greeting : List ℕ) (before : Option (List ℕ)) → Talks node greeting before talk (W.contents out.old.inner) → IsWritten node greeting result before (W.contents out.new.inner) }
     ensures journal { (node : ℕ) (first file : Option (List ℕ)) → IsKept node first file events → IsJournal node first file result }
     ensures begun { (fault : Fault) → result ≡ Refused fault → ⊥ }
@@ -104,17 +104,17 @@ pub fn close<W: Write>(
     match talk {
         Talk::Ended => print_end(events, out),
         Talk::Unstarted => close_unstarted(events, out),
-        Talk::Unwritten => Ending::Unwritten,
+        Talk::Unwritten => NodeEnding::Unwritten,
     }
 }
 
 /// Prints why a node does not begin.
-pub fn print_refusal<W: Write>(fault: StartFault, out: &mut Counted<W>) -> Ending
+pub fn print_refusal<W: Write>(fault: StartFault, out: &mut Counted<W>) -> NodeEnding
     ensures written { EndsRefused fault result (W.contents out.old.inner) (W.contents out.new.inner) }
     ensures counted { out.new.failures ≡ failures_after result out.old.failures }
 {
     match put_line(out, fault.reason(), fault.place()) {
-        Ok(()) => Ending::Refused(fault),
-        Err(_) => Ending::Unwritten,
+        Ok(()) => NodeEnding::Refused(fault),
+        Err(_) => NodeEnding::Unwritten,
     }
 }

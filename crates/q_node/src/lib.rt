@@ -33,7 +33,7 @@
 //!
 //! A line of the console is a [`Command`]; what the node says to it, which [`put_said`] writes, is a [`Said`]: its
 //! [`Status`], `ok`, or the line of a refusal. When the run has ended [`close`] writes the last line, by how the
-//! conversation ended ([`Talk`]) and how the journal was written, and answers the [`Ending`], which has the exit
+//! conversation ended ([`Talk`]) and how the journal was written, and answers the [`NodeEnding`], which has the exit
 //! status. A node that does not begin for a [`StartFault`] says so by [`print_refusal`], and nothing else. Over any
 //! writer just these bytes are written, or a write failed, which is counted once; a status is that of the book that it
 //! was made of.
@@ -72,7 +72,7 @@ pub mod worked_own;
 
 pub use command::{NodeWords, run_file};
 pub use console::{Command, Said, put_said};
-pub use ending::{Ending, close, print_refusal};
+pub use ending::{NodeEnding, close, print_refusal};
 pub use fault::StartFault;
 pub use own::{Answered, Ended, Heard, Left, Own};
 pub use run::{NodeRun, Setup, run_node};

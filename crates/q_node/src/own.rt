@@ -1,6 +1,7 @@
 //! What the one lock of a node keeps, and what is done under it.
 
 ghost use Rattle.std.specs.Prelude.{◌≡◌, ◌↔◌, ◌==◌, ℕ, List, [], length, map, Option, option_map, is_some, vec_items, true, false, not, IsTrue};
+ghost use Rattle.std.specs.FinMap as fin;
 ghost use Rattle.std.specs.List.{AllByRecursion};
 ghost use Rattle.sc_msg.specs.declared.message.Message.{Message as Sent};
 ghost use Rattle.q_desk.specs.Desks.{answer_of};
@@ -354,6 +355,13 @@ impl<'b, J: JournalFile, S: Start> Own<'b, J, S> {
         ensures status { result ≡ status_of self.now.book }
     {
         Status::of(self.book())
+    }
+
+    /// How many ids the node's view holds.
+    pub fn ids(&self) -> usize
+        ensures { result ≡ fin.len self.now.book.node.view }
+    {
+        self.kept.held.book.node().view().len()
     }
 
     /// Whether the operation with this tag was begun and has ended, and that is written.

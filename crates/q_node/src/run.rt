@@ -9,10 +9,10 @@ ghost use Rattle.q_node.specs.Faults.{IsUnbegun};
 ghost use Rattle.q_node.specs.Own.{IsOwn};
 ghost use Rattle.q_node.specs.Runs.{IsJournal, IsWritten, failures_after};
 ghost use Rattle.q_node.specs.Talks.{Talks, talk_count};
-ghost use Rattle.q_node.specs.declared.ending.Ending.TheVariants.{Refused};
+ghost use Rattle.q_node.specs.declared.ending.NodeEnding.TheVariants.{Refused};
 ghost use Rattle.q_node.specs.declared.fault.StartFault.{StartFault as Fault};
 
-use crate::ending::{Ending, close, print_refusal};
+use crate::ending::{NodeEnding, close, print_refusal};
 use crate::fault::StartFault;
 use crate::own::{Ended, Own};
 use crate::process::Process;
@@ -54,7 +54,7 @@ pub struct Setup<'f> {
 #[derive(Drop)]
 pub struct NodeRun<J: JournalFile> {
     /// How it ended.
-    pub ending: Ending,
+    pub ending: NodeEnding,
     /// The recorder.
     pub recorder: Recorder<J>,
 }

@@ -3,7 +3,7 @@
 ghost use Rattle.std.specs.Prelude.{ℕ, List, Option};
 ghost use Rattle.q_script.specs.File.{IsFault};
 ghost use Rattle.q_script.specs.declared.fault.ClusterFileFault.TheVariants as cluster_fault;
-ghost use Rattle.q_node.specs.declared.ending.Ending.TheVariants as ending;
+ghost use Rattle.q_node.specs.declared.ending.NodeEnding.TheVariants as ending;
 ghost use Rattle.q_node.specs.declared.fault.StartFault.TheVariants as fault;
 ghost use Rattle.q_node.specs.Files.{RunsText};
 

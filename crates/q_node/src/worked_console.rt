@@ -18,7 +18,7 @@ ghost use Rattle.q_node.specs.Runs.{EndsRefused, IsJournal, IsWritten, journal_l
 ghost use Rattle.q_node.specs.declared.console.Command.TheVariants as command;
 ghost use Rattle.q_node.specs.declared.console.Said.{Said as Told};
 ghost use Rattle.q_node.specs.declared.console.Said.TheVariants as said;
-ghost use Rattle.q_node.specs.declared.ending.Ending.TheVariants as ending;
+ghost use Rattle.q_node.specs.declared.ending.NodeEnding.TheVariants as ending;
 ghost use Rattle.q_node.specs.declared.fault.StartFault.TheVariants as fault;
 
 /// The lines that are printed and read.
