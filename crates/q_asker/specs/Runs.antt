@@ -21,21 +21,21 @@ use Rattle.q_asker.specs.declared.step.Halt.{Halt}
 use Rattle.q_asker.specs.declared.step.Halt.TheVariants.{Lost, Unwritten}
 use Rattle.q_asker.specs.declared.step.LineEnd.{LineEnd}
 use Rattle.q_asker.specs.declared.step.LineEnd.TheVariants as end
-use Rattle.q_asker.specs.declared.ending.Ending.{Ending}
-use Rattle.q_asker.specs.declared.ending.Ending.TheVariants as ending
+use Rattle.q_asker.specs.declared.ending.ClientEnding.{ClientEnding}
+use Rattle.q_asker.specs.declared.ending.ClientEnding.TheVariants as ending
 
 -- ---- how a run ends
 
-abbrev pub status_of : Bool → Ending → ℕ
+abbrev pub status_of : Bool → ClientEnding → ℕ
 status_of strict (ending.Done clean) = if strict && not clean then 1 else 0
 status_of strict e = 1
 
 -- how many calls of the output failed so far, of which this many failed before: one more where it gave up
-abbrev pub failures_after : Ending → ℕ → ℕ
+abbrev pub failures_after : ClientEnding → ℕ → ℕ
 failures_after ending.Unwritten before = one_more before
 failures_after e before = before
 
-abbrev pub failures_halted : Halt → Ending → ℕ → ℕ
+abbrev pub failures_halted : Halt → ClientEnding → ℕ → ℕ
 failures_halted Unwritten e before = before
 failures_halted (Lost fault) e before = failures_after e before
 
@@ -86,7 +86,7 @@ RunsLine l before after (Err h) = Stops (l ∷ []) h before after
 
 -- Lines were run: the steps of each in turn were done; or the first of them were, and the output failed or the
 -- connection did, which is printed last. No line is refused as a script is.
-abbrev pub RunsTo : List ClientLine → Streams → Streams → Ending → Type 0
+abbrev pub RunsTo : List ClientLine → Streams → Streams → ClientEnding → Type 0
 RunsTo lines before after (ending.Done clean) =
     (steps : List Step) × AreOfAll lines steps × Moves steps before after × (clean ≡ all_done steps)
 RunsTo lines before after ending.Lost =
@@ -101,13 +101,13 @@ RunsTo lines before after (ending.Refused r) = ⊥
 -- ---- scripts
 
 -- this refusal is all that is printed; or the output failed
-abbrev pub IsRefusedAlone : Refusal → Ending → Option (List ℕ) → Option (List ℕ) → Type 0
+abbrev pub IsRefusedAlone : Refusal → ClientEnding → Option (List ℕ) → Option (List ℕ) → Type 0
 IsRefusedAlone r (ending.Refused q) before after = (q ≡ r) × Appends before after (refusal_line r)
 IsRefusedAlone r ending.Unwritten before after = TakesPart before after
 IsRefusedAlone r e before after = ⊥
 
 -- The lines that the text spells were run; or the text is refused, and nothing is sent or heard.
-abbrev pub RunsScript : List ℕ → Streams → Streams → Ending → Type 0
+abbrev pub RunsScript : List ℕ → Streams → Streams → ClientEnding → Type 0
 RunsScript source before after e =
     ((lines : List ClientLine) × AreLines source lines × RunsTo lines before after e)
     ⊎ ((f : ScriptFault) × IsFault source f × IsRefusedAlone (refusal.Script f) e before.printed after.printed
@@ -116,24 +116,24 @@ RunsScript source before after e =
 -- ---- scripts over connections that are made
 
 -- what is printed where lines are run over some connection, of whose bytes nothing is known
-abbrev pub RunsOver : List ClientLine → Option (List ℕ) → Option (List ℕ) → Ending → Type 0
+abbrev pub RunsOver : List ClientLine → Option (List ℕ) → Option (List ℕ) → ClientEnding → Type 0
 RunsOver lines before after e =
     (s : Streams) × (t : Streams) × (s.printed ≡ before) × (t.printed ≡ after) × RunsTo lines s t e
 
 -- the same of the lines that a text spells; or the text is refused
-abbrev pub RunsText : List ℕ → Option (List ℕ) → Option (List ℕ) → Ending → Type 0
+abbrev pub RunsText : List ℕ → Option (List ℕ) → Option (List ℕ) → ClientEnding → Type 0
 RunsText source before after e =
     ((lines : List ClientLine) × AreLines source lines × RunsOver lines before after e)
     ⊎ ((f : ScriptFault) × IsFault source f × IsRefusedAlone (refusal.Script f) e before after)
 
 -- the same of bytes that are a text; or they are none
-abbrev pub RunsBytes : List ℕ → Option (List ℕ) → Option (List ℕ) → Ending → Type 0
+abbrev pub RunsBytes : List ℕ → Option (List ℕ) → Option (List ℕ) → ClientEnding → Type 0
 RunsBytes source before after e =
     RunsText source before after e ⊎ (¬ (IsUtf8 source) × IsRefusedAlone refusal.FileFailed e before after)
 
 -- the same of a file, whose bytes are the source; or the file fails, and there is no source
 abbrev pub RunsFile : {F : Type 0} → (F → List ℕ → Result (List ℕ) FileFault → F → Type 0) → List ℕ → F → F
-    → List ℕ → Option (List ℕ) → Option (List ℕ) → Ending → Type 0
+    → List ℕ → Option (List ℕ) → Option (List ℕ) → ClientEnding → Type 0
 RunsFile reads name old new source before after e =
     (reads old name (Ok source) new × RunsBytes source before after e)
     ⊎ ((fault : FileFault) × reads old name (Err fault) new × (source ≡ [])
@@ -174,12 +174,12 @@ Prints text before after (Err (Lost fault)) = ⊥
 Prints text before after (Err Unwritten) = TakesPart before after
 
 -- that the connection failed is printed, or the output failed
-abbrev pub PrintsLost : Ending → Option (List ℕ) → Option (List ℕ) → Type 0
+abbrev pub PrintsLost : ClientEnding → Option (List ℕ) → Option (List ℕ) → Type 0
 PrintsLost ending.Lost before after = Appends before after (line_of reasons.TransportFailed Untold)
 PrintsLost ending.Unwritten before after = TakesPart before after
 PrintsLost e before after = ⊥
 
 -- a run that stopped ends so
-abbrev pub Halts : Halt → Ending → Option (List ℕ) → Option (List ℕ) → Type 0
+abbrev pub Halts : Halt → ClientEnding → Option (List ℕ) → Option (List ℕ) → Type 0
 Halts (Lost fault) e before after = PrintsLost e before after
 Halts Unwritten e before after = (e ≡ ending.Unwritten) × (after ≡ before)

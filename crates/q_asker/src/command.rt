@@ -5,7 +5,7 @@ ghost use Rattle.q_asker.specs.Runs.{RunsBytes, RunsFile, RunsOver, RunsText, fa
 
 use crate::connect::{Both, connect_tcp, connect_unix, is_path};
 use crate::connection::Connection;
-use crate::ending::{Ending, print_refusal};
+use crate::ending::{ClientEnding, print_refusal};
 use crate::notes::note_unconnected;
 use crate::run::{print_lost, run_lines};
 use crate::script::{ClientLine, read_client_script};
@@ -27,7 +27,7 @@ fn run_stream<T: Clock, S: Read + Write + Drop, O: Write, N: Write>(
     source: &str,
     out: &mut Counted<O>,
     notes: &mut N,
-) -> Ending
+) -> ClientEnding
     ensures steps { RunsOver lines.now (O.contents out.old.inner) (O.contents out.new.inner) result }
     ensures counted { out.new.failures ≡ failures_after result out.old.failures }
 {
@@ -55,7 +55,7 @@ fn run_at<T: Net + Clock, O: Write, N: Write>(
     source: &str,
     out: &mut Counted<O>,
     notes: &mut N,
-) -> Ending
+) -> ClientEnding
     ensures steps { RunsOver lines.now (O.contents out.old.inner) (O.contents out.new.inner) result }
     ensures counted { out.new.failures ≡ failures_after result out.old.failures }
 {
@@ -77,7 +77,7 @@ pub fn run_text<T: Net + Clock, O: Write, N: Write>(
     source: &str,
     out: &mut Counted<O>,
     notes: &mut N,
-) -> Ending
+) -> ClientEnding
     ensures steps { RunsText source.now (O.contents out.old.inner) (O.contents out.new.inner) result }
     ensures counted { out.new.failures ≡ failures_after result out.old.failures }
 {
@@ -95,7 +95,7 @@ fn run_bytes<T: Net + Clock, O: Write, N: Write>(
     bytes: &[u8],
     out: &mut Counted<O>,
     notes: &mut N,
-) -> Ending
+) -> ClientEnding
     ensures steps { RunsBytes bytes.now (O.contents out.old.inner) (O.contents out.new.inner) result }
     ensures counted { out.new.failures ≡ failures_after result out.old.failures }
 {
@@ -109,7 +109,7 @@ fn run_bytes<T: Net + Clock, O: Write, N: Write>(
 #[derive(Drop)]
 pub struct FileRun {
     /// How it ended.
-    pub ending: Ending,
+    pub ending: ClientEnding,
     /// The bytes of the file; none where it failed.
     pub source: Vec<u8>,
 }

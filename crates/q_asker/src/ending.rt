@@ -9,7 +9,7 @@ use std::io::Write;
 
 /// How a run ended.
 #[derive(Clone, Copy)]
-pub enum Ending {
+pub enum ClientEnding {
     /// All lines were done.
     Done {
         /// No line was refused or is unanswered.
@@ -23,25 +23,28 @@ pub enum Ending {
     Unwritten,
 }
 
-impl Ending {
+impl ClientEnding {
     /// The exit status. A strict run wants that no line was refused or is unanswered.
     pub fn status(self, strict: bool) -> u8
         ensures { result ≡ status_of strict self }
     {
         match self {
-            Ending::Done { clean } if clean || !strict => 0,
-            Ending::Done { .. } | Ending::Refused(_) | Ending::Lost | Ending::Unwritten => 1,
+            ClientEnding::Done { clean } if clean || !strict => 0,
+            ClientEnding::Done { .. }
+            | ClientEnding::Refused(_)
+            | ClientEnding::Lost
+            | ClientEnding::Unwritten => 1,
         }
     }
 }
 
 /// Prints the refusal of a script, with which a run ends.
-pub fn print_refusal<O: Write>(refusal: Refusal, out: &mut Counted<O>) -> Ending
+pub fn print_refusal<O: Write>(refusal: Refusal, out: &mut Counted<O>) -> ClientEnding
     ensures written { IsRefusedAlone refusal result (O.contents out.old.inner) (O.contents out.new.inner) }
     ensures counted { out.new.failures ≡ failures_after result out.old.failures }
 {
     match put_refusal(out, &refusal) {
-        Ok(()) => Ending::Refused(refusal),
-        Err(_) => Ending::Unwritten,
+        Ok(()) => ClientEnding::Refused(refusal),
+        Err(_) => ClientEnding::Unwritten,
     }
 }

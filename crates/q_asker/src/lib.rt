@@ -48,7 +48,7 @@ pub mod worked;
 pub use bytes::request_bytes;
 pub use command::{FileRun, run_file, run_text};
 pub use connection::{Connection, ExchangeFault, exchange};
-pub use ending::{Ending, print_refusal};
+pub use ending::{ClientEnding, print_refusal};
 pub use making::{program_number, registration, storing};
 pub use replies::{ReplyKind, expected, read_reply, reason_of};
 pub use run::run_client;

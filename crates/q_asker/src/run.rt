@@ -6,7 +6,7 @@ ghost use Rattle.q_asker.specs.Runs.{failures_after, failures_halted, is_done_en
 ghost use Rattle.q_asker.specs.Steps.{streams};
 
 use crate::connection::Connection;
-use crate::ending::{Ending, print_refusal};
+use crate::ending::{ClientEnding, print_refusal};
 use crate::line::run_line;
 use crate::notes::{note_line, note_lost};
 use crate::script::{ClientLine, read_client_script};
@@ -19,18 +19,23 @@ use std::io::{Read, Write};
 use std::time::Clock;
 
 /// Prints that the connection failed.
-pub(crate) fn print_lost<O: Write>(out: &mut Counted<O>) -> Ending
+pub(crate) fn print_lost<O: Write>(out: &mut Counted<O>) -> ClientEnding
     ensures written { PrintsLost result (O.contents out.old.inner) (O.contents out.new.inner) }
     ensures counted { out.new.failures ≡ failures_after result out.old.failures }
 {
     match put_line(out, Reason::TransportFailed, RefusalPlace::Untold) {
-        Ok(()) => Ending::Lost,
-        Err(_) => Ending::Unwritten,
+        Ok(()) => ClientEnding::Lost,
+        Err(_) => ClientEnding::Unwritten,
     }
 }
 
 /// How a run ends that does not come to its end, but to a line with this number.
-fn halt<O: Write, N: Write>(halt: Halt, number: u64, out: &mut Counted<O>, notes: &mut N) -> Ending
+fn halt<O: Write, N: Write>(
+    halt: Halt,
+    number: u64,
+    out: &mut Counted<O>,
+    notes: &mut N,
+) -> ClientEnding
     ensures written { Halts halt result (O.contents out.old.inner) (O.contents out.new.inner) }
     ensures counted { out.new.failures ≡ failures_halted halt result out.old.failures }
 {
@@ -39,7 +44,7 @@ fn halt<O: Write, N: Write>(halt: Halt, number: u64, out: &mut Counted<O>, notes
             note_lost(notes, number, fault);
             print_lost(out)
         }
-        Halt::Unwritten => Ending::Unwritten,
+        Halt::Unwritten => ClientEnding::Unwritten,
     }
 }
 
@@ -62,7 +67,7 @@ pub(crate) fn run_lines<T: Clock, R: Read, W: Write, O: Write, N: Write>(
     connection: &mut Connection<R, W>,
     out: &mut Counted<O>,
     notes: &mut N,
-) -> Ending
+) -> ClientEnding
     ensures steps { RunsTo lines.now
         (streams R.remaining W.contents O.contents connection.old out.old)
         (streams R.remaining W.contents O.contents connection.new out.new) result }
@@ -82,7 +87,7 @@ pub(crate) fn run_lines<T: Clock, R: Read, W: Write, O: Write, N: Write>(
             Err(halted) => return halt(halted, number, out, notes),
         }
     }
-    Ending::Done { clean }
+    ClientEnding::Done { clean }
 }
 
 /// Runs the script that a text spells over a connection: makes the requests of its lines in turn, and prints what the
@@ -96,7 +101,7 @@ pub fn run_client<T: Clock, R: Read, W: Write, O: Write, N: Write>(
     connection: &mut Connection<R, W>,
     out: &mut Counted<O>,
     notes: &mut N,
-) -> Ending
+) -> ClientEnding
     ensures steps { RunsScript source.now
         (streams R.remaining W.contents O.contents connection.old out.old)
         (streams R.remaining W.contents O.contents connection.new out.new) result }

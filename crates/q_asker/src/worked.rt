@@ -14,7 +14,7 @@ ghost use Rattle.q_asker.specs.Replies.{CanBe, expected};
 ghost use Rattle.q_asker.specs.Runs.{IsRefusedAlone, PrintsLost, status_of};
 ghost use Rattle.q_asker.specs.Script.{AreLines, IsFault, SpellsLine};
 ghost use Rattle.q_asker.specs.Steps.{AreOf, Exchanged, GaveUp, StepTells, Tells, all_done, heard_by, most_looks, sent_by};
-ghost use Rattle.q_asker.specs.declared.ending.Ending.TheVariants as ending;
+ghost use Rattle.q_asker.specs.declared.ending.ClientEnding.TheVariants as ending;
 ghost use Rattle.q_asker.specs.declared.replies.ReplyKind.TheVariants as kind;
 ghost use Rattle.q_asker.specs.declared.script.ClientLine.TheVariants as line;
 

@@ -3,7 +3,7 @@
 ghost use Rattle.std.specs.Prelude.{◌≡◌, All};
 ghost use Rattle.q_board.specs.BoardId.{board_id};
 
-use crate::step::Outcome;
+use crate::step::StepOutcome;
 use q_board::{AskerSeat, Board, ROW, pump_once};
 use q_book::Book;
 use q_session::{Done, Job};
@@ -38,38 +38,38 @@ pub fn askers(alloc: Global, board: &Board, seats: Vec<AskerSeat>) -> Option<Vec
 }
 
 /// Records a result: its query.
-fn post(book: &mut Book, done: &Done) -> Outcome {
+fn post(book: &mut Book, done: &Done) -> StepOutcome {
     match book.post(done) {
-        Ok(()) => Outcome::Query(done.job().query()),
-        Err(reason) => Outcome::Refused(reason.number()),
+        Ok(()) => StepOutcome::Query(done.job().query()),
+        Err(reason) => StepOutcome::Refused(reason.number()),
     }
 }
 
 impl Asker<'_> {
     /// How many results the pump records, or with which number it is refused.
-    pub fn pump(&mut self, book: &mut Book) -> Outcome {
+    pub fn pump(&mut self, book: &mut Book) -> StepOutcome {
         match pump_once(self.board, &mut self.seat, book) {
-            Ok(posted) => Outcome::Count(posted.into()),
-            Err(reason) => Outcome::Refused(reason.number()),
+            Ok(posted) => StepOutcome::Count(posted.into()),
+            Err(reason) => StepOutcome::Refused(reason.number()),
         }
     }
 
     /// Offers a job: its query.
-    fn offer_job(&mut self, job: Job) -> Outcome {
+    fn offer_job(&mut self, job: Job) -> StepOutcome {
         let query = job.query();
         let offered = self.board.offer(&mut self.seat, job);
         match &offered {
-            Ok(_) => Outcome::Query(query),
-            Err((fault, job)) => Outcome::Back(fault.reason().number(), job.query()),
+            Ok(_) => StepOutcome::Query(query),
+            Err((fault, job)) => StepOutcome::Back(fault.reason().number(), job.query()),
         }
     }
 
     /// Hands out the next job and offers it: its query.
-    fn offer(&mut self, book: &mut Book) -> Outcome {
+    fn offer(&mut self, book: &mut Book) -> StepOutcome {
         match book.hand_out() {
             Ok(Some(job)) => self.offer_job(job),
-            Ok(None) => Outcome::Nothing,
-            Err(reason) => Outcome::Refused(reason.number()),
+            Ok(None) => StepOutcome::Nothing,
+            Err(reason) => StepOutcome::Refused(reason.number()),
         }
     }
 
@@ -85,16 +85,16 @@ impl Asker<'_> {
     }
 
     /// Records the result at a place of the row: its query.
-    fn receive(&mut self, book: &mut Book, place: usize) -> Outcome {
+    fn receive(&mut self, book: &mut Book, place: usize) -> StepOutcome {
         let polled = self.poll(place);
         match &polled {
             Some(done) => post(book, done),
-            None => Outcome::Nothing,
+            None => StepOutcome::Nothing,
         }
     }
 
     /// Does a step of the asker.
-    pub fn step(&mut self, book: &mut Book, word: &str, place: usize) -> Outcome {
+    pub fn step(&mut self, book: &mut Book, word: &str, place: usize) -> StepOutcome {
         match word {
             "pump" => self.pump(book),
             "offer" => self.offer(book),

@@ -9,7 +9,7 @@ use crate::gate::holds_none_up;
 use crate::many::right_answers;
 use crate::muster::musters;
 use crate::runner::{Runner, runners};
-use crate::step::Outcome;
+use crate::step::StepOutcome;
 use q_board::{AskerSeat, Board, RunnerSeat};
 use q_script::number;
 use sc_msg::Version;
@@ -125,7 +125,7 @@ impl Cases<'_> {
         rt: &R,
         word: &str,
         rest: &str,
-    ) -> Outcome {
+    ) -> StepOutcome {
         let (first, rest) = leading(rest);
         let (second, rest) = leading(rest);
         let third = number(rest).unwrap_or(0);
@@ -141,27 +141,27 @@ impl Cases<'_> {
     }
 
     /// Does a step of a runner, which is counted from 1.
-    fn runner_step(&mut self, word: &str, number: u64, claims: u64) -> Outcome {
+    fn runner_step(&mut self, word: &str, number: u64, claims: u64) -> StepOutcome {
         match self.runners.get_mut((number as usize).wrapping_sub(1)) {
             Some(runner) if word == "run" => runner.run(),
             Some(runner) => runner.give_back(claims),
-            None => Outcome::Nothing,
+            None => StepOutcome::Nothing,
         }
     }
 
     /// Does a step of the asker.
-    fn asker_step(&mut self, word: &str, place: u64) -> Outcome {
+    fn asker_step(&mut self, word: &str, place: u64) -> StepOutcome {
         match (&mut self.founder, self.askers.first_mut()) {
             (Some(founder), Some(asker)) => asker.step(&mut founder.book, word, place as usize),
-            _ => Outcome::Nothing,
+            _ => StepOutcome::Nothing,
         }
     }
 
     /// Does a step of the book.
-    fn book_step(&mut self, word: &str) -> Outcome {
+    fn book_step(&mut self, word: &str) -> StepOutcome {
         match &mut self.founder {
             Some(founder) => founder.step(word),
-            None => Outcome::Nothing,
+            None => StepOutcome::Nothing,
         }
     }
 

@@ -1,6 +1,6 @@
 //! A founder that is alone, with its book.
 
-use crate::step::Outcome;
+use crate::step::StepOutcome;
 use crate::stream::{Input, Output};
 use bq_frame::Block;
 use q_book::Book;
@@ -163,30 +163,30 @@ impl Founder {
     }
 
     /// Does a step of the book.
-    pub fn step(&mut self, word: &str) -> Outcome {
+    pub fn step(&mut self, word: &str) -> StepOutcome {
         match word {
-            "settle" => Outcome::of(self.settle()),
-            "answer" => Outcome::Count(self.answer()),
+            "settle" => StepOutcome::of(self.settle()),
+            "answer" => StepOutcome::Count(self.answer()),
             "leave" => self.leave(),
             "room" => self.room(),
-            "events" => Outcome::Count(self.book.events() as u64),
-            _ => Outcome::Nothing,
+            "events" => StepOutcome::Count(self.book.events() as u64),
+            _ => StepOutcome::Nothing,
         }
     }
 
     /// Leaves for good. Nothing hears of it.
-    fn leave(&mut self) -> Outcome {
+    fn leave(&mut self) -> StepOutcome {
         match self.book.leave() {
-            Ok(_) => Outcome::Done,
-            Err(reason) => Outcome::Refused(reason.number()),
+            Ok(_) => StepOutcome::Done,
+            Err(reason) => StepOutcome::Refused(reason.number()),
         }
     }
 
     /// Whether there is room for the answer of a query.
-    fn room(&self) -> Outcome {
+    fn room(&self) -> StepOutcome {
         match self.book.room_for_post() {
-            Ok(()) => Outcome::Done,
-            Err(reason) => Outcome::Refused(reason.number()),
+            Ok(()) => StepOutcome::Done,
+            Err(reason) => StepOutcome::Refused(reason.number()),
         }
     }
 

@@ -3,7 +3,7 @@
 use crate::asker::Asker;
 use crate::founder::Founder;
 use crate::requests::furnished;
-use crate::step::Outcome;
+use crate::step::StepOutcome;
 use crate::trial::{Trial, passes_with};
 use q_board::Gate;
 use std::alloc::Global;
@@ -132,7 +132,7 @@ pub fn holds_none_up<R: Wait + Threads + Clock + Sync>(
     alloc: Global,
     runners: usize,
     looks: u64,
-) -> Outcome {
+) -> StepOutcome {
     let signs = Signs {
         began: AtomicBool::new(false),
         answered: AtomicBool::new(false),

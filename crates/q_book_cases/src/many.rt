@@ -6,7 +6,7 @@ ghost use Rattle.q_board.specs.BoardId.{board_id};
 use crate::asker::{Asker, askers};
 use crate::founder::Founder;
 use crate::requests::furnished;
-use crate::step::Outcome;
+use crate::step::StepOutcome;
 use q_board::{Board, Open, RunnerSeat, with_runners};
 use std::alloc::Global;
 use std::sync::Wait;
@@ -33,7 +33,7 @@ fn pump_all(asker: &mut Asker<'_>, founder: &mut Founder, queries: u64) -> bool 
     let mut posted: u64 = 0;
     for _ in 0..PUMPS {
         match asker.pump(&mut founder.book) {
-            Outcome::Count(more) => posted = posted.saturating_add(more),
+            StepOutcome::Count(more) => posted = posted.saturating_add(more),
             _ => return false,
         }
         if posted >= queries {
@@ -113,7 +113,7 @@ fn right_among<R: Wait + Threads + Sync>(
     askers: Vec<Asker<'_>>,
     runners: Vec<RunnerSeat>,
     queries: u64,
-) -> Outcome
+) -> StepOutcome
     requires { All (λ s. s.table ≡ board_id board.now) runners.items }
 {
     let right = AtomicU64::new(0);
@@ -122,8 +122,8 @@ fn right_among<R: Wait + Threads + Sync>(
         ask_in_threads(rt, alloc, askers, queries, right)
     });
     match all {
-        Ok(true) => Outcome::Count(right.load(SeqCst)),
-        Ok(false) | Err(_) => Outcome::Nothing,
+        Ok(true) => StepOutcome::Count(right.load(SeqCst)),
+        Ok(false) | Err(_) => StepOutcome::Nothing,
     }
 }
 
@@ -135,12 +135,12 @@ pub fn right_answers<R: Wait + Threads + Sync>(
     askers_count: usize,
     runners: usize,
     queries: u64,
-) -> Outcome {
+) -> StepOutcome {
     match Board::open(alloc, askers_count, runners) {
         Ok((board, seats, runners)) => match askers(alloc, &board, seats) {
             Some(askers) => right_among(rt, alloc, &board, askers, runners, queries),
-            None => Outcome::Nothing,
+            None => StepOutcome::Nothing,
         },
-        Err(fault) => Outcome::Refused(fault.reason().number()),
+        Err(fault) => StepOutcome::Refused(fault.reason().number()),
     }
 }

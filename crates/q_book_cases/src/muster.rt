@@ -3,7 +3,7 @@
 use crate::asker::Asker;
 use crate::gate::NAP_MICROS;
 use crate::many::ask_all;
-use crate::step::Outcome;
+use crate::step::StepOutcome;
 use crate::trial::{Trial, passes_with};
 use q_board::Gate;
 use std::alloc::Global;
@@ -87,7 +87,7 @@ pub fn musters<R: Wait + Threads + Clock + Sync>(
     alloc: Global,
     runners: usize,
     looks: u64,
-) -> Outcome {
+) -> StepOutcome {
     let tally = Tally {
         entered: AtomicU64::new(0),
         left: AtomicU64::new(0),

@@ -3,7 +3,7 @@
 ghost use Rattle.std.specs.Prelude.{◌≡◌, All};
 ghost use Rattle.q_board.specs.BoardId.{board_id};
 
-use crate::step::Outcome;
+use crate::step::StepOutcome;
 use bq_frame::Block;
 use q_board::{Board, Open, RunnerSeat, run_some};
 use std::alloc::Global;
@@ -45,9 +45,9 @@ pub fn runners(alloc: Global, board: &Board, seats: Vec<RunnerSeat>) -> Option<V
 
 impl Runner<'_> {
     /// Looks at eight slots, and runs each job that it claims: how many.
-    pub fn run(&mut self) -> Outcome {
+    pub fn run(&mut self) -> StepOutcome {
         let ran = run_some(self.board, &mut self.seat, &mut self.block, &Open, LOOKS);
-        Outcome::Count(ran.into())
+        StepOutcome::Count(ran.into())
     }
 
     /// Looks at the next slot, and gives its job back: whether there was one.
@@ -63,13 +63,13 @@ impl Runner<'_> {
     }
 
     /// Gives back the job of each of its next claims, so many: how many. It looks at eight slots for each.
-    pub fn give_back(&mut self, claims: u64) -> Outcome {
+    pub fn give_back(&mut self, claims: u64) -> StepOutcome {
         let mut given = 0;
         for _ in 0..claims.saturating_mul(LOOKS.into()) {
             if given < claims && self.give_next_back() {
                 given += 1;
             }
         }
-        Outcome::Count(given)
+        StepOutcome::Count(given)
     }
 }

@@ -4,7 +4,7 @@ use std::fmt;
 
 /// What a step comes to.
 #[derive(Clone, Copy)]
-pub enum Outcome {
+pub enum StepOutcome {
     /// It was done.
     Done,
     /// It was tried, and was not done.
@@ -21,32 +21,35 @@ pub enum Outcome {
     Back(u8, usize),
 }
 
-impl Outcome {
+impl StepOutcome {
     /// Done where this is so, else failed.
-    pub fn of(is_done: bool) -> Outcome {
+    pub fn of(is_done: bool) -> StepOutcome {
         if is_done {
-            Outcome::Done
+            StepOutcome::Done
         } else {
-            Outcome::Failed
+            StepOutcome::Failed
         }
     }
 
     /// Whether it is a number of jobs or results.
     pub fn is_count(self) -> bool {
-        matches!(self, Outcome::Count(_))
+        matches!(self, StepOutcome::Count(_))
     }
 }
 
-impl fmt::Display for Outcome {
+impl fmt::Display for StepOutcome {
     fn fmt<W: fmt::Write>(&self, f: &mut fmt::Formatter<W>) -> fmt::Result {
         match *self {
-            Outcome::Done => f.write_str("done"),
-            Outcome::Failed => f.write_str("failed"),
-            Outcome::Nothing => f.write_str("nothing"),
-            Outcome::Count(count) => write!(f, "{count}"),
-            Outcome::Query(query) => write!(f, "query {query}"),
-            Outcome::Refused(reason) => write!(f, "refused {reason}"),
-            Outcome::Back(reason, query) => write!(f, "refused {reason}, query {query} came back"),
+            StepOutcome::Done => f.write_str("done"),
+            StepOutcome::Failed => f.write_str("failed"),
+            StepOutcome::Nothing => f.write_str("nothing"),
+            StepOutcome::Count(count) => write!(f, "{count}"),
+            StepOutcome::Query(query) => write!(f, "query {query}"),
+            StepOutcome::Refused(reason) => write!(f, "refused {reason}"),
+            StepOutcome::Back(reason, query) => write!(
+                f,
+                "refused {reason}, query {query} came back"
+            ),
         }
     }
 }

@@ -4,7 +4,7 @@ ghost use Rattle.std.specs.Prelude.{◌≡◌, All};
 ghost use Rattle.q_board.specs.BoardId.{board_id};
 
 use crate::asker::{Asker, askers};
-use crate::step::Outcome;
+use crate::step::StepOutcome;
 use q_board::{Board, Gate, RunnerSeat, with_runners};
 use std::alloc::Global;
 use std::sync::Wait;
@@ -48,12 +48,12 @@ pub fn passes_with<R: Wait + Threads + Sync, T: Trial>(
     alloc: Global,
     runners: usize,
     trial: &T,
-) -> Outcome {
+) -> StepOutcome {
     match Board::open(alloc, 1, runners) {
         Ok((board, seats, runners)) => match askers(alloc, &board, seats) {
-            Some(askers) => Outcome::of(passes(rt, alloc, &board, askers, runners, trial)),
-            None => Outcome::Nothing,
+            Some(askers) => StepOutcome::of(passes(rt, alloc, &board, askers, runners, trial)),
+            None => StepOutcome::Nothing,
         },
-        Err(fault) => Outcome::Refused(fault.reason().number()),
+        Err(fault) => StepOutcome::Refused(fault.reason().number()),
     }
 }

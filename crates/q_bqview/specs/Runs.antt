@@ -7,6 +7,7 @@ use Rattle.q_sim.specs.Refusal.{refusal_line}
 use Rattle.q_sim.specs.Simulates.{Writing}
 use Rattle.q_sim.specs.declared.refusal.Refusal.TheVariants as refusal
 use Rattle.q_outside.specs.Counts.{one_more}
+use Rattle.q_outside.specs.declared.counted.Counted.{Counted}
 use Rattle.q_command.specs.Words.{Reads, TellsUngiven, exit_status}
 use Rattle.q_command.specs.declared.words.FileCommand.{FileCommand}
 use Rattle.q_command.specs.declared.words.Wanted.{Wanted}
@@ -14,21 +15,25 @@ use Rattle.q_command.specs.declared.words.Wanted.TheVariants as wanted
 use Rattle.q_command.specs.declared.words.WordsFault.{WordsFault}
 use Rattle.q_command.specs.declared.words.WordsFault.TheVariants.{Help, OutOfMemory}
 use Rattle.q_asker.specs.Runs as asker
-use Rattle.q_asker.specs.declared.ending.Ending as asker_ending
+use Rattle.q_asker.specs.declared.ending.ClientEnding.{ClientEnding}
 use Rattle.q_command.specs.Perform as command
-use Rattle.q_command.specs.declared.perform.Outcome.{Outcome}
+use Rattle.q_command.specs.declared.perform.CommandEnding.{CommandEnding}
 use Rattle.q_command.specs.JournalFiles as gathered
-use Rattle.q_command.specs.declared.gathered_ending.Ending as gathered_ending
+use Rattle.q_command.specs.declared.gathered_ending.GatherEnding.{GatherEnding}
 use Rattle.q_nodes.specs.Runs as nodes
 use Rattle.q_node.specs.Files as node_files
 use Rattle.q_node.specs.Runs as node
-use Rattle.q_node.specs.declared.ending.Ending as node_ending
-use Rattle.q_nodes.specs.declared.ending.Ending.{Ending}
+use Rattle.q_node.specs.declared.ending.NodeEnding.{NodeEnding}
+use Rattle.q_nodes.specs.declared.ending.ClusterEnding.{ClusterEnding}
 
 -- a standard output: what it took so far, where that is known, and how many of its calls failed
 pub record Output : Type 0 where
   pub taken : Option (List ℕ)
   pub failures : ℕ
+
+-- a counted writer as an output, with what such a writer took so far
+abbrev pub output_of : {W : Type 0} → (W → Option (List ℕ)) → Counted W → Output
+output_of contents out = record { taken = contents out.inner; failures = out.failures }
 
 -- ---- words that ask for no command
 
@@ -55,31 +60,31 @@ module _ {F : Type 0} (reads : Reading F) (writes : Writing F) where
   -- a command over files comes to an end of its own, which has this exit status
   abbrev pub CarriesOut : FileCommand → F → Output → ℕ → F → Output → Type 0
   CarriesOut line old before status new after =
-      (outcome : Outcome) × command.Ends reads writes line old before.taken outcome new after.taken
-      × (status ≡ command.status_of outcome) × (after.failures ≡ command.failures_after outcome before.failures)
+      (ending : CommandEnding) × command.Ends reads writes line old before.taken ending new after.taken
+      × (status ≡ command.status_of ending) × (after.failures ≡ command.failures_after ending before.failures)
 
   -- so does a run of the script in the file of this name by threads, which is strict or not
   abbrev pub RunsNodes : List ℕ → Bool → F → Output → ℕ → F → Output → Type 0
   RunsNodes name strict old before status new after =
-      (ending : Ending) × (source : List ℕ) × nodes.IsWrittenFile (reads command.longest_text) name old new source ending before.taken after.taken
+      (ending : ClusterEnding) × (source : List ℕ) × nodes.IsWrittenFile (reads command.longest_text) name old new source ending before.taken after.taken
       × (status ≡ nodes.status_of strict ending) × (after.failures ≡ nodes.failures_after ending before.failures)
 
   -- so does the gathering of the journals in the files of these names, with where operations meet or without
   abbrev pub Gathers : List (List ℕ) → Bool → F → Output → ℕ → F → Output → Type 0
   Gathers names pairs old before status new after =
-      (ending : gathered_ending.Ending) × gathered.IsWritten (reads gathered.longest_journal) names pairs old before.taken ending new after.taken
+      (ending : GatherEnding) × gathered.IsWritten (reads gathered.longest_journal) names pairs old before.taken ending new after.taken
       × (status ≡ gathered.status_of ending) × (after.failures ≡ gathered.failures_after ending before.failures)
 
   -- so does a run of the script in the file of this name over a connection with a node, which is strict or not
   abbrev pub RunsClient : List ℕ → Bool → F → Output → ℕ → F → Output → Type 0
   RunsClient name strict old before status new after =
-      (ending : asker_ending.Ending) × (source : List ℕ) × asker.RunsFile (reads asker.longest_script) name old new source before.taken after.taken ending
+      (ending : ClientEnding) × (source : List ℕ) × asker.RunsFile (reads asker.longest_script) name old new source before.taken after.taken ending
       × (status ≡ asker.status_of strict ending) × (after.failures ≡ asker.failures_after ending before.failures)
 
   -- so does a run of the node of this id by itself, whose cluster is in the file of this name
   abbrev pub RunsApart : List ℕ → ℕ → F → Output → ℕ → F → Output → Type 0
   RunsApart name id old before status new after =
-      (ending : node_ending.Ending) × node_files.IsWrittenFile (reads node_files.longest_file) name id old new ending before.taken after.taken
+      (ending : NodeEnding) × node_files.IsWrittenFile (reads node_files.longest_file) name id old new ending before.taken after.taken
       × (status ≡ node.status_of ending) × (after.failures ≡ node.failures_after ending before.failures)
 
   -- what is wanted is done

@@ -3,15 +3,15 @@
 ghost use Rattle.std.specs.Prelude.{◌≡◌, ◌⊎◌, ℕ, List, IfOk, IfErr, map, string_bytes};
 ghost use Rattle.std.specs.Vec.Iter.{into_iter_items};
 ghost use Rattle.q_command.specs.Words.{exit_status};
-ghost use Rattle.q_bqview.specs.Runs.{CarriesOut, Does, Explains, Gathers, IsUngiven, Puts, PutsMemory, Runs, RunsApart, RunsClient, RunsNodes};
+ghost use Rattle.q_bqview.specs.Runs.{CarriesOut, Does, Explains, Gathers, IsUngiven, Puts, PutsMemory, Runs, RunsApart, RunsClient, RunsNodes, output_of};
 
 use crate::client::client_advice;
-use q_asker::Ending as ClientEnding;
+use q_asker::ClientEnding;
 use q_command::{
     Denied, FileCommand, NodeCommand, Wanted, WordsFault, carry_out, gather_files, given_words,
     nodes_advice, read_words,
 };
-use q_nodes::{ClusterRunFault, Ending, FileRun, run_file};
+use q_nodes::{ClusterEnding, ClusterRunFault, FileRun, run_file};
 use q_outside::{Counted, Files};
 use q_sim::{Refusal, put_refusal};
 use std::alloc::{AllocError, Global};
@@ -29,9 +29,7 @@ use std::time::Clock;
 
 /// Writes bytes: the exit status that is wanted, or 1 where the writer failed.
 fn put<W: Write>(out: &mut Counted<W>, bytes: &[u8], wanted: u8) -> u8
-    ensures { Puts bytes.now wanted
-        (record { taken = W.contents out.old.inner; failures = out.old.failures }) result
-        (record { taken = W.contents out.new.inner; failures = out.new.failures }) }
+    ensures { Puts bytes.now wanted (output_of W.contents out.old) result (output_of W.contents out.new) }
 {
     match out.put(bytes) {
         Ok(()) => wanted,
@@ -41,9 +39,7 @@ fn put<W: Write>(out: &mut Counted<W>, bytes: &[u8], wanted: u8) -> u8
 
 /// Writes the refusal for want of memory, and takes none: the exit status.
 fn put_memory<W: Write>(out: &mut Counted<W>) -> u8
-    ensures { PutsMemory
-        (record { taken = W.contents out.old.inner; failures = out.old.failures }) result
-        (record { taken = W.contents out.new.inner; failures = out.new.failures }) }
+    ensures { PutsMemory (output_of W.contents out.old) result (output_of W.contents out.new) }
 {
     match put_refusal(out, &Refusal::OutOfMemory) {
         Ok(()) => 1,
@@ -58,12 +54,8 @@ fn text_of(alloc: Global, fault: &WordsFault<'_>) -> Result<String, AllocError> 
 
 /// Writes the help, whose text needs memory: the exit status.
 fn put_help<W: Write>(alloc: Global, fault: &WordsFault<'_>, out: &mut Counted<W>) -> u8
-    ensures { ((text : List ℕ) × Puts text 0
-        (record { taken = W.contents out.old.inner; failures = out.old.failures }) result
-        (record { taken = W.contents out.new.inner; failures = out.new.failures }))
-        ⊎ PutsMemory
-        (record { taken = W.contents out.old.inner; failures = out.old.failures }) result
-        (record { taken = W.contents out.new.inner; failures = out.new.failures }) }
+    ensures { ((text : List ℕ) × Puts text 0 (output_of W.contents out.old) result (output_of W.contents out.new))
+        ⊎ PutsMemory (output_of W.contents out.old) result (output_of W.contents out.new) }
 {
     match text_of(alloc, fault) {
         Ok(text) => put(out, text.as_bytes(), 0),
@@ -86,9 +78,7 @@ fn tell_fault<W: Write, N: Write>(
     out: &mut Counted<W>,
     notes: &mut N,
 ) -> u8
-    ensures { Explains fault.now
-        (record { taken = W.contents out.old.inner; failures = out.old.failures }) result
-        (record { taken = W.contents out.new.inner; failures = out.new.failures }) }
+    ensures { Explains fault.now (output_of W.contents out.old) result (output_of W.contents out.new) }
 {
     match fault {
         WordsFault::Help(_) => put_help(alloc, fault, out),
@@ -119,9 +109,7 @@ fn explain<W: Write, N: Write>(
     out: &mut Counted<W>,
     notes: &mut N,
 ) -> u8
-    ensures { Explains fault.now
-        (record { taken = W.contents out.old.inner; failures = out.old.failures }) result
-        (record { taken = W.contents out.new.inner; failures = out.new.failures }) }
+    ensures { Explains fault.now (output_of W.contents out.old) result (output_of W.contents out.new) }
 {
     let before = out.failures;
     let status = tell_fault(alloc, fault, out, notes);
@@ -168,10 +156,10 @@ fn note_ending<N: Write>(
     alloc: Global,
     script: &str,
     source: Vec<u8>,
-    ending: Ending,
+    ending: ClusterEnding,
     notes: &mut N,
 ) {
-    if let Ending::Refused(fault) = ending {
+    if let ClusterEnding::Refused(fault) = ending {
         note(script_advice(alloc, script, source, fault), notes);
     }
 }
@@ -200,8 +188,7 @@ fn run_line<F: Files, W: Write, N: Write>(
     notes: &mut N,
 ) -> u8
     ensures { CarriesOut F.read_gives F.write_gives line.now files.old
-        (record { taken = W.contents out.old.inner; failures = out.old.failures }) result files.new
-        (record { taken = W.contents out.new.inner; failures = out.new.failures }) }
+        (output_of W.contents out.old) result files.new (output_of W.contents out.new) }
 {
     carry_out(alloc, line, files, out, notes).status()
 }
@@ -217,8 +204,7 @@ fn run_nodes<R: Net + Wait + Threads + Clock + Sync, F: Files, W: Write, N: Writ
     notes: &mut N,
 ) -> u8
     ensures { RunsNodes F.read_gives F.write_gives script.now is_strict files.old
-        (record { taken = W.contents out.old.inner; failures = out.old.failures }) result files.new
-        (record { taken = W.contents out.new.inner; failures = out.new.failures }) }
+        (output_of W.contents out.old) result files.new (output_of W.contents out.new) }
 {
     let FileRun { ending, source } = run_file(rt, alloc, script, files, out, notes);
     note_ending(alloc, script, source, ending, notes);
@@ -235,8 +221,7 @@ fn run_gather<F: Files, W: Write, N: Write>(
     notes: &mut N,
 ) -> u8
     ensures { Gathers F.read_gives F.write_gives (map (λ name. name.now) journals.now) pairs files.old
-        (record { taken = W.contents out.old.inner; failures = out.old.failures }) result files.new
-        (record { taken = W.contents out.new.inner; failures = out.new.failures }) }
+        (output_of W.contents out.old) result files.new (output_of W.contents out.new) }
 {
     gather_files(alloc, journals, pairs, files, out, notes).status()
 }
@@ -253,8 +238,7 @@ fn run_client<R: Net + Clock, F: Files, W: Write, N: Write>(
     notes: &mut N,
 ) -> u8
     ensures { RunsClient F.read_gives F.write_gives script.now is_strict files.old
-        (record { taken = W.contents out.old.inner; failures = out.old.failures }) result files.new
-        (record { taken = W.contents out.new.inner; failures = out.new.failures }) }
+        (output_of W.contents out.old) result files.new (output_of W.contents out.new) }
 {
     let q_asker::FileRun { ending, source } = q_asker::run_file(
         rt, alloc, place, script, files, out, notes,
@@ -285,8 +269,7 @@ where
         notes: &mut N,
     ) -> u8
         ensures { RunsApart F.read_gives F.write_gives command.now.file.now command.now.id files.old
-            (record { taken = W.contents out.old.inner; failures = out.old.failures }) result files.new
-            (record { taken = W.contents out.new.inner; failures = out.new.failures }) }
+            (output_of W.contents out.old) result files.new (output_of W.contents out.new) }
     {
         let words = q_node::NodeWords {
             file: command.file,
@@ -309,8 +292,7 @@ where
         notes: &mut N,
     ) -> u8
         ensures { Does F.read_gives F.write_gives wanted.now files.old
-            (record { taken = W.contents out.old.inner; failures = out.old.failures }) result files.new
-            (record { taken = W.contents out.new.inner; failures = out.new.failures }) }
+            (output_of W.contents out.old) result files.new (output_of W.contents out.new) }
     {
         match wanted {
             Wanted::FileCommand(line) => run_line(self.alloc, line, files, out, notes),
@@ -340,8 +322,7 @@ where
         notes: &mut N,
     ) -> u8
         ensures { Does F.read_gives F.write_gives wanted.now files.old
-            (record { taken = W.contents out.old.inner; failures = out.old.failures }) result files.new
-            (record { taken = W.contents out.new.inner; failures = out.new.failures }) }
+            (output_of W.contents out.old) result files.new (output_of W.contents out.new) }
     {
         let before = out.failures;
         let status = self.do_wanted(wanted, files, out, notes);

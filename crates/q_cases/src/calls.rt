@@ -1,6 +1,6 @@
 //! Cases of calls, and what comes of them.
 
-use crate::events::{Ending, run};
+use crate::events::{EventsEnding, run};
 use crate::journals::{
     FurtherStore, GatheredCluster, answer, further, gathered, journal, misjudged_beginnings,
     misjudged_changes,
@@ -166,9 +166,9 @@ impl Calls {
     /// Runs the script as a list of events, at nodes of this version.
     fn run<W: Write>(&mut self, version: Version, out: &mut W) -> io::Result<()> {
         match run(self.alloc, version, self.script.as_str(), &mut self.cluster) {
-            Ending::All => writeln!(out, "all ran"),
-            Ending::Refused(place, reason) => writeln!(out, "refused {reason} at {place}"),
-            Ending::Nothing => writeln!(out, "no cluster"),
+            EventsEnding::All => writeln!(out, "all ran"),
+            EventsEnding::Refused(place, reason) => writeln!(out, "refused {reason} at {place}"),
+            EventsEnding::Nothing => writeln!(out, "no cluster"),
         }
     }
 

@@ -4,8 +4,7 @@ use crate::program::program as certified;
 use q_cluster::Cluster;
 use q_history::ClusterEvent;
 use q_script::{Founding, Script, ScriptLine};
-use q_sim::event_of;
-use sc_members::Config;
+use q_sim::{config_of, event_of};
 use sc_msg::Version;
 use sc_view::Value;
 use std::alloc::Global;
@@ -39,14 +38,7 @@ fn events(alloc: Global, version: Version, script: &Script) -> Option<Vec<Cluste
 /// The cluster of the founders, of this version. It is held in a box, since a proof writes out the drop of what is held
 /// by value.
 fn founded(alloc: Global, version: Version, founding: &Founding) -> Option<Box<Cluster>> {
-    let (beta, gamma) = (founding.beta, founding.gamma);
-    let config = Config::new(
-        beta.numerator,
-        beta.denominator,
-        gamma.numerator,
-        gamma.denominator,
-    );
-    let config = config.ok()?;
+    let config = config_of(founding).ok()?;
     let ids: Vec<u64> = (1..=founding.count).collect(alloc).ok()?;
     let cluster = Cluster::new_as(alloc, version, config, ids.as_slice()).ok()?;
     Box::new(alloc, cluster).ok()
@@ -54,7 +46,7 @@ fn founded(alloc: Global, version: Version, founding: &Founding) -> Option<Box<C
 
 /// How the run of a list of events ends.
 #[derive(Clone, Copy)]
-pub enum Ending {
+pub enum EventsEnding {
     All,
     /// The event at this place was refused with this number.
     Refused(usize, u8),
@@ -63,10 +55,10 @@ pub enum Ending {
 }
 
 /// Runs a list of events over a cluster.
-fn run_events(cluster: &mut Cluster, events: &[ClusterEvent]) -> Ending {
+fn run_events(cluster: &mut Cluster, events: &[ClusterEvent]) -> EventsEnding {
     match cluster.run(events) {
-        Ok(()) => Ending::All,
-        Err((place, reason)) => Ending::Refused(place, reason.number()),
+        Ok(()) => EventsEnding::All,
+        Err((place, reason)) => EventsEnding::Refused(place, reason.number()),
     }
 }
 
@@ -76,18 +68,23 @@ fn run_script(
     version: Version,
     script: &Script,
     made: &mut Option<Box<Cluster>>,
-) -> Ending {
+) -> EventsEnding {
     *made = founded(alloc, version, &script.founding);
     match (made, events(alloc, version, script)) {
         (Some(cluster), Some(events)) => run_events(cluster, events.as_slice()),
-        _ => Ending::Nothing,
+        _ => EventsEnding::Nothing,
     }
 }
 
 /// The same of the script that a text spells.
-pub fn run(alloc: Global, version: Version, text: &str, made: &mut Option<Box<Cluster>>) -> Ending {
+pub fn run(
+    alloc: Global,
+    version: Version,
+    text: &str,
+    made: &mut Option<Box<Cluster>>,
+) -> EventsEnding {
     match Script::read(alloc, text) {
         Ok(script) => run_script(alloc, version, &script, made),
-        Err(_) => Ending::Nothing,
+        Err(_) => EventsEnding::Nothing,
     }
 }

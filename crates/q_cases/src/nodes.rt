@@ -6,7 +6,8 @@ use crate::forged::{Forged, datagrams};
 use crate::noise::{Flooding, Noisy};
 use q_command::{Wanted, read_words};
 use q_nodes::{
-    ClusterRunFault, ClusterScript, Ending, open_sockets, run_cluster, run_file, run_over_sockets,
+    ClusterEnding, ClusterRunFault, ClusterScript, open_sockets, run_cluster, run_file,
+    run_over_sockets,
 };
 use q_outside::{Counted, Files, Hub, MemoryFiles, MemoryTransport, Peer, UdpTransport};
 use q_script::number;
@@ -313,28 +314,28 @@ impl<'a, R: Net + Wait + Threads + Clock + Sync, W: Write> Nodes<'a, R, W> {
     }
 
     /// Runs the script over a socket for each node.
-    fn run_over_sockets(&mut self, notes: &mut Vec<u8>) -> Ending {
+    fn run_over_sockets(&mut self, notes: &mut Vec<u8>) -> ClusterEnding {
         let source = self.script.as_str();
         run_over_sockets(self.rt, self.alloc, source, &mut self.out, notes)
     }
 
     /// Runs the script over a socket for each node, in a flood of so many datagrams for each that is sent.
-    fn run_flooded(&mut self, many: &str, notes: &mut Vec<u8>) -> io::Result<Ending> {
+    fn run_flooded(&mut self, many: &str, notes: &mut Vec<u8>) -> io::Result<ClusterEnding> {
         match ClusterScript::read(self.alloc, self.script.as_str()) {
             Ok(script) => {
                 let many = number(many).unwrap_or(0);
                 let ends = flooding(self.rt, self.alloc, script.nodes, many)?;
                 let out = &mut self.out;
-                Ok(run_cluster(self.rt, self.alloc, &script, ends, out, notes))
+                Ok(run_cluster(self.rt, self.alloc, &script, "", ends, out, notes))
             }
             Err(fault) => self.refuse(fault),
         }
     }
 
     /// Prints the refusal of a script.
-    fn refuse(&mut self, fault: ClusterRunFault) -> io::Result<Ending> {
+    fn refuse(&mut self, fault: ClusterRunFault) -> io::Result<ClusterEnding> {
         writeln!(self.out, "{fault}")?;
-        Ok(Ending::Refused(fault))
+        Ok(ClusterEnding::Refused(fault))
     }
 
     /// Runs the command of these words over a file `s`, which holds the script.
@@ -370,7 +371,7 @@ impl<'a, R: Net + Wait + Threads + Clock + Sync, W: Write> Nodes<'a, R, W> {
         &mut self,
         disturbed: &mut Disturbed<'_>,
         notes: &mut Vec<u8>,
-    ) -> io::Result<Ending> {
+    ) -> io::Result<ClusterEnding> {
         match ClusterScript::read(self.alloc, self.script.as_str()) {
             Ok(script) => self.run_read(&script, disturbed, notes),
             Err(fault) => self.refuse(fault),
@@ -383,11 +384,11 @@ impl<'a, R: Net + Wait + Threads + Clock + Sync, W: Write> Nodes<'a, R, W> {
         script: &ClusterScript,
         disturbed: &mut Disturbed<'_>,
         notes: &mut Vec<u8>,
-    ) -> io::Result<Ending> {
+    ) -> io::Result<ClusterEnding> {
         let hub = Hub::open(self.alloc, script.nodes)?;
         let ends = ends(self.rt, self.alloc, &hub, script.nodes, disturbed)?;
         let out = &mut self.out;
-        Ok(run_cluster(self.rt, self.alloc, script, ends, out, notes))
+        Ok(run_cluster(self.rt, self.alloc, script, "", ends, out, notes))
     }
 }
 

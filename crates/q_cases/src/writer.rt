@@ -1,6 +1,6 @@
 //! Commands whose writer fails.
 
-use q_command::{FileCommand, Outcome, carry_out};
+use q_command::{CommandEnding, FileCommand, carry_out};
 use q_outside::{Counted, Files, MemoryFiles};
 use std::alloc::Global;
 use std::io;
@@ -28,11 +28,11 @@ impl Write for Short {
 }
 
 /// How a command ended.
-fn end_of(outcome: &Outcome<'_>) -> &'static str {
-    match outcome {
-        Outcome::Answered | Outcome::Unsaved | Outcome::LineRefused => "answered",
-        Outcome::Refused(_) => "refused",
-        Outcome::Unwritten => "unwritten",
+fn end_of(ending: &CommandEnding<'_>) -> &'static str {
+    match ending {
+        CommandEnding::Answered | CommandEnding::Unsaved | CommandEnding::LineRefused => "answered",
+        CommandEnding::Refused(_) => "refused",
+        CommandEnding::Unwritten => "unwritten",
     }
 }
 
@@ -43,6 +43,6 @@ pub fn listed(alloc: Global, room: usize, file: &str) -> (&'static str, u8) {
     let mut out = Counted::new(Short { room });
     let mut unseen = Vec::new(alloc);
     let line = FileCommand::Asm { file };
-    let outcome = carry_out(alloc, &line, &mut files, &mut out, &mut unseen);
-    (end_of(&outcome), outcome.status())
+    let ending = carry_out(alloc, &line, &mut files, &mut out, &mut unseen);
+    (end_of(&ending), ending.status())
 }

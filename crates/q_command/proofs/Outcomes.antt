@@ -18,7 +18,7 @@ use Rattle.q_command.specs.Beginning.{IsBeginning, IsCut}
 use Rattle.q_command.specs.JournalFiles.{IsWritten, books_of, longest_journal, source_line}
 use Rattle.q_command.specs.GatheredLines.{answer_line, answer_lines, answers_of, store_text}
 use Rattle.q_command.specs.Tells.{Tells}
-use Rattle.q_command.specs.declared.gathered_ending.Ending.TheVariants.{Gathered}
+use Rattle.q_command.specs.declared.gathered_ending.GatherEnding.TheVariants.{Gathered}
 use Rattle.q_command.proofs.Testing.{whole}
 
 -- ---- answers

@@ -15,8 +15,8 @@ use Rattle.q_outside.specs.Counts.{one_more}
 use Rattle.q_command.specs.Beginning.{IsBeginning, IsRefused}
 use Rattle.q_command.specs.GatheredLines.{journal_line}
 use Rattle.q_command.specs.Tells.{Tells, of_gather}
-use Rattle.q_command.specs.declared.gathered_ending.Ending.{Ending}
-use Rattle.q_command.specs.declared.gathered_ending.Ending.TheVariants.{Gathered, Refused, Unwritten}
+use Rattle.q_command.specs.declared.gathered_ending.GatherEnding.{GatherEnding}
+use Rattle.q_command.specs.declared.gathered_ending.GatherEnding.TheVariants.{Gathered, Refused, Unwritten}
 
 -- the most bytes of a journal that are read
 abbrev pub longest_journal : ℕ
@@ -99,7 +99,7 @@ module _ {F : Type 0} (reads : F → List ℕ → Result (List ℕ) FileFault �
 
   -- What is written of the files with these names, by how it ends: exactly the text, or exactly the line of the
   -- refusal. Where the writer failed it was given one of the two, and may have taken a part.
-  abbrev pub IsWritten : List (List ℕ) → Bool → F → Option (List ℕ) → Ending → F → Option (List ℕ) → Type 0
+  abbrev pub IsWritten : List (List ℕ) → Bool → F → Option (List ℕ) → GatherEnding → F → Option (List ℕ) → Type 0
   IsWritten names pairs old before Gathered new after = (text : List ℕ) × TellsFiles names pairs old text new × Appends before after text
   IsWritten names pairs old before (Refused r) new after = Refuses names old r new × Appends before after (refusal_line r)
   IsWritten names pairs old before Unwritten new after =
@@ -108,12 +108,12 @@ module _ {F : Type 0} (reads : F → List ℕ → Result (List ℕ) FileFault �
 
 -- How many calls of the writer failed so far, of which this many failed before: one more where it gave up, and else as
 -- many.
-abbrev pub failures_after : Ending → ℕ → ℕ
+abbrev pub failures_after : GatherEnding → ℕ → ℕ
 failures_after Unwritten before = one_more before
 failures_after e before = before
 
 -- the exit status
-abbrev pub status_of : Ending → ℕ
+abbrev pub status_of : GatherEnding → ℕ
 status_of Gathered = 0
 status_of (Refused r) = 1
 status_of Unwritten = 1

@@ -35,8 +35,8 @@ use Rattle.q_outside.specs.declared.files.FileFault.{FileFault}
 use Rattle.q_outside.specs.declared.files.FileFault.TheVariants.{Failed}
 use Rattle.q_command.specs.declared.check.Check.{Check as Checking}
 use Rattle.q_command.specs.declared.denied.Denied.{Denied}
-use Rattle.q_command.specs.declared.perform.Outcome.{Outcome}
-use Rattle.q_command.specs.declared.perform.Outcome.TheVariants.{Answered, Unsaved, LineRefused, Refused, Unwritten}
+use Rattle.q_command.specs.declared.perform.CommandEnding.{CommandEnding}
+use Rattle.q_command.specs.declared.perform.CommandEnding.TheVariants.{Answered, Unsaved, LineRefused, Refused, Unwritten}
 use Rattle.q_command.specs.declared.perform.Work.{Work}
 use Rattle.q_command.specs.declared.perform.Work.TheVariants as work
 use Rattle.q_outside.specs.Counts.{one_more}
@@ -253,28 +253,28 @@ IsUnmade work.Audit = IsUnaudited
 
 -- How a command ends whose answer was written, which is strict or not: first, a journal was not written; then, a line was
 -- refused, where the command is strict.
-abbrev pub end_of : Bool → Bool → Bool → Outcome
+abbrev pub end_of : Bool → Bool → Bool → CommandEnding
 end_of strict unwritten refused = if unwritten then Unsaved else (if strict && refused then LineRefused else Answered)
 
 -- The command ends so, over files and a writer that stand thus before and after: the writer took exactly the lines of the
 -- answer, or exactly the line of the refusal. Where the writer failed, it was given one of the two, and may have taken a part.
-abbrev pub Ends : {F : Type 0} → Reading F → Writing F → FileCommand → F → Option (List ℕ) → Outcome → F → Option (List ℕ) → Type 0
+abbrev pub Ends : {F : Type 0} → Reading F → Writing F → FileCommand → F → Option (List ℕ) → CommandEnding → F → Option (List ℕ) → Type 0
 Ends reads writes line old before (Refused denied) new after = Refuses reads line old denied new × Appends before after (refusal_line denied.refusal)
 Ends reads writes line old before Unwritten new after =
     ((lines : List ℕ) × (unwritten refused : Bool) × Answers reads writes line old lines unwritten refused new)
     ⊎ ((denied : Denied) × Refuses reads line old denied new)
-Ends reads writes line old before outcome new after =
+Ends reads writes line old before ending new after =
     (lines : List ℕ) × (unwritten refused : Bool) × Answers reads writes line old lines unwritten refused new
-    × Appends before after lines × (outcome ≡ end_of (is_strict line) unwritten refused)
+    × Appends before after lines × (ending ≡ end_of (is_strict line) unwritten refused)
 
 -- How many calls of the writer failed so far, of which this many failed before the command: one more where it gave up,
 -- and else as many.
-abbrev pub failures_after : Outcome → ℕ → ℕ
+abbrev pub failures_after : CommandEnding → ℕ → ℕ
 failures_after Unwritten before = one_more before
-failures_after outcome before = before
+failures_after ending before = before
 
 -- the exit status
-abbrev pub status_of : Outcome → ℕ
+abbrev pub status_of : CommandEnding → ℕ
 status_of Answered = 0
 status_of Unsaved = 1
 status_of LineRefused = 1

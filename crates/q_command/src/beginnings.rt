@@ -35,27 +35,20 @@ pub fn beginning(alloc: Global, bytes: &[u8]) -> Result<Journal, ReplayFault>
     // Bytes that have such a beginning are refused only where memory runs out.
     ensures refused { IfErr result (IsRefused bytes.now) }
 {
-    match replay(alloc, bytes) {
-        Ok(book) => Ok(Journal {
-            book,
-            kept: bytes.len(),
-        }),
-        Err(fault) => beginning_before(alloc, bytes, fault),
-    }
-}
-
-/// The same of bytes that have this fault.
-fn beginning_before(alloc: Global, bytes: &[u8], fault: ReplayFault) -> Result<Journal, ReplayFault>
-    requires { IsFault bytes.now fault }
-    ensures begins { IfOk result (λ j. IsBeginning bytes.now (take j.kept bytes.now) j.book) }
-    ensures within { IfOk result (λ j. j.kept ≤ length bytes.now) }
-    ensures refused { IfErr result (IsRefused bytes.now) }
-{
+    let fault = match replay(alloc, bytes) {
+        Ok(book) => {
+            return Ok(Journal {
+                book,
+                kept: bytes.len(),
+            });
+        }
+        Err(fault) => fault,
+    };
     one_head();
     one_event();
     one_fault();
     match unread_event(fault) {
-        Some(event) => beginning_up_to(alloc, bytes, event),
+        Some(event) => beginning_before(alloc, bytes, event),
         None => Err(fault),
     }
 }
@@ -73,31 +66,10 @@ fn unread_event(fault: ReplayFault) -> Option<usize>
     }
 }
 
-/// The same of bytes in which this event is the first of which the bytes have no form.
-fn beginning_up_to(alloc: Global, bytes: &[u8], event: usize) -> Result<Journal, ReplayFault>
+/// The same of bytes in which this event is the first of which they have no form.
+fn beginning_before(alloc: Global, bytes: &[u8], event: usize) -> Result<Journal, ReplayFault>
     requires some { 0 < event }
     requires is_fault { IsFault bytes.now (ReplayFault.Form event) }
-    ensures begins { IfOk result (λ j. IsBeginning bytes.now (take j.kept bytes.now) j.book) }
-    ensures within { IfOk result (λ j. j.kept ≤ length bytes.now) }
-    ensures refused { IfErr result (IsRefused bytes.now) }
-{
-    match after_events(alloc, bytes, event - 1) {
-        Ok(left) => beginning_without(alloc, bytes, event, left),
-        Err(_) => Err(ReplayFault::OutOfMemory),
-    }
-}
-
-/// The same where these are the bytes from that event on.
-fn beginning_without(
-    alloc: Global,
-    bytes: &[u8],
-    event: usize,
-    left: &[u8],
-) -> Result<Journal, ReplayFault>
-    requires some { 0 < event }
-    requires is_fault { IsFault bytes.now (ReplayFault.Form event) }
-    requires is_left { (version : Version) (rest : List ℕ) → IsAfter version bytes.now (event - 1) rest → left.now ≡ rest }
-    requires within { length left.now ≤ length bytes.now }
     ensures begins { IfOk result (λ j. IsBeginning bytes.now (take j.kept bytes.now) j.book) }
     ensures within { IfOk result (λ j. j.kept ≤ length bytes.now) }
     ensures refused { IfErr result (IsRefused bytes.now) }
@@ -105,6 +77,9 @@ fn beginning_without(
     one_head();
     one_event();
     one_fault();
+    let Ok(left) = after_events(alloc, bytes, event - 1) else {
+        return Err(ReplayFault::OutOfMemory);
+    };
     if !is_cut(left) {
         return Err(ReplayFault::Form { event });
     }

@@ -7,7 +7,7 @@ use q_sim::Refusal;
 
 /// How gathering files ended.
 #[derive(Clone, Copy)]
-pub enum Ending {
+pub enum GatherEnding {
     /// The journals gather, and what they tell was written.
     Gathered,
     /// This refusal was written.
@@ -16,14 +16,14 @@ pub enum Ending {
     Unwritten,
 }
 
-impl Ending {
+impl GatherEnding {
     /// The exit status: 0 where the journals gather and all was written, and else 1.
     pub fn status(self) -> u8
         ensures { result ≡ status_of self }
     {
         match self {
-            Ending::Gathered => 0,
-            Ending::Refused(_) | Ending::Unwritten => 1,
+            GatherEnding::Gathered => 0,
+            GatherEnding::Refused(_) | GatherEnding::Unwritten => 1,
         }
     }
 }

@@ -7,7 +7,7 @@ ghost use Rattle.q_history.specs.Headline.{ClusterState};
 ghost use Rattle.q_command.specs.Tells.{Tells, of_gather};
 ghost use Rattle.q_command.specs.JournalFiles.{IsWritten, Refuses, TellsFiles, failures_after, longest_journal};
 
-use crate::gathered_ending::Ending;
+use crate::gathered_ending::GatherEnding;
 use crate::gathered_teller::gathered;
 use crate::journal_notes::note_gather;
 use crate::journal_sources::{Sources, of_gather, read_all};
@@ -32,18 +32,18 @@ pub fn gather_files<F: Files, W: Write, N: Write>(
     files: &mut F,
     out: &mut Counted<W>,
     notes: &mut N,
-) -> Ending
+) -> GatherEnding
     ensures written { IsWritten (F.read_gives longest_journal) (map (λ name. name.now) names.now) pairs files.old (W.contents out.old.inner) result files.new (W.contents out.new.inner) }
     ensures counted { out.new.failures ≡ failures_after result out.old.failures }
 {
     match told(alloc, names, pairs, files, notes) {
         Ok(lines) => match out.put(lines.as_bytes()) {
-            Ok(()) => Ending::Gathered,
-            Err(_) => Ending::Unwritten,
+            Ok(()) => GatherEnding::Gathered,
+            Err(_) => GatherEnding::Unwritten,
         },
         Err(refusal) => match put_refusal(out, &refusal) {
-            Ok(()) => Ending::Refused(refusal),
-            Err(_) => Ending::Unwritten,
+            Ok(()) => GatherEnding::Refused(refusal),
+            Err(_) => GatherEnding::Unwritten,
         },
     }
 }

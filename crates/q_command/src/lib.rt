@@ -68,11 +68,11 @@ pub use auditor::audit;
 pub use beginnings::{Journal, beginning};
 pub use check::{Check, checked};
 pub use denied::Denied;
-pub use gathered_ending::Ending;
+pub use gathered_ending::GatherEnding;
 pub use gathered_teller::gathered;
 pub use journal_files::gather_files;
 pub use lister::listing;
-pub use perform::{LONGEST_JOURNAL, Outcome, carry_out};
+pub use perform::{CommandEnding, LONGEST_JOURNAL, carry_out};
 pub use sources::{certified, program, utf8};
 pub use words::{
     FileCommand, NodeCommand, ProgramForm, VERSION, Wanted, WordsFault, given_words, read_words,

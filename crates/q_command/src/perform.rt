@@ -29,7 +29,7 @@ pub const LONGEST_JOURNAL: usize = 1024 * 1024 * 1024;
 
 /// How a command ended.
 #[derive(Drop)]
-pub enum Outcome<'a> {
+pub enum CommandEnding<'a> {
     /// It wrote its answer, and each file that it was to write.
     Answered,
     /// It wrote its answer, but a journal or notes were not written.
@@ -42,15 +42,18 @@ pub enum Outcome<'a> {
     Unwritten,
 }
 
-impl Outcome<'_> {
+impl CommandEnding<'_> {
     /// The exit status: 0, or 1 after a refusal, where a journal or notes were not written or a line of a strict script
     /// was refused, or where the writer failed.
     pub fn status(&self) -> u8
         ensures { result ≡ status_of self.now }
     {
         match self {
-            Outcome::Answered => 0,
-            Outcome::Unsaved | Outcome::LineRefused | Outcome::Refused(_) | Outcome::Unwritten => 1,
+            CommandEnding::Answered => 0,
+            CommandEnding::Unsaved
+            | CommandEnding::LineRefused
+            | CommandEnding::Refused(_)
+            | CommandEnding::Unwritten => 1,
         }
     }
 }
@@ -331,16 +334,16 @@ fn answer<'a, F: Files>(
 }
 
 /// How a command ends that wrote its answer. That a file was not written comes before a line that was refused.
-fn end_of<'a>(is_strict: bool, unwritten: bool, refused: bool) -> Outcome<'a>
+fn end_of<'a>(is_strict: bool, unwritten: bool, refused: bool) -> CommandEnding<'a>
     ensures { result ≡ end_of is_strict unwritten refused }
 {
     if unwritten {
-        return Outcome::Unsaved;
+        return CommandEnding::Unsaved;
     }
     if is_strict && refused {
-        return Outcome::LineRefused;
+        return CommandEnding::LineRefused;
     }
-    Outcome::Answered
+    CommandEnding::Answered
 }
 
 /// Runs a command, and writes its answer or its refusal. What explains a refusal, and each refused line of a script,
@@ -353,7 +356,7 @@ pub fn carry_out<'a, F: Files, W: Write, N: Write>(
     files: &mut F,
     out: &mut Counted<W>,
     notes: &mut N,
-) -> Outcome<'a>
+) -> CommandEnding<'a>
     ensures ended { Ends F.read_gives F.write_gives line.now files.old (W.contents out.old.inner) result files.new (W.contents out.new.inner) }
     ensures counted { out.new.failures ≡ failures_after result out.old.failures }
 {
@@ -368,15 +371,15 @@ pub fn carry_out<'a, F: Files, W: Write, N: Write>(
             } = answer.printed;
             match written {
                 Ok(()) => end_of(line.is_strict(), unwritten, refused),
-                Err(_) => Outcome::Unwritten,
+                Err(_) => CommandEnding::Unwritten,
             }
         }
         Err(denied) => {
             let written = put_refusal(out, &denied.refusal);
             tell_refusal(alloc, line, &denied, notes);
             match written {
-                Ok(()) => Outcome::Refused(denied),
-                Err(_) => Outcome::Unwritten,
+                Ok(()) => CommandEnding::Refused(denied),
+                Err(_) => CommandEnding::Unwritten,
             }
         }
     }

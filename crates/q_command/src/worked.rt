@@ -23,7 +23,7 @@ ghost use Rattle.q_command.specs.Listing.{listing_of};
 ghost use Rattle.q_command.specs.Perform.{Accepts, Answers, AnswersRun, Disassembles, Ends, IsProgram, IsUnaccepted, IsUnspelled, Refuses, RefusesFile, SavesNotes, Spells, acceptance, end_of, failures_after, status_of};
 ghost use Rattle.q_command.specs.declared.check.Check.{Check as Checking};
 ghost use Rattle.q_command.specs.declared.denied.Denied.{Denied};
-ghost use Rattle.q_command.specs.declared.perform.Outcome.TheVariants as outcome;
+ghost use Rattle.q_command.specs.declared.perform.CommandEnding.TheVariants as ending;
 
 /// What the definitions say of programs, journals, answers, refusals and ends, over files in memory.
 pub fn worked()
@@ -71,13 +71,13 @@ pub fn worked()
     ensures no_advice_of_text { (told text : List ℕ) → IsUtf8 text → IsToldOf refused.FileFailed text (Some told) → ⊥ }
 
     // Ends.
-    ensures written_once { (line : FileCommand) (old new : Memory) (out : List ℕ) → Ends Reads (Writes {X = Unit {0}}) line old (Some []) outcome.Answered new (Some out) → (refused : Bool) × Answers Reads (Writes {X = Unit {0}}) line old out false refused new }
-    ensures unsaved_first { (strict refused : Bool) → end_of strict true refused ≡ outcome.Unsaved }
-    ensures strict { end_of true false true ≡ outcome.LineRefused }
-    ensures not_strict { (refused : Bool) → end_of false false refused ≡ outcome.Answered }
-    ensures none_refused { (strict : Bool) → end_of strict false false ≡ outcome.Answered }
-    ensures after_a_refused_line { status_of outcome.LineRefused ≡ 1 }
-    ensures given_up { failures_after outcome.Unwritten 4 ≡ 5 }
-    ensures went_well { failures_after outcome.Answered 4 ≡ 4 }
-    ensures after_a_refusal { (denied : Denied) → status_of (outcome.Refused denied) ≡ 1 }
+    ensures written_once { (line : FileCommand) (old new : Memory) (out : List ℕ) → Ends Reads (Writes {X = Unit {0}}) line old (Some []) ending.Answered new (Some out) → (refused : Bool) × Answers Reads (Writes {X = Unit {0}}) line old out false refused new }
+    ensures unsaved_first { (strict refused : Bool) → end_of strict true refused ≡ ending.Unsaved }
+    ensures strict { end_of true false true ≡ ending.LineRefused }
+    ensures not_strict { (refused : Bool) → end_of false false refused ≡ ending.Answered }
+    ensures none_refused { (strict : Bool) → end_of strict false false ≡ ending.Answered }
+    ensures after_a_refused_line { status_of ending.LineRefused ≡ 1 }
+    ensures given_up { failures_after ending.Unwritten 4 ≡ 5 }
+    ensures went_well { failures_after ending.Answered 4 ≡ 4 }
+    ensures after_a_refusal { (denied : Denied) → status_of (ending.Refused denied) ≡ 1 }
 {}

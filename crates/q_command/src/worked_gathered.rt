@@ -19,7 +19,7 @@ ghost use Rattle.q_command.specs.Beginning.{IsBeginning, IsCut};
 ghost use Rattle.q_command.specs.JournalFiles.{IsWritten, longest_journal, status_of};
 ghost use Rattle.q_command.specs.GatheredLines.{answer_line, answers_of, journal_line};
 ghost use Rattle.q_command.specs.Tells.{Tells};
-ghost use Rattle.q_command.specs.declared.gathered_ending.Ending.TheVariants as ending;
+ghost use Rattle.q_command.specs.declared.gathered_ending.GatherEnding.TheVariants as ending;
 
 /// What the definitions say of a file, of answers, of what is gathered and of how that ends.
 pub fn worked()

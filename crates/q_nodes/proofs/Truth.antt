@@ -22,7 +22,7 @@ use Rattle.q_nodes.specs.Lines.{IsQueryOf, IsTold, program_id}
 use Rattle.q_nodes.specs.Runs.{IsClusterOf, IsFoundedBy, IsWritten}
 use Rattle.q_nodes.specs.declared.report.Report.TheVariants.{Asked}
 use Rattle.q_nodes.specs.declared.report.Tally.{Tally}
-use Rattle.q_nodes.specs.declared.ending.Ending.TheVariants as ending
+use Rattle.q_nodes.specs.declared.ending.ClusterEnding.TheVariants as ending
 use Rattle.q_nodes.specs.declared.script.ClusterLine.TheVariants as line
 use Rattle.q_nodes.specs.declared.script.ClusterScript.{ClusterScript}
 use Rattle.q_nodes.proofs.Turns.{turn_at, turn_length}

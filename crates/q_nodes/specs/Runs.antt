@@ -19,8 +19,8 @@ use Rattle.q_nodes.specs.declared.fault.ClusterRunFault.{ClusterRunFault}
 use Rattle.q_nodes.specs.declared.fault.ClusterRunFault.TheVariants.{BadCount, TransportFailed, Script}
 use Rattle.q_nodes.specs.declared.report.Report.{Report}
 use Rattle.q_nodes.specs.declared.report.Tally.{Tally}
-use Rattle.q_nodes.specs.declared.ending.Ending.{Ending}
-use Rattle.q_nodes.specs.declared.ending.Ending.TheVariants as ending
+use Rattle.q_nodes.specs.declared.ending.ClusterEnding.{ClusterEnding}
+use Rattle.q_nodes.specs.declared.ending.ClusterEnding.TheVariants as ending
 use Rattle.q_nodes.specs.declared.script.ClusterScript.{ClusterScript}
 
 -- ---- the cluster of a run
@@ -83,17 +83,17 @@ pub record IsTellingOfNodes (script : ClusterScript) (tally : Tally) (refusal : 
 
 -- what a writer holds before and after a run that ends so
 abbrev pub Writing : Type 1
-Writing = Ending → Option (List ℕ) → Option (List ℕ) → Type 0
+Writing = ClusterEnding → Option (List ℕ) → Option (List ℕ) → Type 0
 
 -- the exit status; a strict run wants that no line was refused or is unanswered
-abbrev pub status_of : Bool → Ending → ℕ
+abbrev pub status_of : Bool → ClusterEnding → ℕ
 status_of strict (ending.Gathered tally) = if strict && not (is_clean tally) then 1 else 0
 status_of strict (ending.Refused f) = 1
 status_of strict ending.Unwritten = 1
 
 -- How many calls of the writer failed so far, of which this many failed before the run: one more where it gave up, and
 -- else as many.
-abbrev pub failures_after : Ending → ℕ → ℕ
+abbrev pub failures_after : ClusterEnding → ℕ → ℕ
 failures_after ending.Unwritten before = one_more before
 failures_after e before = before
 

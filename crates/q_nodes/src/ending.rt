@@ -13,7 +13,7 @@ use std::io::Write;
 
 /// How a run ended.
 #[derive(Clone, Copy)]
-pub enum Ending {
+pub enum ClusterEnding {
     /// The books of the nodes gather into a cluster of the script, and what the lines tell of it was printed: so many
     /// of them were refused or are unanswered.
     Gathered(Tally),
@@ -24,26 +24,26 @@ pub enum Ending {
     Unwritten,
 }
 
-impl Ending {
+impl ClusterEnding {
     /// The exit status. A strict run wants that no line was refused or is unanswered.
     pub fn status(self, strict: bool) -> u8
         ensures { result ≡ status_of strict self }
     {
         match self {
-            Ending::Gathered(tally) if !strict || tally.is_clean() => 0,
-            Ending::Gathered(_) | Ending::Refused(_) | Ending::Unwritten => 1,
+            ClusterEnding::Gathered(tally) if !strict || tally.is_clean() => 0,
+            ClusterEnding::Gathered(_) | ClusterEnding::Refused(_) | ClusterEnding::Unwritten => 1,
         }
     }
 }
 
 /// Prints a refusal, with which a run ends.
-pub fn print_refusal<W: Write>(fault: ClusterRunFault, out: &mut Counted<W>) -> Ending
+pub fn print_refusal<W: Write>(fault: ClusterRunFault, out: &mut Counted<W>) -> ClusterEnding
     ensures written { IsRefusedAlone fault result (W.contents out.old.inner) (W.contents out.new.inner) }
     ensures counted { out.new.failures ≡ failures_after result out.old.failures }
 {
     match put_line(out, fault.reason(), fault.place()) {
-        Ok(()) => Ending::Refused(fault),
-        Err(_) => Ending::Unwritten,
+        Ok(()) => ClusterEnding::Refused(fault),
+        Err(_) => ClusterEnding::Unwritten,
     }
 }
 
@@ -52,7 +52,7 @@ pub fn print_untold<W: Write>(
     script: &ClusterScript,
     fault: ClusterRunFault,
     out: &mut Counted<W>,
-) -> Ending
+) -> ClusterEnding
     requires { IsUntold script.now.nodes fault }
     ensures written { IsWritten script.now result (W.contents out.old.inner) (W.contents out.new.inner) }
     ensures counted { out.new.failures ≡ failures_after result out.old.failures }
@@ -65,16 +65,16 @@ pub fn print_telling<W: Write>(
     script: &ClusterScript,
     telling: &Telling,
     out: &mut Counted<W>,
-) -> Ending
+) -> ClusterEnding
     requires { IsTellingOfNodes script.now telling.now.tally telling.now.refusal (string_bytes telling.now.text) }
     ensures written { IsWritten script.now result (W.contents out.old.inner) (W.contents out.new.inner) }
     ensures counted { out.new.failures ≡ failures_after result out.old.failures }
 {
     match out.put(telling.text.as_bytes()) {
         Ok(()) => match telling.refusal {
-            None => Ending::Gathered(telling.tally),
+            None => ClusterEnding::Gathered(telling.tally),
             Some(fault) => print_refusal(fault, out),
         },
-        Err(_) => Ending::Unwritten,
+        Err(_) => ClusterEnding::Unwritten,
     }
 }

@@ -4,7 +4,7 @@ ghost use Rattle.std.specs.Prelude.{ℕ, List, Option};
 ghost use Rattle.q_nodes.specs.Headline.{AnswersAreTrue};
 ghost use Rattle.q_nodes.specs.Runs.{IsWritten};
 ghost use Rattle.q_nodes.specs.declared.report.Tally.{Tally as Counts};
-ghost use Rattle.q_nodes.specs.declared.ending.Ending.TheVariants as ending;
+ghost use Rattle.q_nodes.specs.declared.ending.ClusterEnding.TheVariants as ending;
 ghost use Rattle.q_nodes.specs.declared.script.ClusterScript.{ClusterScript as Script};
 
 use q_history::laws::every_answer_is_true;

@@ -6,7 +6,7 @@ ghost use Rattle.q_nodes.specs.Runs.{IsTellingOfNodes, IsWritten, failures_after
 ghost use Rattle.q_nodes.specs.Halts.{IsHalt};
 
 use crate::calls::{Calls, ids, make_calls};
-use crate::ending::{Ending, print_telling, print_untold};
+use crate::ending::{ClusterEnding, print_telling, print_untold};
 use crate::fault::ClusterRunFault;
 use crate::halt::Halt;
 use crate::outcome::Outcome;
@@ -115,28 +115,9 @@ fn note_halt<N: Write>(notes: &mut N, halt: Halt) {
 /// into a cluster; and prints what the lines tell of it, all at the end. To the notes goes how many datagrams changed
 /// nothing, how many lines are unanswered, what was not sent, and which thread was not started. Where there is one
 /// transport more than nodes, the last one wakes the nodes' threads, as in [`make_calls`].
+///
+/// From the text that spells the script the notes tell why lines were refused. Of an empty text they do not.
 pub fn run_cluster<R, T, W, N>(
-    rt: &R,
-    alloc: Global,
-    script: &ClusterScript,
-    transports: Vec<T>,
-    out: &mut Counted<W>,
-    notes: &mut N,
-) -> Ending
-where
-    R: Wait + Threads + Clock + Sync,
-    T: Transport + Send + Drop,
-    W: Write,
-    N: Write,
-    ensures written { IsWritten script.now result (W.contents out.old.inner) (W.contents out.new.inner) }
-    ensures counted { out.new.failures ≡ failures_after result out.old.failures }
-{
-    run_script(rt, alloc, script, "", transports, out, notes)
-}
-
-/// The same of the script that a text spells: from it the notes tell why lines were refused. Of an empty text they do
-/// not.
-pub(crate) fn run_script<R, T, W, N>(
     rt: &R,
     alloc: Global,
     script: &ClusterScript,
@@ -144,7 +125,7 @@ pub(crate) fn run_script<R, T, W, N>(
     transports: Vec<T>,
     out: &mut Counted<W>,
     notes: &mut N,
-) -> Ending
+) -> ClusterEnding
 where
     R: Wait + Threads + Clock + Sync,
     T: Transport + Send + Drop,

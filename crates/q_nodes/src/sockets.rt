@@ -4,9 +4,9 @@ ghost use Rattle.std.specs.Prelude.{◌≡◌};
 ghost use Rattle.q_nodes.specs.Runs.{IsWrittenBytes, IsWrittenFile, IsWrittenOf, failures_after};
 ghost use Rattle.q_nodes.specs.Files.{longest_script};
 
-use crate::ending::{Ending, print_refusal};
+use crate::ending::{ClusterEnding, print_refusal};
 use crate::fault::ClusterRunFault;
-use crate::run::run_script;
+use crate::run::run_cluster;
 use crate::script::ClusterScript;
 use q_outside::{Counted, Files, LONGEST_TEXT, Peer, UdpTransport};
 use q_sim::Refusal;
@@ -72,7 +72,7 @@ pub fn run_over_sockets<R: Net + Wait + Threads + Clock + Sync, W: Write, N: Wri
     source: &str,
     out: &mut Counted<W>,
     notes: &mut N,
-) -> Ending
+) -> ClusterEnding
     ensures written { IsWrittenOf source.now result (W.contents out.old.inner) (W.contents out.new.inner) }
     ensures counted { out.new.failures ≡ failures_after result out.old.failures }
 {
@@ -81,7 +81,7 @@ pub fn run_over_sockets<R: Net + Wait + Threads + Clock + Sync, W: Write, N: Wri
         Err(fault) => return print_refusal(fault, out),
     };
     match open_sockets(rt, alloc, script.nodes) {
-        Ok(transports) => run_script(rt, alloc, &script, source, transports, out, notes),
+        Ok(transports) => run_cluster(rt, alloc, &script, source, transports, out, notes),
         Err(error) => {
             note_socket(notes, &error);
             print_refusal(ClusterRunFault::TransportFailed, out)
@@ -98,7 +98,7 @@ fn note_socket<N: Write>(notes: &mut N, error: &io::Error) {
 #[derive(Drop)]
 pub struct FileRun {
     /// How it ended.
-    pub ending: Ending,
+    pub ending: ClusterEnding,
     /// The bytes of the file; none where it failed.
     pub source: Vec<u8>,
 }
@@ -139,7 +139,7 @@ fn run_bytes<R: Net + Wait + Threads + Clock + Sync, W: Write, N: Write>(
     bytes: &[u8],
     out: &mut Counted<W>,
     notes: &mut N,
-) -> Ending
+) -> ClusterEnding
     ensures written { IsWrittenBytes bytes.now result (W.contents out.old.inner) (W.contents out.new.inner) }
     ensures counted { out.new.failures ≡ failures_after result out.old.failures }
 {

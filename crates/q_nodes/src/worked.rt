@@ -29,7 +29,7 @@ ghost use Rattle.q_nodes.specs.Faults as faults;
 ghost use Rattle.q_nodes.specs.Lines.{ComesTo, IsNode, IsQueryOf, IsTold, program_id, refused_line, tally_of, text_of};
 ghost use Rattle.q_nodes.specs.Runs.{IsRefusedAlone, IsTelling, IsWrittenFile, IsWrittenOf, failures_after, ids_to, status_of};
 ghost use Rattle.q_nodes.specs.Scripts.{Fits, IsClusterScript, IsUnfit, SpellsLine};
-ghost use Rattle.q_nodes.specs.declared.ending.Ending.TheVariants as ending;
+ghost use Rattle.q_nodes.specs.declared.ending.ClusterEnding.TheVariants as ending;
 ghost use Rattle.q_nodes.specs.declared.fault.ClusterRunFault.{ClusterRunFault};
 ghost use Rattle.q_nodes.specs.declared.fault.ClusterRunFault.TheVariants.{BadCount, TransportFailed, Script};
 ghost use Rattle.q_nodes.specs.declared.outcome.Outcome.TheVariants as outcome;

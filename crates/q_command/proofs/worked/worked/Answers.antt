@@ -18,7 +18,7 @@ use Rattle.q_sim.specs.Refusal.{refusal_of}
 use Rattle.q_sim.specs.declared.refusal.Refusal.TheVariants.{FileFailed}
 use Rattle.q_command.specs.Audit.{answer_line, answer_lines}
 use Rattle.q_command.specs.Perform.{Answers, IsUnspelled, RefusesFile, SavesNotes, Spells, acceptance, end_of, longest_text}
-use Rattle.q_command.specs.declared.perform.Outcome.TheVariants.{Answered}
+use Rattle.q_command.specs.declared.perform.CommandEnding.TheVariants.{Answered}
 use Rattle.q_command.specs.Words.{is_strict}
 use Rattle.q_command.specs.declared.words.ProgramForm.{ProgramForm}
 use Rattle.q_command.specs.declared.words.ProgramForm.TheVariants.{Bytes}

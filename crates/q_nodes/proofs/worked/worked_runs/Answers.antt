@@ -2,7 +2,7 @@
 use Rattle.std.proofs.Common.{ℕ, List, Option, inl, inr}
 use Rattle.q_nodes.specs.Runs.{IsWrittenOf}
 use Rattle.q_nodes.specs.Scripts.{IsClusterScript}
-use Rattle.q_nodes.specs.declared.ending.Ending.TheVariants as ending
+use Rattle.q_nodes.specs.declared.ending.ClusterEnding.TheVariants as ending
 use Rattle.q_nodes.specs.declared.report.Tally.{Tally}
 use Rattle.q_nodes.specs.declared.script.ClusterScript.{ClusterScript}
 use Rattle.q_nodes.proofs.worked.worked_runs.Goals as goal
