@@ -5,6 +5,7 @@ use Rattle.q_session.specs.declared.job.Job.{Job}
 use Rattle.q_board.specs.declared.found.Look.{Look}
 use Rattle.q_board.specs.AskerModel.{AskerModel}
 use Rattle.q_desk.specs.declared.journal.Entry.{Entry}
+use Rattle.q_desk.specs.declared.journal.Call.TheVariants as call
 use Rattle.q_desk.specs.declared.journal.Entry.TheVariants as entry
 use Rattle.reasons.specs.declared.Reason.{Reason}
 use Rattle.q_book.specs.State.{BookState}
@@ -26,7 +27,7 @@ module _ (a a₁ a₂ : AskerModel) (b b₁ b₂ : BookState) (n m : ℕ) (r : R
     shown = r.shown;
     posts = r.posts;
     hands = o.hands;
-    journal = o.journal ∙ ap (λ (l : List Entry). l ++ replicate (length o.handed) entry.HandOut) r.journal ∙ append_assoc b.desk.journal (map post_of r.accepted) (replicate (length o.handed) entry.HandOut);
+    journal = o.journal ∙ ap (λ (l : List Entry). l ++ replicate (length o.handed) (entry.Call call.HandOut)) r.journal ∙ append_assoc b.desk.journal (map post_of r.accepted) (replicate (length o.handed) (entry.Call call.HandOut));
     balance = omega (arith, o.balance, o.count, r.balance);
     same = (o.same.0 ∙ r.same.0, o.same.1 ∙ r.same.1);
   }

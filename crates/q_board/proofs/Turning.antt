@@ -15,6 +15,7 @@ use Rattle.q_board.specs.AskerModel.{AskerModel}
 use Rattle.q_board.specs.Places.{jobs}
 use Rattle.q_board.specs.Calls.{is_at, row_place, LooksOnly, Receives}
 use Rattle.q_desk.specs.declared.journal.Entry.{Entry}
+use Rattle.q_desk.specs.declared.journal.Call.TheVariants as call
 use Rattle.q_desk.specs.declared.journal.Entry.TheVariants as entry
 use Rattle.q_book.specs.State.{BookState}
 use Rattle.q_book.specs.Books.{handed_out, posted}
@@ -178,8 +179,8 @@ offers_one a a₁ a₂ b b₁ b₂ n r noted o = let j = o.0 in let now = o.3.1 
   received = ap (λ (x : AskerModel). x.received) now ∙ r.received;
   hands = hands_more b b₁ b₂ r.handed j r.hands o.2;
   journal =
-      noted b₁ j b₂ o.2 ∙ ap (λ (l : List Entry). l ++ entry.HandOut ∷ []) r.journal ∙ append_assoc b.desk.journal (replicate (length r.handed) entry.HandOut) (entry.HandOut ∷ [])
-      ∙ ap (λ (l : List Entry). b.desk.journal ++ l) (replicate-append-replicate (length r.handed) 1 entry.HandOut ∙ ap (λ (x : ℕ). replicate x entry.HandOut) (sym (length-append r.handed (j ∷ []))));
+      noted b₁ j b₂ o.2 ∙ ap (λ (l : List Entry). l ++ entry.Call call.HandOut ∷ []) r.journal ∙ append_assoc b.desk.journal (replicate (length r.handed) (entry.Call call.HandOut)) (entry.Call call.HandOut ∷ [])
+      ∙ ap (λ (l : List Entry). b.desk.journal ++ l) (replicate-append-replicate (length r.handed) 1 (entry.Call call.HandOut) ∙ ap (λ (x : ℕ). replicate x (entry.Call call.HandOut)) (sym (length-append r.handed (j ∷ []))));
   balance = omega (arith, r.balance, o.4);
   count = omega (arith, length-append r.handed (j ∷ []), r.count);
   same = (ap (λ (x : AskerModel). x.table) now ∙ r.same.0, ap (λ (x : AskerModel). x.number) now ∙ r.same.1);

@@ -7,6 +7,7 @@ use Rattle.q_board.specs.AskerModel.{AskerModel}
 use Rattle.q_board.specs.Places.{jobs}
 use Rattle.q_board.specs.Calls.{SameAsker}
 use Rattle.q_desk.specs.declared.journal.Entry.{Entry}
+use Rattle.q_desk.specs.declared.journal.Call.TheVariants as call
 use Rattle.q_desk.specs.declared.journal.Entry.TheVariants as entry
 use Rattle.reasons.specs.declared.Reason.{Reason}
 use Rattle.reasons.specs.declared.Reason.TheVariants.{OutOfMemory as memory}
@@ -50,7 +51,7 @@ pub record Carries (a : AskerModel) (b : BookState) (a' : AskerModel) (b' : Book
   pub shown : showing is_finished looks ≡ length results
   pub posts : Posts b results accepted between
   pub hands : HandsOut between handed b'
-  pub journal : b'.desk.journal ≡ b.desk.journal ++ (map post_of accepted ++ replicate (length handed) entry.HandOut)
+  pub journal : b'.desk.journal ≡ b.desk.journal ++ (map post_of accepted ++ replicate (length handed) (entry.Call call.HandOut))
   pub balance : jobs a'.row + length results ≡ jobs a.row + length handed
   pub same : SameAsker a a'
 

@@ -7,6 +7,7 @@ use Rattle.q_board.specs.declared.found.Look.{Look}
 use Rattle.q_board.specs.AskerModel.{AskerModel}
 use Rattle.q_board.specs.Places.{jobs}
 use Rattle.q_board.specs.Calls.{SameAsker, is_at, Offers, LooksOnly, Receives}
+use Rattle.q_desk.specs.declared.journal.Call.TheVariants as call
 use Rattle.q_desk.specs.declared.journal.Entry.TheVariants as entry
 use Rattle.reasons.specs.declared.Reason.{Reason}
 use Rattle.reasons.specs.declared.Reason.TheVariants.{OutOfMemory as memory}
@@ -75,7 +76,7 @@ pub record Offering (a : AskerModel) (b : BookState) (n : ℕ) (a' : AskerModel)
   pub looked : a'.looks ≡ a.looks
   pub received : a'.received ≡ a.received
   pub hands : HandsOut b handed b'
-  pub journal : b'.desk.journal ≡ b.desk.journal ++ replicate (length handed) entry.HandOut
+  pub journal : b'.desk.journal ≡ b.desk.journal ++ replicate (length handed) (entry.Call call.HandOut)
   pub balance : jobs a'.row ≡ jobs a.row + n
   pub count : length handed ≡ n
   pub same : SameAsker a a'

@@ -1,7 +1,7 @@
 -- That a book keeps what each book keeps at each of its calls.
 use Rattle.std.proofs.Common.{◌≡◌, ◌≢◌, ℕ, Bool, true, false, cond, List, [], ◌∷◌, Option, Some, None, Result, Ok, Err, refl, sym, ap, subst, ◌∙◌}
 use Rattle.std.specs.Result.{IsErrAnd}
-use Rattle.forms.specs.Calls.{Steps, Tests, tested}
+use Rattle.forms.specs.Calls.{Steps, Tests, tested, mapped}
 use Rattle.forms.proofs.Calls.{AllHold, same_fault, tested_pass, passes}
 use Rattle.sc_members.specs.Members.{Config}
 use Rattle.sc_msg.specs.declared.message.Message.{Message}
@@ -19,9 +19,11 @@ use Rattle.q_session.specs.declared.job.Job.{Job}
 use Rattle.q_desk.specs.State.{DeskState, new_desk}
 use Rattle.q_desk.specs.Desks as desk
 use Rattle.q_desk.specs.declared.journal.Entry.{Entry}
+use Rattle.q_desk.specs.declared.journal.Call.TheVariants as call
 use Rattle.q_desk.specs.declared.journal.Entry.TheVariants as entry
 use Rattle.q_book.specs.declared.answer.Asked.{Asked}
 use Rattle.q_book.specs.declared.answer.Delivery.{Delivery}
+use Rattle.q_book.specs.declared.reply.Reply.TheVariants as reply
 use Rattle.reasons.specs.declared.Reason.TheVariants.{OutOfMemory as memory}
 use Rattle.q_book.specs.State.{BookState}
 use Rattle.q_book.specs.Books.{present, asking, storing, taking, by_desk, by_node, with_desk, asks, asks_node, asked, stores, stores_node, stored, delivers, delivers_node, delivered, leaves, leaves_node, left, record_lengths}
@@ -47,14 +49,14 @@ same_book b n d hn hd r = subst (λ (p : NodeState × DeskState). IsBook (with b
 pub registered_book : (b : BookState) (program : Certificate) (id : ℕ) (d : DeskState) → AllHold (present b) → desk.registered b.desk program ≡ Ok (id, d) → IsBook b
     → IsBook (with b b.node d)
 registered_book b program id d hold h r =
-    book_next b (with b b.node d) (entry.Register program) r
-    (id, tested_pass (present b) (by_desk (with_desk b) (desk.registered b.desk program)) hold ∙ ap (by_desk (with_desk b)) h)
+    book_next b (with b b.node d) (entry.Call (call.Register program)) r
+    (reply.Registered id, ap (mapped reply.Registered) (tested_pass (present b) (by_desk (with_desk b) (desk.registered b.desk program)) hold ∙ ap (by_desk (with_desk b)) h), tt)
 
 pub handed_book : (b : BookState) (o : Option Job) (d : DeskState) → AllHold (present b) → desk.handed_out b.desk b.id ≡ Ok (o, d) → IsBook b → IsBook (with b b.node d)
 handed_book b None d hold h r = same_book b b.node d refl (sym (handed_after b.desk b.id (None, d) h)) r
 handed_book b (Some j) d hold h r =
-    book_next b (with b b.node d) entry.HandOut r
-    (j, tested_pass (present b) (by_desk (with_desk b) (desk.handed_out b.desk b.id)) hold ∙ ap (by_desk (with_desk b)) h)
+    book_next b (with b b.node d) (entry.Call call.HandOut) r
+    (reply.HandedOut (Some j), ap (mapped reply.HandedOut) (tested_pass (present b) (by_desk (with_desk b) (desk.handed_out b.desk b.id)) hold ∙ ap (by_desk (with_desk b)) h), tt)
 
 pub posted_book : (b : BookState) (j : Job) (ran : Ran) (d : DeskState) → AllHold (present b) → desk.posted b.desk b.id j ran ≡ Ok (tt, d) → IsRight j.certified j.view j.start ran
     → IsBook b → IsBook (with b b.node d)
@@ -133,15 +135,15 @@ module _ (b : BookState) where
       tested_pass (asking b program) (by_desk (asks_node b) (desk.asked b.desk b.node.operations program start)) hold
       ∙ by_both (asks b) (λ query begun. (query, begun)) asks_call (λ q d begun n. refl) (desk.asked b.desk b.node.operations program start) (node.collect_begun b.node)
 
-  pub stored_by : (value : List ℕ) → AllHold (storing b value) → stored b value ≡ by_call stores_call (desk.noting b.desk (entry.Store value) (node.store_begun b.node value))
+  pub stored_by : (value : List ℕ) → AllHold (storing b value) → stored b value ≡ by_call stores_call (desk.noting b.desk (entry.Call (call.Store value)) (node.store_begun b.node value))
   stored_by value hold =
-      tested_pass (storing b value) (by_desk (stores_node b value) (desk.noted b.desk (entry.Store value))) hold
-      ∙ by_both (λ u d. stores b d) (λ u begun. begun) stores_call (λ u d begun n. refl) (desk.noted b.desk (entry.Store value)) (node.store_begun b.node value)
+      tested_pass (storing b value) (by_desk (stores_node b value) (desk.noted b.desk (entry.Call (call.Store value)))) hold
+      ∙ by_both (λ u d. stores b d) (λ u begun. begun) stores_call (λ u d begun n. refl) (desk.noted b.desk (entry.Call (call.Store value))) (node.store_begun b.node value)
 
-  pub left_by : AllHold (present b) → left b ≡ by_call leaves_call (desk.noting b.desk entry.Leave (node.left b.node))
+  pub left_by : AllHold (present b) → left b ≡ by_call leaves_call (desk.noting b.desk (entry.Call call.Leave) (node.left b.node))
   left_by hold =
-      tested_pass (present b) (by_desk (leaves_node b) (desk.noted b.desk entry.Leave)) hold
-      ∙ by_both (λ u d. leaves b d) (λ u outs. outs) leaves_call (λ u d outs n. refl) (desk.noted b.desk entry.Leave) (node.left b.node)
+      tested_pass (present b) (by_desk (leaves_node b) (desk.noted b.desk (entry.Call call.Leave))) hold
+      ∙ by_both (λ u d. leaves b d) (λ u outs. outs) leaves_call (λ u d outs n. refl) (desk.noted b.desk (entry.Call call.Leave)) (node.left b.node)
 
   pub delivered_by : (m : Message) → AllHold (taking b m) → delivered b m ≡ by_call delivers_call (desk.noting b.desk (entry.Deliver m) (node.delivered b.node m))
   delivered_by m hold =

@@ -16,13 +16,20 @@ use Rattle.q_session.specs.declared.job.Job.{Job}
 use Rattle.q_desk.specs.State.{DeskState}
 use Rattle.q_desk.specs.Desks as desk
 use Rattle.q_desk.specs.declared.journal.Entry.{Entry}
+use Rattle.forms.specs.Calls.{mapped}
+use Rattle.forms.proofs.Calls.{mapped_ok}
+use Rattle.q_desk.specs.declared.journal.Call.{Call}
+use Rattle.q_desk.specs.declared.journal.Call.TheVariants as call
 use Rattle.q_desk.specs.declared.journal.Entry.TheVariants as entry
 use Rattle.q_desk.proofs.Accepted.{Keeps, IsPosted, posted_is, posted_one, same_answer, collect_tag}
 use Rattle.q_desk.proofs.Changes.{Told, idle, left, began, took, Change, GoesOn, IsAfter, after_keeps, noted_after, registered_after, asked_after, ended_after, IsHanded, handed_after, posted_after}
 use Rattle.q_book.specs.State.{BookState}
 use Rattle.q_book.specs.Books as book
 use Rattle.q_book.specs.Replays.{Follows, EntryFits}
+use Rattle.q_book.specs.Called.{called, IsNoted, reply_outs, reply_job}
 use Rattle.q_book.specs.Sends.{seen, sends, handed}
+use Rattle.q_book.specs.declared.reply.Reply.{Reply}
+use Rattle.q_book.specs.declared.reply.Reply.TheVariants as reply
 use Rattle.q_book.specs.declared.answer.Asked.{Asked}
 use Rattle.q_book.specs.declared.answer.Delivery.{Delivery}
 use Rattle.reasons.specs.declared.Reason.{Reason}
@@ -38,12 +45,18 @@ pub data Deed : Type 0 where
   Delivers : Message → Deed
   Idles : Deed
 
-abbrev pub deed : Entry → Deed
-deed entry.Leave = Leaves
-deed (entry.Ask program start) = Collects
-deed (entry.Store value) = Stores value
-deed (entry.Deliver m) = Delivers m
-deed e = Idles
+-- what it does at a call that was answered so
+abbrev pub reply_deed : Reply → Deed
+reply_deed (reply.Left outs) = Leaves
+reply_deed (reply.Asked a) = Collects
+reply_deed (reply.Stored value a) = Stores value
+reply_deed a = Idles
+
+-- what it does at what an entry tells of
+abbrev pub deed : (b : BookState) (e : Entry) (c : BookState) → Follows b e c → Deed
+deed b (entry.Call k) c f = reply_deed f.0
+deed b (entry.Deliver m) c f = Delivers m
+deed b (entry.Post query ran) c f = Idles
 
 -- what a call told of a message, with the operation that the node says has ended
 abbrev pub taken : Delivery → Option Ended → Told
@@ -54,14 +67,18 @@ abbrev pub ended_by : Result (Delivered × NodeState) Reason → Option Ended
 ended_by (Ok a) = a.0.ended
 ended_by (Err e) = None
 
--- what the call of an entry told
+-- what a reply tells
+abbrev pub reply_told : Reply → Told
+reply_told (reply.Left outs) = left outs
+reply_told (reply.Asked a) = began a.begun
+reply_told (reply.Stored value a) = began a
+reply_told a = idle None
+
+-- what is told at an entry
 abbrev pub told : (b : BookState) (e : Entry) (c : BookState) → Follows b e c → Told
-told b entry.Leave c f = left f.0
-told b (entry.Ask program start) c f = began f.0.begun
-told b (entry.Store value) c f = began f.0
+told b (entry.Call k) c f = reply_told f.0
 told b (entry.Deliver m) c f = taken f.0 (ended_by (node.delivered b.node m))
 told b (entry.Post query ran) c f = idle (Some (f.0, ran))
-told b e c f = idle None
 
 -- it is done, and this is told of it; each value of it has a length of the book's version
 abbrev pub NodeDid : BookState → Deed → Told → NodeState → Type 0
@@ -71,16 +88,20 @@ NodeDid b (Stores value) t n = (a : Begun) × (node.store_begun b.node value ≡
 NodeDid b (Delivers m) t n = (a : Delivered) × (node.delivered b.node m ≡ Ok (a, n)) × (took a ≡ t) × Fits b.version m
 NodeDid b Idles t n = (b.node ≡ n) × (idle t.answer ≡ t)
 
--- The node had not left. It and the desk did this, and nothing else changed. The journal goes on with the entry.
-pub record IsAccepted (b : BookState) (e : Entry) (t : Told) (c : BookState) : Type 0 where
+-- The node had not left. It did this, and so did the desk, and nothing else changed. The journal goes on with the entry.
+pub record IsAccepted (b : BookState) (e : Entry) (x : Deed) (t : Told) (c : BookState) : Type 0 where
   pub same : record b { node = c.node; desk = c.desk } ≡ c
   pub there : b.node.gone ≡ false
-  pub node : NodeDid b (deed e) t c.node
+  pub node : NodeDid b x t c.node
   pub sent : t.outs ≡ sends b e
   pub change : Change b.desk b.id t c.desk (handed b e)
   pub keeps : Keeps b.desk c.desk
   pub adds : GoesOn b.desk e c.desk
   pub fits : EntryFits b.version e
+
+-- the same of a call that was answered so
+abbrev pub Accepts : BookState → Call → Reply → BookState → Type 0
+Accepts b k a c = IsAccepted b (entry.Call k) (reply_deed a) (reply_told a) c
 
 -- ---- each call
 
@@ -88,71 +109,91 @@ module _ (b : BookState) where
   seen_is : {A X : Type 0} (f : A → X) (none : X) (r : Result (A × BookState) Reason) (z y : A × BookState) → r ≡ Ok z → y ≡ z → f y.0 ≡ seen f none r
   seen_is f none r z y h same = ap (λ (x : _ × BookState). f x.0) same ∙ sym (ap (seen f none) h)
 
-  -- from what is said of each part
-  made : (e : Entry) (t : Told) (n : NodeState) (d : DeskState) → b.node.gone ≡ false → NodeDid b (deed e) t n → t.outs ≡ sends b e → IsAfter b.desk b.id t e d (handed b e)
-      → EntryFits b.version e → IsAccepted b e t (record b { node = n; desk = d })
-  made e t n d there node sent after fits = record {
-    same = refl;
-    there = there;
-    node = node;
-    sent = sent;
-    change = after.change;
-    keeps = after_keeps b.desk b.id t e d (handed b e) after;
-    adds = after.adds;
-    fits = fits;
-  }
+  -- what is seen of a call's reply
+  reply_is : {A X : Type 0} (f : Reply → X) (none : X) (g : A → Reply) (r : Result (A × BookState) Reason) (z y : A × BookState) → r ≡ Ok z → y ≡ z → f (g y.0) ≡ seen f none (mapped g r)
+  reply_is f none g r z y h same =
+      ap (λ (x : _ × BookState). f (g x.0)) same ∙ sym (ap (λ (x : Result (_ × BookState) Reason). seen f none (mapped g x)) h)
 
-  left-accepted : (z : List Message × BookState) → book.left b ≡ Ok z → IsAccepted b entry.Leave (left z.0) z.1
+  -- from what is said of each part
+  made : (e : Entry) (x : Deed) (t : Told) (n : NodeState) (d : DeskState) (o : Option Job) → b.node.gone ≡ false → NodeDid b x t n → t.outs ≡ sends b e → o ≡ handed b e
+      → IsAfter b.desk b.id t e d o → EntryFits b.version e → IsAccepted b e x t (record b { node = n; desk = d })
+  made e x t n d o there node sent hands after fits =
+      let a = subst (IsAfter b.desk b.id t e d) hands after in
+      record {
+        same = refl;
+        there = there;
+        node = node;
+        sent = sent;
+        change = a.change;
+        keeps = after_keeps b.desk b.id t e d (handed b e) a;
+        adds = a.adds;
+        fits = fits;
+      }
+
+  left-accepted : (z : List Message × BookState) → book.left b ≡ Ok z → Accepts b call.Leave (reply.Left z.0) z.1
   left-accepted z h =
       let a = left-parts b z h in
-      subst (λ (x : List Message × BookState). IsAccepted b entry.Leave (left x.0) x.1) a.2
-      (made entry.Leave (left a.0.0) a.0.1 (desk.with_entry b.desk entry.Leave) (is_there b _ z h) (a.0.0, a.1, refl)
-      (seen_is (λ (x : List Message). x) [] (book.left b) z _ h a.2) (noted_after b.desk b.id (left a.0.0) entry.Leave) tt)
+      let e = entry.Call call.Leave in
+      let y = book.leaves b (desk.with_entry b.desk e) a.0.0 a.0.1 in
+      subst (λ (x : List Message × BookState). Accepts b call.Leave (reply.Left x.0) x.1) a.2
+      (made e Leaves (left a.0.0) a.0.1 (desk.with_entry b.desk e) None (is_there b _ z h) (a.0.0, a.1, refl)
+      (reply_is reply_outs [] reply.Left (book.left b) z y h a.2) (reply_is reply_job None reply.Left (book.left b) z y h a.2)
+      (noted_after b.desk b.id (left a.0.0) e) tt)
 
-  stored-accepted : (value : List ℕ) (z : Begun × BookState) → book.stored b value ≡ Ok z → IsAccepted b (entry.Store value) (began z.0) z.1
+  stored-accepted : (value : List ℕ) (z : Begun × BookState) → book.stored b value ≡ Ok z → Accepts b (call.Store value) (reply.Stored value z.0) z.1
   stored-accepted value z h =
       let a = stored-parts b value z h in
+      let e = entry.Call (call.Store value) in
+      let y = book.stores b (desk.with_entry b.desk e) a.0.0 a.0.1 in
       let fits = told_is (length value) (value_lengths b.version) (stored-fits b value z h) in
-      subst (λ (x : Begun × BookState). IsAccepted b (entry.Store value) (began x.0) x.1) a.2
-      (made (entry.Store value) (began a.0.0) a.0.1 (desk.with_entry b.desk (entry.Store value)) (is_there b _ z h) (a.0.0, a.1, refl, fits)
-      (seen_is (λ (x : Begun). x.outs) [] (book.stored b value) z _ h a.2) (noted_after b.desk b.id (began a.0.0) (entry.Store value)) fits)
+      subst (λ (x : Begun × BookState). Accepts b (call.Store value) (reply.Stored value x.0) x.1) a.2
+      (made e (Stores value) (began a.0.0) a.0.1 (desk.with_entry b.desk e) None (is_there b _ z h) (a.0.0, a.1, refl, fits)
+      (reply_is reply_outs [] (reply.Stored value) (book.stored b value) z y h a.2) (reply_is reply_job None (reply.Stored value) (book.stored b value) z y h a.2)
+      (noted_after b.desk b.id (began a.0.0) e) fits)
 
   delivered-accepted : (m : Message) (z : Delivery × BookState) → book.delivered b m ≡ Ok z
-      → IsAccepted b (entry.Deliver m) (taken z.0 (ended_by (node.delivered b.node m))) z.1
+      → IsAccepted b (entry.Deliver m) (Delivers m) (taken z.0 (ended_by (node.delivered b.node m))) z.1
   delivered-accepted m z h =
       let a = delivered-parts b m z h in
       let ended = ended_by (node.delivered b.node m) in
       let ends : ended ≡ a.0.0.ended = ap ended_by a.1 in
       let x = book.delivers b (desk.with_entry b.desk (entry.Deliver m)) a.0.0 a.0.1 in
       let fits = message_told (value_lengths b.version) m (delivered-fits b m z h) in
-      subst (λ (y : Delivery × BookState). IsAccepted b (entry.Deliver m) (taken y.0 ended) y.1) a.2
-      (made (entry.Deliver m) (taken x.0 ended) a.0.1 x.1.desk (is_there b _ z h) (a.0.0, a.1, ap (taken x.0) (sym ends), fits)
-      (seen_is (λ (y : Delivery). y.outs) [] (book.delivered b m) z _ h a.2) (ended_after b.desk b.id (entry.Deliver m) (taken x.0 ended) a.0.0.ended ends) fits)
+      subst (λ (y : Delivery × BookState). IsAccepted b (entry.Deliver m) (Delivers m) (taken y.0 ended) y.1) a.2
+      (made (entry.Deliver m) (Delivers m) (taken x.0 ended) a.0.1 x.1.desk None (is_there b _ z h) (a.0.0, a.1, ap (taken x.0) (sym ends), fits)
+      (seen_is (λ (y : Delivery). y.outs) [] (book.delivered b m) z _ h a.2) refl (ended_after b.desk b.id (entry.Deliver m) (taken x.0 ended) a.0.0.ended ends) fits)
 
-  asked-accepted : (program start : ℕ) (z : Asked × BookState) → book.asked b program start ≡ Ok z → IsAccepted b (entry.Ask program start) (began z.0.begun) z.1
+  asked-accepted : (program start : ℕ) (z : Asked × BookState) → book.asked b program start ≡ Ok z → Accepts b (call.Ask program start) (reply.Asked z.0) z.1
   asked-accepted program start z h =
       let a = asked-parts b program start z h in
+      let e = entry.Call (call.Ask program start) in
       let begun = a.2.0 in
-      subst (λ (x : Asked × BookState). IsAccepted b (entry.Ask program start) (began x.0.begun) x.1) a.4
-      (made (entry.Ask program start) (began begun) a.2.1 a.0.1 (is_there b _ z h) (begun, a.3, refl)
-      (seen_is (λ (x : Asked). x.begun.outs) [] (book.asked b program start) z _ h a.4)
+      let y = book.asks b a.0.0 a.0.1 begun a.2.1 in
+      subst (λ (x : Asked × BookState). Accepts b (call.Ask program start) (reply.Asked x.0) x.1) a.4
+      (made e Collects (began begun) a.2.1 a.0.1 None (is_there b _ z h) (begun, a.3, refl)
+      (reply_is reply_outs [] reply.Asked (book.asked b program start) z y h a.4) (reply_is reply_job None reply.Asked (book.asked b program start) z y h a.4)
       (asked_after b.desk b.id b.node.operations program start begun a.0 (collect_tag b.node a.2.1 begun a.3) a.1) tt)
 
-  registered-accepted : (program : Certificate) (z : ℕ × BookState) → book.registered b program ≡ Ok z → IsAccepted b (entry.Register program) (idle None) z.1
+  registered-accepted : (program : Certificate) (z : ℕ × BookState) → book.registered b program ≡ Ok z → Accepts b (call.Register program) (reply.Registered z.0) z.1
   registered-accepted program z h =
       let a = desk-parts b (desk.registered b.desk program) z h in
-      subst (λ (x : ℕ × BookState). IsAccepted b (entry.Register program) (idle None) x.1) a.2
-      (made (entry.Register program) (idle None) b.node a.0.1 (is_there b _ z h) (refl, refl) refl (registered_after b.desk b.id program a.0 a.1) tt)
+      let e = entry.Call (call.Register program) in
+      let y : ℕ × BookState = (a.0.0, record b { desk = a.0.1 }) in
+      subst (λ (x : ℕ × BookState). Accepts b (call.Register program) (reply.Registered x.0) x.1) a.2
+      (made e Idles (idle None) b.node a.0.1 None (is_there b _ z h) (refl, refl)
+      (reply_is reply_outs [] reply.Registered (book.registered b program) z y h a.2) (reply_is reply_job None reply.Registered (book.registered b program) z y h a.2)
+      (registered_after b.desk b.id program a.0 a.1) tt)
 
-  pub handed-accepted : (j : Job) (c : BookState) → book.handed_out b ≡ Ok (Some j, c) → IsAccepted b entry.HandOut (idle None) c
+  pub handed-accepted : (j : Job) (c : BookState) → book.handed_out b ≡ Ok (Some j, c) → Accepts b call.HandOut (reply.HandedOut (Some j)) c
   handed-accepted j c h =
       let a = desk-parts b (desk.handed_out b.desk b.id) (Some j, c) h in
+      let e = entry.Call call.HandOut in
       let first : a.0.0 ≡ Some j = ap (λ (x : Option Job × BookState). x.0) a.2 in
-      let hands : Some j ≡ handed b entry.HandOut = sym (ap (seen (λ (x : Option Job). x) None) h) in
       let after = subst (IsHanded b.desk b.id a.0.1) first (handed_after b.desk b.id a.0 a.1) in
-      subst (λ (x : Option Job × BookState). IsAccepted b entry.HandOut (idle None) x.1) a.2
-      (made entry.HandOut (idle None) b.node a.0.1 (is_there b _ (Some j, c) h) (refl, refl) refl
-      (subst (IsAfter b.desk b.id (idle None) entry.HandOut a.0.1) hands after) tt)
+      subst (λ (x : Option Job × BookState). Accepts b call.HandOut (reply.HandedOut (Some j)) x.1) a.2
+      (made e Idles (idle None) b.node a.0.1 (Some j) (is_there b _ (Some j, c) h) (refl, refl)
+      (reply_is reply_outs [] reply.HandedOut (book.handed_out b) (Some j, c) (Some j, c) h refl) (reply_is reply_job None reply.HandedOut (book.handed_out b) (Some j, c) (Some j, c) h refl)
+      after tt)
 
   -- where no query is ready, nothing changes
   pub none-handed : (c : BookState) → book.handed_out b ≡ Ok (None, c) → b ≡ c
@@ -162,6 +203,38 @@ module _ (b : BookState) where
       let kept = subst (IsHanded b.desk b.id a.0.1) none (handed_after b.desk b.id a.0 a.1) in
       ap (λ (d : DeskState). let y : BookState = record b { desk = d } in y) kept ∙ ap (λ (x : Option Job × BookState). x.1) a.2
 
+  hands-accepted : (o : Option Job) (c : BookState) → book.handed_out b ≡ Ok (o, c) → IsNoted (reply.HandedOut o) → Accepts b call.HandOut (reply.HandedOut o) c
+  hands-accepted None c h noted = absurd noted
+  hands-accepted (Some j) c h noted = handed-accepted j c h
+
+  -- what a call answers is what is said of its part
+  by_reply : {A : Type 0} (g : A → Reply) (r : Result (A × BookState) Reason) (P : Reply × BookState → Type 0) → ((z : A × BookState) → r ≡ Ok z → P (g z.0, z.1)) → (y : Reply × BookState) → mapped g r ≡ Ok y → P y
+  by_reply g r P each y h = let m = mapped_ok g r y h in subst P m.2 (each m.0 m.1)
+
+  called-accepted : (k : Call) (y : Reply × BookState) → called b k ≡ Ok y → IsNoted y.0 → Accepts b k y.0 y.1
+  called-accepted call.Leave y h noted = by_reply reply.Left (book.left b) (λ (x : Reply × BookState). Accepts b call.Leave x.0 x.1) left-accepted y h
+  called-accepted (call.Register program) y h noted =
+      by_reply reply.Registered (book.registered b program) (λ (x : Reply × BookState). Accepts b (call.Register program) x.0 x.1) (registered-accepted program) y h
+  called-accepted (call.Ask program start) y h noted =
+      by_reply reply.Asked (book.asked b program start) (λ (x : Reply × BookState). Accepts b (call.Ask program start) x.0 x.1) (asked-accepted program start) y h
+  called-accepted (call.Store value) y h noted =
+      by_reply (reply.Stored value) (book.stored b value) (λ (x : Reply × BookState). Accepts b (call.Store value) x.0 x.1) (stored-accepted value) y h
+  called-accepted call.HandOut y h noted =
+      by_reply reply.HandedOut (book.handed_out b) (λ (x : Reply × BookState). IsNoted x.0 → Accepts b call.HandOut x.0 x.1) (λ z. hands-accepted z.0 z.1) y h noted
+
+  no_job : {A : Type 0} (g : A → Reply) (r : Result (A × BookState) Reason) (c : BookState) → ((a : A) → IsNoted (g a)) → mapped g r ≡ Ok (reply.HandedOut None, c) → ⊥
+  no_job g r c noted h = by_reply g r (λ (x : Reply × BookState). IsNoted x.0) (λ z _. noted z.0) (reply.HandedOut None, c) h
+
+  -- a call that is not noted changes nothing
+  pub none-called : (k : Call) (c : BookState) → called b k ≡ Ok (reply.HandedOut None, c) → b ≡ c
+  none-called call.Leave c h = absurd (no_job reply.Left (book.left b) c (λ a. tt) h)
+  none-called (call.Register program) c h = absurd (no_job reply.Registered (book.registered b program) c (λ a. tt) h)
+  none-called (call.Ask program start) c h = absurd (no_job reply.Asked (book.asked b program start) c (λ a. tt) h)
+  none-called (call.Store value) c h = absurd (no_job (reply.Stored value) (book.stored b value) c (λ a. tt) h)
+  none-called call.HandOut c h =
+      let m = mapped_ok reply.HandedOut (book.handed_out b) (reply.HandedOut None, c) h in
+      none-handed c (m.1 ∙ (λ i. let r : Result (Option Job × BookState) Reason = Ok (ap (λ (x : Reply × BookState). reply_job x.0) m.2 i, ap (λ (x : Reply × BookState). x.1) m.2 i) in r))
+
   -- the answer is recorded
   pub is_posted : (j : Job) (ran : Ran) (c : BookState) → book.posted b j ran ≡ Ok (tt, c) → ((j.node == b.id) ≡ true) × IsPosted b.desk j ran c.desk
   is_posted j ran c h =
@@ -169,24 +242,21 @@ module _ (b : BookState) where
       let p = posted_is b.desk j ran a.0 b.id a.1 in
       (p.0, subst (IsPosted b.desk j ran) (ap (λ (x : Unit {0} × BookState). x.1.desk) a.2) p.1)
 
-  pub posted-accepted : (j : Job) (ran : Ran) (c : BookState) → book.posted b j ran ≡ Ok (tt, c) → IsAccepted b (entry.Post j.query ran) (idle (Some (j, ran))) c
+  pub posted-accepted : (j : Job) (ran : Ran) (c : BookState) → book.posted b j ran ≡ Ok (tt, c) → IsAccepted b (entry.Post j.query ran) Idles (idle (Some (j, ran))) c
   posted-accepted j ran c h =
       let a = desk-parts b (desk.posted b.desk b.id j ran) (tt, c) h in
-      subst (λ (x : Unit {0} × BookState). IsAccepted b (entry.Post j.query ran) (idle (Some (j, ran))) x.1) a.2
-      (made (entry.Post j.query ran) (idle (Some (j, ran))) b.node a.0.1 (is_there b _ (tt, c) h) (refl, refl) refl (posted_after b.desk b.id j ran a.0 a.1) tt)
+      subst (λ (x : Unit {0} × BookState). IsAccepted b (entry.Post j.query ran) Idles (idle (Some (j, ran))) x.1) a.2
+      (made (entry.Post j.query ran) Idles (idle (Some (j, ran))) b.node a.0.1 None (is_there b _ (tt, c) h) (refl, refl) refl refl (posted_after b.desk b.id j ran a.0 a.1) tt)
 
-  -- the call of an entry
-  pub follows-accepted : (e : Entry) (c : BookState) (f : Follows b e c) → IsAccepted b e (told b e c f) c
-  follows-accepted entry.Leave c f = left-accepted (f.0, c) f.1
-  follows-accepted (entry.Register program) c f = registered-accepted program (f.0, c) f.1
-  follows-accepted (entry.Ask program start) c f = asked-accepted program start (f.0, c) f.1
-  follows-accepted (entry.Store value) c f = stored-accepted value (f.0, c) f.1
+  -- what an entry tells of
+  pub follows-accepted : (e : Entry) (c : BookState) (f : Follows b e c) → IsAccepted b e (deed b e c f) (told b e c f) c
+  follows-accepted (entry.Call k) c f = called-accepted k (f.0, c) f.1 f.2
   follows-accepted (entry.Deliver m) c f = delivered-accepted m (f.0, c) f.1
-  follows-accepted entry.HandOut c f = handed-accepted f.0 c f.1
-  follows-accepted (entry.Post query ran) c f = subst (λ (k : ℕ). IsAccepted b (entry.Post k ran) (idle (Some (f.0, ran))) c) f.1 (posted-accepted f.0 ran c f.3)
+  follows-accepted (entry.Post query ran) c f =
+      subst (λ (k : ℕ). IsAccepted b (entry.Post k ran) Idles (idle (Some (f.0, ran))) c) f.1 (posted-accepted f.0 ran c f.3)
 
   -- by its name in the crates above
-  pub follows-next : (e : Entry) (c : BookState) (f : Follows b e c) → IsAccepted b e (told b e c f) c
+  pub follows-next : (e : Entry) (c : BookState) (f : Follows b e c) → IsAccepted b e (deed b e c f) (told b e c f) c
   follows-next e c f = follows-accepted e c f
 
   -- ---- one book at most
@@ -206,10 +276,6 @@ module _ (b : BookState) where
       sym (post_is i ran c f) ∙ ap (λ (x : DeskState). let y : BookState = record b { desk = x } in y) desks ∙ post_is j ran d g
 
   pub follows_one : (c d : BookState) (e : Entry) → Follows b e c → Follows b e d → c ≡ d
-  follows_one c d entry.Leave f g = same_next (book.left b) f.0 g.0 c d f.1 g.1
-  follows_one c d (entry.Register program) f g = same_next (book.registered b program) f.0 g.0 c d f.1 g.1
-  follows_one c d (entry.Ask program start) f g = same_next (book.asked b program start) f.0 g.0 c d f.1 g.1
-  follows_one c d (entry.Store value) f g = same_next (book.stored b value) f.0 g.0 c d f.1 g.1
+  follows_one c d (entry.Call k) f g = same_next (called b k) f.0 g.0 c d f.1 g.1
   follows_one c d (entry.Deliver m) f g = same_next (book.delivered b m) f.0 g.0 c d f.1 g.1
-  follows_one c d entry.HandOut f g = same_next (book.handed_out b) (Some f.0) (Some g.0) c d f.1 g.1
   follows_one c d (entry.Post query ran) f g = same_post f.0 g.0 ran c d (f.1 ∙ sym g.1) f.3 g.3

@@ -15,12 +15,12 @@ use Rattle.reasons.specs.declared.Reason.{Reason}
 use Rattle.q_desk.specs.State.{DeskState}
 use Rattle.q_desk.specs.Desks as desk
 use Rattle.q_desk.specs.declared.journal.Entry.{Entry}
+use Rattle.q_desk.specs.declared.journal.Call.TheVariants as call
 use Rattle.q_desk.specs.declared.journal.Entry.TheVariants as entry
 use Rattle.q_book.specs.State.{BookState}
 use Rattle.q_book.specs.Books as book
 use Rattle.q_book.specs.declared.answer.Asked.{Asked}
 use Rattle.q_book.specs.declared.answer.Delivery.{Delivery}
-use Rattle.reasons.specs.declared.Reason.TheVariants as reasons
 
 -- the node's part was accepted
 pub by_node-ok : {A B : Type 0} (f : A → NodeState → B) (r : Result (A × NodeState) Reason) (z : B) → book.by_node f r ≡ Ok z → (a : A × NodeState) × (r ≡ Ok a) × (f a.0 a.1 ≡ z)
@@ -46,9 +46,9 @@ module _ (b : BookState) where
   is_there r z h = not-true b.node.gone (tested_ok (book.present b) r z h).0.0
 
   pub left-parts : (z : List Message × BookState) → book.left b ≡ Ok z
-      → (a : List Message × NodeState) × (node.left b.node ≡ Ok a) × (book.leaves b (desk.with_entry b.desk entry.Leave) a.0 a.1 ≡ z)
+      → (a : List Message × NodeState) × (node.left b.node ≡ Ok a) × (book.leaves b (desk.with_entry b.desk (entry.Call call.Leave)) a.0 a.1 ≡ z)
   left-parts z h =
-      by_node-ok (book.leaves b (desk.with_entry b.desk entry.Leave)) (node.left b.node) z (noted-ok (book.leaves_node b) b.desk entry.Leave z (tested_ok (book.present b) _ z h).1)
+      by_node-ok (book.leaves b (desk.with_entry b.desk (entry.Call call.Leave))) (node.left b.node) z (noted-ok (book.leaves_node b) b.desk (entry.Call call.Leave) z (tested_ok (book.present b) _ z h).1)
 
   pub delivered-parts : (m : Message) (z : Delivery × BookState) → book.delivered b m ≡ Ok z
       → (a : Delivered × NodeState) × (node.delivered b.node m ≡ Ok a) × (book.delivers b (desk.with_entry b.desk (entry.Deliver m)) a.0 a.1 ≡ z)
@@ -61,10 +61,10 @@ module _ (b : BookState) where
   delivered-fits m z h = (tested_ok (book.taking b m) _ z h).0.1.0
 
   pub stored-parts : (value : List ℕ) (z : Begun × BookState) → book.stored b value ≡ Ok z
-      → (a : Begun × NodeState) × (node.store_begun b.node value ≡ Ok a) × (book.stores b (desk.with_entry b.desk (entry.Store value)) a.0 a.1 ≡ z)
+      → (a : Begun × NodeState) × (node.store_begun b.node value ≡ Ok a) × (book.stores b (desk.with_entry b.desk (entry.Call (call.Store value))) a.0 a.1 ≡ z)
   stored-parts value z h =
-      by_node-ok (book.stores b (desk.with_entry b.desk (entry.Store value))) (node.store_begun b.node value) z
-      (noted-ok (book.stores_node b value) b.desk (entry.Store value) z (tested_ok (book.storing b value) _ z h).1)
+      by_node-ok (book.stores b (desk.with_entry b.desk (entry.Call (call.Store value)))) (node.store_begun b.node value) z
+      (noted-ok (book.stores_node b value) b.desk (entry.Call (call.Store value)) z (tested_ok (book.storing b value) _ z h).1)
 
   -- a value that was stored has a length of it
   pub stored-fits : (value : List ℕ) (z : Begun × BookState) → book.stored b value ≡ Ok z → is_within (length value) (value_lengths b.version) ≡ true

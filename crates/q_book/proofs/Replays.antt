@@ -15,7 +15,7 @@ use Rattle.q_book.specs.Books.{new_book}
 use Rattle.q_book.specs.Replays.{Follows, Replays, IsFirst, IsReplay, IsBook}
 use Rattle.q_desk.proofs.Accepted.{Keeps, keeps_itself, keeps_on}
 use Rattle.q_desk.proofs.Changes.{Told}
-use Rattle.q_book.proofs.Followed.{IsAccepted, follows-accepted}
+use Rattle.q_book.proofs.Followed.{Deed, IsAccepted, follows-accepted}
 
 replays_next : (es : List Entry) (b c d : BookState) (e : Entry) → Replays b es c → Follows c e d → Replays b (es ++ e ∷ []) d
 replays_next [] b c d e h s = (d, subst (λ (x : BookState). Follows x e d) h s, refl)
@@ -52,8 +52,8 @@ pub record IsLater (b : BookState) (es : List Entry) (c : BookState) : Type 0 wh
 later_itself : (b : BookState) → IsLater b [] b
 later_itself b = record { same = refl; keeps = keeps_itself b.desk; adds = sym (append-nil b.desk.journal) }
 
-later_next : (b c d : BookState) (e : Entry) (es : List Entry) (t : Told) → IsAccepted b e t c → IsLater c es d → IsLater b (e ∷ es) d
-later_next b c d e es t n l = record {
+later_next : (b c d : BookState) (e : Entry) (es : List Entry) (x : Deed) (t : Told) → IsAccepted b e x t c → IsLater c es d → IsLater b (e ∷ es) d
+later_next b c d e es x t n l = record {
   same = ap (λ (x : BookState). let y : BookState = record x { node = d.node; desk = d.desk } in y) n.same ∙ l.same;
   keeps = keeps_on b.desk c.desk d.desk n.keeps l.keeps;
   adds = l.adds ∙ ap (λ (xs : List Entry). xs ++ es) n.adds ∙ append_assoc b.desk.journal (e ∷ []) es;
@@ -61,7 +61,7 @@ later_next b c d e es t n l = record {
 
 pub replays_later : (es : List Entry) (b c : BookState) → Replays b es c → IsLater b es c
 replays_later [] b c r = subst (IsLater b []) (sym r) (later_itself b)
-replays_later (e ∷ es) b c r = later_next b r.0 c e es _ (follows-accepted b e r.0 r.1) (replays_later es r.0 c r.2)
+replays_later (e ∷ es) b c r = later_next b r.0 c e es _ _ (follows-accepted b e r.0 r.1) (replays_later es r.0 c r.2)
 
 -- ---- how many founders there are
 

@@ -21,7 +21,7 @@ use Rattle.q_book.specs.State.{BookState}
 use Rattle.q_book.specs.Replays.{Follows, Replays, IsFirst, IsReplay, EntryFits}
 use Rattle.q_book.specs.Sends.{sends}
 use Rattle.q_desk.proofs.Changes.{Told}
-use Rattle.q_book.proofs.Followed.{Deed, Leaves, Collects, Stores, Delivers, Idles, deed, NodeDid, IsAccepted, follows-accepted}
+use Rattle.q_book.proofs.Followed.{Deed, Leaves, Collects, Stores, Delivers, Idles, NodeDid, IsAccepted, follows-accepted}
 
 -- no call changes the version
 pub same_version : (b : BookState) (e : Entry) (c : BookState) → Follows b e c → c.version ≡ b.version
@@ -64,14 +64,14 @@ module _ (b : BookState) where
   did_fit Idles t n d fits =
       subst (λ (y : Told). Kept n y.outs) d.1 (subst (NodeHasValuesWithin l) d.0 fits, All-from_recursion (message.Fits b.version) [] tt)
 
-pub accepted_fit : (b : BookState) (e : Entry) (t : Told) (c : BookState) → IsAccepted b e t c → Fits b → Fits c × All (message.Fits b.version) (sends b e)
-accepted_fit b e t c a fits =
-    let kept = did_fit b (deed e) t c.node a.node fits in
+pub accepted_fit : (b : BookState) (e : Entry) (x : Deed) (t : Told) (c : BookState) → IsAccepted b e x t c → Fits b → Fits c × All (message.Fits b.version) (sends b e)
+accepted_fit b e x t c a fits =
+    let kept = did_fit b x t c.node a.node fits in
     (subst Fits a.same kept.0, subst (All (message.Fits b.version)) a.sent kept.1)
 
 replays_keep : (es : List Entry) (b c : BookState) → Replays b es c → Fits b → Fits c
 replays_keep [] b c h fits = subst (λ (x : BookState). Fits x) (sym h) fits
-replays_keep (e ∷ es) b c h fits = replays_keep es h.0 c h.2 (accepted_fit b e _ h.0 (follows-accepted b e h.0 h.1) fits).0
+replays_keep (e ∷ es) b c h fits = replays_keep es h.0 c h.2 (accepted_fit b e _ _ h.0 (follows-accepted b e h.0 h.1) fits).0
 
 first_fits : (l : Lengths) (b : BookState) (n : NodeState) (o : Option (List ℕ)) → IsFirst b n o → NodeHasValuesWithin l n
 first_fits l b n (Some ids) h = founder_kept l b.config b.id ids n h

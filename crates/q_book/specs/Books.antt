@@ -24,6 +24,7 @@ use Rattle.q_session.specs.declared.ran.Ran.{Ran}
 use Rattle.q_session.specs.declared.job.Job.{Job}
 use Rattle.q_desk.specs.State.{DeskState, new_desk}
 use Rattle.q_desk.specs.Desks as desk
+use Rattle.q_desk.specs.declared.journal.Call.TheVariants as call
 use Rattle.q_desk.specs.declared.journal.Entry.TheVariants as entry
 use Rattle.q_book.specs.declared.answer.Asked.{Asked}
 use Rattle.q_book.specs.declared.answer.Delivery.{Delivery}
@@ -120,7 +121,7 @@ abbrev pub stores_node : BookState → List ℕ → Unit {0} → DeskState → R
 stores_node b value u d = by_node (stores b d) (node.store_begun b.node value)
 
 abbrev pub stored : BookState → List ℕ → Result (Begun × BookState) Reason
-stored b value = tested (storing b value) (by_desk (stores_node b value) (desk.noted b.desk (entry.Store value)))
+stored b value = tested (storing b value) (by_desk (stores_node b value) (desk.noted b.desk (entry.Call (call.Store value))))
 
 -- ---- messages
 
@@ -144,7 +145,7 @@ abbrev pub leaves_node : BookState → Unit {0} → DeskState → Result (List M
 leaves_node b u d = by_node (leaves b d) (node.left b.node)
 
 abbrev pub left : BookState → Result (List Message × BookState) Reason
-left b = tested (present b) (by_desk (leaves_node b) (desk.noted b.desk entry.Leave))
+left b = tested (present b) (by_desk (leaves_node b) (desk.noted b.desk (entry.Call call.Leave)))
 
 -- ---- the first state
 

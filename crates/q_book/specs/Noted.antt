@@ -3,6 +3,7 @@ use Rattle.std.specs.Prelude.{◌≡◌, ◌++◌, [], ◌∷◌, ◌⊎◌, Som
 use Rattle.q_session.specs.declared.ran.Ran.{Ran}
 use Rattle.q_session.specs.declared.job.Job.{Job}
 use Rattle.reasons.specs.declared.Reason.TheVariants as reasons
+use Rattle.q_desk.specs.declared.journal.Call.TheVariants as call
 use Rattle.q_desk.specs.declared.journal.Entry.TheVariants as entry
 use Rattle.reasons.specs.declared.Reason.{Reason}
 use Rattle.q_book.specs.State.{BookState}
@@ -19,7 +20,7 @@ abbrev pub RoomLeavesResultFaults : Type 0
 RoomLeavesResultFaults = (b : BookState) (j : Job) (ran : Ran) (e : Reason) → room_for_post b ≡ Ok tt → posted b j ran ≡ Err e → IsResultFault e
 
 abbrev pub HandOutsAreNoted : Type 0
-HandOutsAreNoted = (b : BookState) (j : Job) (c : BookState) → handed_out b ≡ Ok (Some j, c) → c.desk.journal ≡ b.desk.journal ++ entry.HandOut ∷ []
+HandOutsAreNoted = (b : BookState) (j : Job) (c : BookState) → handed_out b ≡ Ok (Some j, c) → c.desk.journal ≡ b.desk.journal ++ entry.Call call.HandOut ∷ []
 
 abbrev pub NoneChangesNothing : Type 0
 NoneChangesNothing = (b c : BookState) → handed_out b ≡ Ok (None, c) → c ≡ b

@@ -1,29 +1,25 @@
 -- That a book is the replay of its journal.
 use Rattle.std.specs.Prelude.{◌≡◌, ℕ, length, List, [], ◌∷◌, Option, Some, None, Ok}
-use Rattle.sc_msg.specs.declared.message.Message.{Message}
 use Rattle.sc_msg.specs.declared.version.Version.{Version}
 use Rattle.sc_msg.specs.Lengths.{Fits}
 use Rattle.sc_msg.specs.Values.{IsLength}
-use Rattle.sc_node.specs.declared.answer.Begun.{Begun}
 use Rattle.sc_node.specs.State.{NodeState}
 use Rattle.sc_node.specs.Nodes as node
 use Rattle.q_session.specs.Right.{IsRight}
 use Rattle.q_session.specs.declared.job.Job.{Job}
 use Rattle.q_desk.specs.declared.journal.Entry.{Entry}
+use Rattle.q_desk.specs.declared.journal.Call.TheVariants as call
 use Rattle.q_desk.specs.declared.journal.Entry.TheVariants as entry
-use Rattle.q_book.specs.declared.answer.Asked.{Asked}
 use Rattle.q_book.specs.declared.answer.Delivery.{Delivery}
 use Rattle.q_book.specs.State.{BookState}
-use Rattle.q_book.specs.Books.{registered, asked, stored, delivered, left, handed_out, posted, new_book, record_lengths}
+use Rattle.q_book.specs.declared.reply.Reply.{Reply}
+use Rattle.q_book.specs.Books.{delivered, posted, new_book, record_lengths}
+use Rattle.q_book.specs.Called.{called, IsNoted}
 
--- The call of an entry is accepted, and leads from one book to another. What is posted is the right answer of a job.
+-- What an entry tells of is accepted, and leads from one book to another. What is posted is the right answer of a job.
 abbrev pub Follows : BookState → Entry → BookState → Type 0
-Follows b entry.Leave c = (outs : List Message) × (left b ≡ Ok (outs, c))
-Follows b (entry.Register program) c = (id : ℕ) × (registered b program ≡ Ok (id, c))
-Follows b (entry.Ask program start) c = (a : Asked) × (asked b program start ≡ Ok (a, c))
-Follows b (entry.Store value) c = (a : Begun) × (stored b value ≡ Ok (a, c))
+Follows b (entry.Call k) c = (a : Reply) × (called b k ≡ Ok (a, c)) × IsNoted a
 Follows b (entry.Deliver m) c = (a : Delivery) × (delivered b m ≡ Ok (a, c))
-Follows b entry.HandOut c = (j : Job) × (handed_out b ≡ Ok (Some j, c))
 Follows b (entry.Post query ran) c = (j : Job) × (j.query ≡ query) × IsRight j.certified j.view j.start ran × (posted b j ran ≡ Ok (tt, c))
 
 -- the calls of these entries lead from one book to another
@@ -38,7 +34,7 @@ IsFirst b n None = n ≡ (node.entered b.config b.id).0
 
 -- each value of an entry has a length of that version
 abbrev pub EntryFits : Version → Entry → Type 0
-EntryFits version (entry.Store value) = IsLength version (length value)
+EntryFits version (entry.Call (call.Store value)) = IsLength version (length value)
 EntryFits version (entry.Deliver m) = Fits version m
 EntryFits version e = Unit {0}
 

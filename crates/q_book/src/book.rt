@@ -18,9 +18,9 @@ ghost use Rattle.q_book.specs.Called.{called};
 ghost use Rattle.q_book.specs.Replays.{IsReplay, EntryFits};
 
 use crate::answer::{Asked, Delivery};
-use crate::call::{Call, Reply};
 use crate::lengths::record_lengths;
-use q_desk::{Desk, Entry};
+use crate::reply::Reply;
+use q_desk::{Call, Desk, Entry};
 use q_session::laws::records_of_values;
 use q_session::{Done, Job, Ran};
 use q_table::{Program, ProgramId};
@@ -221,13 +221,12 @@ impl Book {
             Call::Leave => Ok(Reply::Left(self.leave()?)),
             Call::Register(program) => Ok(Reply::Registered(self.register(program)?)),
             Call::Ask { program, start } => Ok(Reply::Asked(self.ask(*program, *start)?)),
-            Call::Store(bytes) => Ok(Reply::Begun(self.store(bytes)?)),
-            Call::Deliver(message) => Ok(Reply::Delivered(self.deliver(message)?)),
-            Call::HandOut => Ok(Reply::HandedOut(self.hand_out()?)),
-            Call::Post(done) => {
-                self.post(done)?;
-                Ok(Reply::Posted)
+            Call::Store(value) => {
+                let begun = self.store(value.bytes())?;
+                let value = *value;
+                Ok(Reply::Stored { value, begun })
             }
+            Call::HandOut => Ok(Reply::HandedOut(self.hand_out()?)),
         }
     }
 

@@ -6,8 +6,8 @@
 //! OutOfMemory among them, the book is as it was. Why a call is refused first of all is a list of tests there, in the
 //! order of the refusals.
 //!
-//! A call that may change a book is also a value, [`Call`]: [`Book::call`] makes it, whichever it is, and answers a
-//! [`Reply`] (`specs/Called`).
+//! A call by who uses the node is also a value, [`q_desk::Call`]: [`Book::call`] makes it, whichever it is, and answers
+//! a [`Reply`] (`specs/Called`). It is what the journal keeps of the call, and what an event of a cluster holds.
 //!
 //! A book has a version, which is that of its journal and of the messages that it takes: in the first each value has 48
 //! bytes, and programs are checked for records of 64; in the second a value has 0 to 112 bytes, and programs are
@@ -33,12 +33,12 @@
 
 mod answer;
 mod book;
-mod call;
 pub mod laws;
 mod lengths;
+mod reply;
 pub mod worked;
 
 pub use answer::{Asked, Delivery};
 pub use book::{Book, BookFault};
-pub use call::{Call, Reply};
 pub use lengths::record_lengths;
+pub use reply::Reply;

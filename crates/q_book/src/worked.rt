@@ -22,6 +22,7 @@ ghost use Rattle.q_desk.specs.Desks as desk;
 ghost use Rattle.q_desk.specs.Sample.{query};
 ghost use Rattle.q_desk.specs.State.{DeskState, new_desk};
 ghost use Rattle.q_desk.specs.declared.completed.Completed.TheVariants as completed;
+ghost use Rattle.q_desk.specs.declared.journal.Call.TheVariants as call;
 ghost use Rattle.q_desk.specs.declared.journal.Entry.TheVariants as entry;
 ghost use Rattle.q_book.specs.Books.{record_lengths, registered, asked, stored, delivers, delivered, left, handed_out, posted, room_for_post};
 ghost use Rattle.q_book.specs.Called.{called};
@@ -29,14 +30,13 @@ ghost use Rattle.reasons.specs.declared.Reason.TheVariants.{OutOfMemory as memor
 ghost use Rattle.q_book.specs.Sample.{there, node_there};
 ghost use Rattle.q_book.specs.State.{BookState};
 ghost use Rattle.q_book.specs.declared.answer.Asked.{Asked};
-ghost use Rattle.q_book.specs.declared.call.Call.TheVariants as call;
-ghost use Rattle.q_book.specs.declared.call.Reply.TheVariants as reply;
+ghost use Rattle.q_book.specs.declared.reply.Reply.TheVariants as reply;
 ghost use Rattle.reasons.specs.declared.Reason.{Reason};
 
 /// What the definitions say at telling operands.
 pub fn worked()
     // The desk's calls.
-    ensures registered { (b : BookState) (n : NodeState) (c : Certificate) → registered (there b n (new_desk (between 16 128))) (record c { lengths = between 16 128 }) ≡ Ok (0, there b n (record (new_desk (between 16 128)) { programs = record c { lengths = between 16 128 } ∷ []; journal = entry.Register (record c { lengths = between 16 128 }) ∷ [] })) }
+    ensures registered { (b : BookState) (n : NodeState) (c : Certificate) → registered (there b n (new_desk (between 16 128))) (record c { lengths = between 16 128 }) ≡ Ok (0, there b n (record (new_desk (between 16 128)) { programs = record c { lengths = between 16 128 } ∷ []; journal = entry.Call (call.Register (record c { lengths = between 16 128 })) ∷ [] })) }
     ensures posted { (b : BookState) (n : NodeState) (d e : DeskState) (j : Job) (ran : Ran) → desk.posted d b.id j ran ≡ Ok (tt, e) → posted (there b n d) j ran ≡ Ok (tt, there b n e) }
     ensures no_room { (b : BookState) (n : NodeState) (d : DeskState) → length d.journal ≡ 65536 → room_for_post (there b n d) ≡ Err reasons.BookFull }
 
@@ -51,8 +51,8 @@ pub fn worked()
     ensures gone { (b : BookState) (n : NodeState) (c : Certificate) (l : Interval) → registered (record b { node = record n { gone = true }; desk = new_desk l }) c ≡ Err reasons.Gone }
 
     // In version 1 values have 48 bytes, in version 2 at most 112.
-    ensures stored { (b : BookState) (n : NodeState) (value : List ℕ) (l : Interval) → length value ≡ 48 → is_view_full (stored_view (node_there n) value) ≡ false → MatchResult (stored (there (record b { version = First }) n (new_desk l)) value) (λ r. r.1.desk.journal ≡ entry.Store value ∷ []) (λ _. ⊥) }
-    ensures stored_any { (b : BookState) (n : NodeState) (value : List ℕ) (l : Interval) → length value ≡ 112 → is_view_full (stored_view (node_there n) value) ≡ false → MatchResult (stored (there (record b { version = Second }) n (new_desk l)) value) (λ r. r.1.desk.journal ≡ entry.Store value ∷ []) (λ _. ⊥) }
+    ensures stored { (b : BookState) (n : NodeState) (value : List ℕ) (l : Interval) → length value ≡ 48 → is_view_full (stored_view (node_there n) value) ≡ false → MatchResult (stored (there (record b { version = First }) n (new_desk l)) value) (λ r. r.1.desk.journal ≡ entry.Call (call.Store value) ∷ []) (λ _. ⊥) }
+    ensures stored_any { (b : BookState) (n : NodeState) (value : List ℕ) (l : Interval) → length value ≡ 112 → is_view_full (stored_view (node_there n) value) ≡ false → MatchResult (stored (there (record b { version = Second }) n (new_desk l)) value) (λ r. r.1.desk.journal ≡ entry.Call (call.Store value) ∷ []) (λ _. ⊥) }
     ensures stored_shorter { (b : BookState) (n : NodeState) (d : DeskState) → stored (there (record b { version = First }) n d) (7 ∷ []) ≡ Err reasons.BadValue }
     ensures stored_longer { (b : BookState) (n : NodeState) (d : DeskState) (value : List ℕ) → length value ≡ 113 → stored (there (record b { version = Second }) n d) value ≡ Err reasons.BadValue }
     ensures told_shorter { (b : BookState) (n : NodeState) (d : DeskState) (m : Message) → fits First m ≡ false → delivered (there (record b { version = First }) n d) m ≡ Err reasons.BadValue }

@@ -2,6 +2,7 @@
 
 use crate::program::program as certified;
 use q_cluster::Cluster;
+use q_desk::Call;
 use q_history::ClusterEvent;
 use q_script::{Founding, Script, ScriptLine};
 use q_sim::{config_of, event_of};
@@ -12,13 +13,13 @@ use std::alloc::Global;
 /// The event of a line, at nodes of this version; none where it is a line of no event.
 fn event(alloc: Global, version: Version, line: &ScriptLine) -> Option<ClusterEvent> {
     match line {
-        ScriptLine::Program { node, code } => Some(ClusterEvent::Register {
+        ScriptLine::Program { node, code } => Some(ClusterEvent::Call {
             node: *node,
-            program: certified(alloc, version, code.as_slice())?,
+            call: Call::Register(certified(alloc, version, code.as_slice())?),
         }),
-        ScriptLine::Store { node, value } => Some(ClusterEvent::Store {
+        ScriptLine::Store { node, value } => Some(ClusterEvent::Call {
             node: *node,
-            value: Value::new(value.as_slice()).ok()?,
+            call: Call::Store(Value::new(value.as_slice()).ok()?),
         }),
         _ => event_of(line),
     }

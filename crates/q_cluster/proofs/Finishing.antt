@@ -21,7 +21,7 @@ use Rattle.q_history.specs.Clusters.{Said, lift, posts, posted, finished}
 use Rattle.q_history.specs.Calls.{Answers, Follows, Takes}
 use Rattle.q_cluster.specs.Acts.{cluster_of, IsCluster, IsThere, MayRun}
 use Rattle.q_cluster.proofs.Posting.{refused_so}
-use Rattle.q_cluster.proofs.Calls.{Call, IsCall, posting}
+use Rattle.q_cluster.proofs.Calls.{BookEvent, IsOf, posting}
 use Rattle.q_cluster.proofs.Going.{has_book, turns_to, stays, quiet_says, quiet_goes}
 use Rattle.q_history.proofs.Ops.{insert_same}
 
@@ -44,8 +44,8 @@ module _ {version : Version} {books : BookMap} {past : Past} {jobs : List Job} {
     abbrev table : BookState → BookMap
     table n = fin.insert books k.node n
 
-    abbrev call : Call (Unit {0})
-    call = posting number k f.ran
+    abbrev post : BookEvent (Unit {0})
+    post = posting number k f.ran
 
     job_is : slice_get jobs number ≡ Some k
     job_is = ap (λ (z : ClusterState). slice_get z.jobs number) is ∙ may.job ∙ ap (λ (q : Job). let o : Option Job = Some q in o) (sym is_job)
@@ -56,7 +56,7 @@ module _ {version : Version} {books : BookMap} {past : Past} {jobs : List Job} {
     answers : IsFinished f → Answers k f.ran
     answers h = subst (λ (q : Job). Answers q f.ran) (sym same) h
 
-    so : IsFinished f → IsCall call c k.node f.ran
+    so : IsFinished f → IsOf post c k.node f.ran
     so h = (subst (λ (o : Option Job). IfSome o (λ q. Answers q f.ran)) (sym job_is) (answers h), ap (finished c f.ran) job_is)
 
     turns : (r : Ran) → finished c r (slice_get jobs number) ≡ lift (posts c k r) (book.posted b k r)
@@ -65,7 +65,7 @@ module _ {version : Version} {books : BookMap} {past : Past} {jobs : List Job} {
     -- the book refuses
     module _ {b' : BookState} {y : Reason} (steps : (b' ≡ b) × (book.posted b f.job f.ran ≡ Err y)) where
       pub finish_stays : IsFinished f → IsCluster version (table b') past jobs
-      finish_stays h = stays call old is there has f.ran (so h) (steps.0, λ _. same_post ∙ steps.1) refl refl
+      finish_stays h = stays post old is there has f.ran (so h) (steps.0, λ _. same_post ∙ steps.1) refl refl
 
       pub finish_turns : (t : Result ClusterStep Reason) → IsErrAnd t (λ e. e ≡ y) → Takes x (event.Finish number) (cluster_of version (table b') past jobs) t
       finish_turns t h =
@@ -84,7 +84,7 @@ module _ {version : Version} {books : BookMap} {past : Past} {jobs : List Job} {
       tell = told.Finished (record { node = k.node; query = k.query; ran = f.ran })
 
       pub finish_says : Follows x (event.Finish number) t (cluster_of version (table b') past jobs)
-      finish_says = quiet_says call old is there has f.ran (so h) (same_post ∙ steps) tell jobs refl numbers tells
+      finish_says = quiet_says post old is there has f.ran (so h) (same_post ∙ steps) tell jobs refl numbers tells
 
       pub finish_goes : IsCluster version (table b') past jobs
-      finish_goes = quiet_goes call old is there has f.ran (so h) (same_post ∙ steps) tell jobs refl numbers tells
+      finish_goes = quiet_goes post old is there has f.ran (so h) (same_post ∙ steps) tell jobs refl numbers tells

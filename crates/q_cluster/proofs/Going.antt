@@ -35,7 +35,7 @@ use Rattle.q_history.proofs.World.{node_of, get-nodes, at_live}
 use Rattle.q_history.proofs.Histories.{history_next, history_kept}
 use Rattle.q_cluster.specs.Acts.{Doing, cluster_of, IsCluster, IsThere}
 use Rattle.q_cluster.proofs.Histories.{nothing}
-use Rattle.q_cluster.proofs.Calls.{Call, does, IsCall, Note, delivering}
+use Rattle.q_cluster.proofs.Calls.{BookEvent, does, IsOf, Note, delivering}
 
 -- a node that is there, as contracts see its cluster
 module _ {version : Version} {books : BookMap} {past : Past} {jobs : List Job} {x : ClusterState} {id : ℕ} (is : cluster_of version books past jobs ≡ x) (there : IsThere x id) where
@@ -56,9 +56,9 @@ module _ {version : Version} {books : BookMap} {past : Past} {jobs : List Job} {
   pub turns_to : {b : BookState} → Some b ≡ fin.get books id → (f : Doing) → at here id f ≡ f b
   turns_to {b} has f = ap (λ (o : Option BookState). by_book o f) t.live ∙ ap f (same_some t.book b (sym there_is ∙ sym has))
 
--- a call of the book of a node that is there
-module _ {A : Type 0} {version : Version} {books : BookMap} {past : Past} {jobs : List Job} {x : ClusterState} {id : ℕ} {b : BookState} (k : Call A) (old : IsCluster version books past jobs)
-    (same : cluster_of version books past jobs ≡ x) (there : IsThere x id) (has : Some b ≡ fin.get books id) (ran : Ran) (so : IsCall k (cluster_of version books past jobs) id ran) where
+-- an event of the book of a node that is there
+module _ {A : Type 0} {version : Version} {books : BookMap} {past : Past} {jobs : List Job} {x : ClusterState} {id : ℕ} {b : BookState} (k : BookEvent A) (old : IsCluster version books past jobs)
+    (same : cluster_of version books past jobs ≡ x) (there : IsThere x id) (has : Some b ≡ fin.get books id) (ran : Ran) (so : IsOf k (cluster_of version books past jobs) id ran) where
   abbrev c : ClusterState
   c = cluster_of version books past jobs
 
@@ -104,6 +104,17 @@ module _ {A : Type 0} {version : Version} {books : BookMap} {past : Past} {jobs 
 
       goes : IsCluster version (table b') past' jobs'
       goes = history_next c (cluster_of version (table b') past' jobs') k.event t old went
+
+    -- this is told, recorded and handed out
+    module _ (all : ClusterStep × (Past × List Job)) (does_so : k.next c a b' ≡ (all.0, put c all.1.0 all.1.1 id b')) {past' : Past} {jobs' : List Job} {t : ClusterStep} (tells : t ≡ all.0) (records : past' ≡ all.1.0) (hands : jobs' ≡ all.1.1) where
+      all_is : k.next c a b' ≡ (t, put c past' jobs' id b')
+      all_is = does_so ∙ (λ i. (sym tells i, put c (sym records i) (sym hands i) id b'))
+
+      pub all_says : Follows x k.event t (cluster_of version (table b') past' jobs')
+      all_says = says past' jobs' t all_is
+
+      pub all_goes : IsCluster version (table b') past' jobs'
+      all_goes = goes past' jobs' t all_is
 
     -- nothing is recorded
     module _ (tell : EventAnswer) (jobs' : List Job) (does_so : k.next c a b' ≡ quiet c tell jobs' id b') {sent : Sent} {t : ClusterStep} (numbers : sent ≡ record { first = length past.sent; count = 0 }) (tells : t ≡ record { told = tell; sent = sent }) where
@@ -155,7 +166,7 @@ counted_right {version} {books} {past} {jobs} {x} {id} {b} {b'} old same has m a
 
 -- a message that was sent is delivered
 pub is_delivery : {version : Version} {books : BookMap} {past : Past} {jobs : List Job} → IsCluster version books past jobs → (number : ℕ) (m : Message) (id : ℕ) → {reserved : Past} → reserved ≡ past
-    → {sent : List Message} → sent ≡ reserved.sent → slice_get sent number ≡ Some m → IsCall (delivering number m id) (cluster_of version books past jobs) id nothing
+    → {sent : List Message} → sent ≡ reserved.sent → slice_get sent number ≡ Some m → IsOf (delivering number m id) (cluster_of version books past jobs) id nothing
 is_delivery {version} {books} {past} {jobs} old number m id {reserved} kept {sent} is read =
     let c : ClusterState = cluster_of version books past jobs in
     let there : slice_get past.sent number ≡ Some m = ap (λ (ms : List Message). slice_get ms number) (sym (is ∙ ap (λ (p : Past). p.sent) kept)) ∙ read in

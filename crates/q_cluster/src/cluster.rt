@@ -10,7 +10,8 @@ ghost use Rattle.forms.specs.Calls.{Gives};
 ghost use Rattle.q_session.specs.declared.ran.Ran.{Ran};
 ghost use Rattle.reasons.specs.declared.Reason.TheVariants.{OutOfMemory as memory};
 ghost use Rattle.q_history.specs.World.{world};
-ghost use Rattle.q_history.specs.Clusters.{at, live_at, handed, with_job, finished, started};
+ghost use Rattle.q_history.specs.Clusters.{at, live_at, told_by, event_by, begun_by, past_by, opened, with_job, finished, started};
+ghost use Rattle.q_book.specs.Called.{reply_outs, reply_job};
 ghost use Rattle.q_history.specs.Calls.{Takes, Runs, IsHistory};
 ghost use Rattle.q_history.specs.Headline.{AnswersAreTrue, AnswersStay, ViewsAreReturned};
 ghost use Rattle.q_history.specs.Books.{BooksAreReplays};
@@ -18,18 +19,17 @@ ghost use Rattle.q_cluster.specs.Acts.{Doing, IsThere, MayRun, book_at};
 
 use crate::books::{Books, found_books};
 use bq_frame::Block;
-use q_book::{Asked, Book, Delivery};
+use q_book::{Asked, Book, Delivery, Reply};
+use q_desk::Call;
 use q_history::laws::{
     every_answer_is_true, every_book_is_a_replay, every_message_fits, every_view_is_returned,
     every_world_is_a_history,
 };
 use q_history::{Answer, ClusterEvent, ClusterFault, ClusterStep, EventAnswer, Handed};
 use q_session::{Done, Job};
-use q_table::{Program, ProgramId};
 use sc_members::Config;
 use sc_msg::{Message, Version};
 use sc_node::{Begun, Outs};
-use sc_view::Value;
 use sc_world::{Ledger, Op, Opened, Sent, WorldEvent};
 use std::alloc::Global;
 use std::marker::Model;
@@ -127,17 +127,9 @@ impl Cluster {
     {
         match event {
             ClusterEvent::Enter(node) => self.enter(*node),
-            ClusterEvent::Leave(node) => self.leave(*node),
             ClusterEvent::Crash(node) => self.crash(*node),
-            ClusterEvent::Register { node, program } => self.register(*node, program),
-            ClusterEvent::Ask {
-                node,
-                program,
-                start,
-            } => self.ask(*node, *program, *start),
-            ClusterEvent::Store { node, value } => self.store(*node, value),
+            ClusterEvent::Call { node, call } => self.call(*node, call),
             ClusterEvent::Deliver { message, node } => self.deliver(*message, *node),
-            ClusterEvent::HandOut(node) => self.hand_out(*node),
             ClusterEvent::Finish(job) => self.finish(*job),
         }
     }
@@ -310,21 +302,14 @@ impl Cluster {
         self.ledger.reserve(id)?;
         let (book, outs) = Book::entering_as(self.alloc, self.version, self.ledger.config(), id)?;
         self.books.insert(id, book)?;
-        let sent = record_call(&mut self.ledger, WorldEvent::Enter(id), id, outs, None);
+        let sent = record_call(
+            &mut self.ledger,
+            Some(WorldEvent::Enter(id)),
+            id,
+            outs,
+            None,
+        );
         Ok(told(EventAnswer::Entered, sent))
-    }
-
-    fn leave(&mut self, id: u64) -> Result<ClusterStep, ClusterFault>
-        ensures { Takes self.old (ClusterEvent.Leave id) self.new result }
-    {
-        self.check_live(id)?;
-        self.ledger.reserve(id)?;
-        let Some(book) = self.books.get_mut(id) else {
-            unreachable!()
-        };
-        let outs = book.leave()?;
-        let sent = record_call(&mut self.ledger, WorldEvent::Leave(id), id, outs, None);
-        Ok(told(EventAnswer::Left, sent))
     }
 
     fn crash(&mut self, id: u64) -> Result<ClusterStep, ClusterFault>
@@ -337,48 +322,17 @@ impl Cluster {
         Ok(told(EventAnswer::Crashed, sent))
     }
 
-    fn register(&mut self, id: u64, program: &Program) -> Result<ClusterStep, ClusterFault>
-        ensures { Takes self.old (ClusterEvent.Register id program.now) self.new result }
-    {
-        self.check_live(id)?;
-        let Some(book) = self.books.get_mut(id) else {
-            unreachable!()
-        };
-        let program = book.register(program)?;
-        Ok(told(EventAnswer::Registered(program), self.ledger.silent()))
-    }
-
-    fn ask(&mut self, id: u64, program: ProgramId, start: u64) -> Result<ClusterStep, ClusterFault>
-        ensures { Takes self.old (ClusterEvent.Ask id program start) self.new result }
+    fn call(&mut self, id: u64, call: &Call) -> Result<ClusterStep, ClusterFault>
+        ensures { Takes self.old (ClusterEvent.Call id call.now) self.new result }
     {
         self.check_live(id)?;
         self.ledger.reserve(id)?;
+        self.jobs.reserve(1)?;
         let Some(book) = self.books.get_mut(id) else {
             unreachable!()
         };
-        let Asked { query, begun } = book.ask(program, start)?;
-        let Begun { tag, session, outs } = begun;
-        let opened = Some(Opened { tag, session });
-        let sent = record_call(&mut self.ledger, WorldEvent::Collect(id), id, outs, opened);
-        Ok(told(EventAnswer::Asked(query), sent))
-    }
-
-    fn store(&mut self, id: u64, value: &Value) -> Result<ClusterStep, ClusterFault>
-        ensures { Takes self.old (ClusterEvent.Store id value.now) self.new result }
-    {
-        self.check_live(id)?;
-        self.ledger.reserve(id)?;
-        let Some(book) = self.books.get_mut(id) else {
-            unreachable!()
-        };
-        let Begun { tag, session, outs } = book.store(value.bytes())?;
-        let opened = Some(Opened { tag, session });
-        let event = WorldEvent::Store {
-            node: id,
-            value: *value,
-        };
-        let sent = record_call(&mut self.ledger, event, id, outs, opened);
-        Ok(told(EventAnswer::Stored(tag), sent))
+        let reply = book.call(call)?;
+        Ok(note(&mut self.ledger, &mut self.jobs, id, reply))
     }
 
     fn deliver(&mut self, message: usize, id: u64) -> Result<ClusterStep, ClusterFault>
@@ -403,19 +357,6 @@ impl Cluster {
             .ledger
             .record(event, id, outs, progress, None, counting);
         Ok(told(EventAnswer::Delivered(completed), sent))
-    }
-
-    fn hand_out(&mut self, id: u64) -> Result<ClusterStep, ClusterFault>
-        ensures { Takes self.old (ClusterEvent.HandOut id) self.new result }
-    {
-        self.check_live(id)?;
-        self.jobs.reserve(1)?;
-        let Some(book) = self.books.get_mut(id) else {
-            unreachable!()
-        };
-        let job = book.hand_out()?;
-        let handed = put_job(&mut self.jobs, job);
-        Ok(told(EventAnswer::HandedOut(handed), self.ledger.silent()))
     }
 
     fn finish(&mut self, number: usize) -> Result<ClusterStep, ClusterFault>
@@ -465,34 +406,101 @@ impl Cluster {
     }
 }
 
-// Puts a job, for which there is room, at the end.
-fn put_job(jobs: &mut Vec<Job>, job: Option<Job>) -> Option<Handed>
-    requires { vec_len jobs.old < vec_capacity jobs.old }
-    ensures handed { result ≡ handed jobs.old.items job }
-    ensures jobs { jobs.new.items ≡ with_job jobs.old.items job }
+// What is told of a reply, as the next job comes behind these.
+fn told_by(jobs: &Vec<Job>, reply: &Reply) -> EventAnswer
+    ensures { result ≡ told_by jobs.now.items reply.now }
 {
-    let job = job?;
-    let handed = Handed {
-        job: jobs.len(),
-        query: job.query(),
-    };
-    jobs.push_reserved(job);
-    Some(handed)
+    match reply {
+        Reply::Left(_) => EventAnswer::Left,
+        Reply::Registered(program) => EventAnswer::Registered(*program),
+        Reply::Asked(asked) => EventAnswer::Asked(asked.query),
+        Reply::Stored { begun, .. } => EventAnswer::Stored(begun.tag),
+        Reply::HandedOut(Some(job)) => EventAnswer::HandedOut(Some(Handed {
+            job: jobs.len(),
+            query: job.query(),
+        })),
+        Reply::HandedOut(None) => EventAnswer::HandedOut(None),
+    }
 }
 
-// Records a call that a node makes by itself: it may begin an operation, and moves none.
+// The event of the world that a reply of this node is, if it is one.
+fn event_by(node: u64, reply: &Reply) -> Option<WorldEvent>
+    ensures { result ≡ event_by node reply.now }
+{
+    match reply {
+        Reply::Left(_) => Some(WorldEvent::Leave(node)),
+        Reply::Asked(_) => Some(WorldEvent::Collect(node)),
+        Reply::Stored { value, .. } => Some(WorldEvent::Store {
+            node,
+            value: *value,
+        }),
+        Reply::Registered(_) | Reply::HandedOut(_) => None,
+    }
+}
+
+// Notes what this node replied, for which there is room: what it is as an event of the world, and a job that it handed
+// out.
+fn note(ledger: &mut Ledger, jobs: &mut Vec<Job>, node: u64, reply: Reply) -> ClusterStep
+    requires ledger { ledger.old.room ≡ true }
+    requires jobs { vec_len jobs.old < vec_capacity jobs.old }
+    ensures told { result ≡ record { told = told_by jobs.old.items reply; sent = numbered ledger.old.past (reply_outs reply) } }
+    ensures past { ledger.new.past ≡ past_by ledger.old.past node (event_by node reply) (reply_outs reply) (begun_by reply) }
+    ensures jobs { jobs.new.items ≡ with_job jobs.old.items (reply_job reply) }
+{
+    let answer = told_by(jobs, &reply);
+    let event = event_by(node, &reply);
+    let sent = match reply {
+        Reply::Left(outs) => record_call(ledger, event, node, outs, None),
+        Reply::Asked(Asked { query: _, begun }) => record_begun(ledger, event, node, begun),
+        Reply::Stored { value: _, begun } => record_begun(ledger, event, node, begun),
+        Reply::Registered(_) => ledger.silent(),
+        Reply::HandedOut(job) => {
+            put_job(jobs, job);
+            ledger.silent()
+        }
+    };
+    told(answer, sent)
+}
+
+// Puts a job, if there is one, at the end, where there is room for it.
+fn put_job(jobs: &mut Vec<Job>, job: Option<Job>)
+    requires { vec_len jobs.old < vec_capacity jobs.old }
+    ensures { jobs.new.items ≡ with_job jobs.old.items job }
+{
+    if let Some(job) = job {
+        jobs.push_reserved(job);
+    }
+}
+
+// Records the event of a node that began an operation, if it is one.
+fn record_begun(ledger: &mut Ledger, event: Option<WorldEvent>, node: u64, begun: Begun) -> Sent
+    requires { ledger.old.room ≡ true }
+    ensures past { ledger.new.past ≡ past_by ledger.old.past node event begun.outs (opened begun) }
+    ensures sent { result ≡ numbered ledger.old.past begun.outs }
+{
+    let Begun { tag, session, outs } = begun;
+    record_call(ledger, event, node, outs, Some(Opened { tag, session }))
+}
+
+// Records an event of a node, if it is one: it may begin an operation, and moves none. The numbers of the messages.
 fn record_call(
     ledger: &mut Ledger,
-    event: WorldEvent,
+    event: Option<WorldEvent>,
     node: u64,
     outs: Outs,
     begun: Option<Opened>,
 ) -> Sent
     requires { ledger.old.room ≡ true }
-    ensures past { ledger.new.past ≡ recorded ledger.old.past event node outs None begun }
+    ensures past { ledger.new.past ≡ past_by ledger.old.past node event outs begun }
     ensures sent { result ≡ numbered ledger.old.past outs }
 {
-    ledger.record(event, node, outs, None, begun, None)
+    match event {
+        Some(event) => ledger.record(event, node, outs, None, begun, None),
+        None => Sent {
+            first: ledger.sent().len(),
+            count: outs.len(),
+        },
+    }
 }
 
 fn told(told: EventAnswer, sent: Sent) -> ClusterStep

@@ -20,6 +20,7 @@ use Rattle.q_session.specs.declared.query.Query.{Query}
 use Rattle.q_session.specs.declared.job.Job.{Job}
 use Rattle.q_desk.specs.State.{DeskState}
 use Rattle.q_desk.specs.Desks as desk
+use Rattle.q_desk.specs.declared.journal.Call.TheVariants as call
 use Rattle.q_desk.specs.declared.journal.Entry.TheVariants as entry
 use Rattle.reasons.specs.declared.Reason.TheVariants as reasons
 
@@ -78,7 +79,7 @@ registered_checked d program y h = same_lengths program.lengths d.lengths (passe
 -- the table has the program under an id, and the call's entry stands in the journal
 pub registered_is : (d : DeskState) (program : Certificate) (y : ℕ × DeskState) → desk.registered d program ≡ Ok y
     → (z : ℕ × List Certificate) × (table.registered d.programs program ≡ Ok z)
-    × ((z.0, desk.with_entry (record d { programs = z.1 }) (entry.Register program)) ≡ y)
+    × ((z.0, desk.with_entry (record d { programs = z.1 }) (entry.Call (call.Register program))) ≡ y)
 registered_is d program y h =
     let fits = passed (desk.is_checked_for d.lengths program) reasons.WrongBounds _ y h in
     let z = and_then_ok (table.registered d.programs program) (desk.registers d program) y fits.1 in

@@ -21,6 +21,7 @@ use Rattle.q_session.specs.declared.job.Job.{Job}
 use Rattle.q_desk.specs.State.{DeskState}
 use Rattle.q_desk.specs.Desks as desk
 use Rattle.q_desk.specs.declared.journal.Entry.{Entry}
+use Rattle.q_desk.specs.declared.journal.Call.TheVariants as call
 use Rattle.q_desk.specs.declared.journal.Entry.TheVariants as entry
 use Rattle.q_desk.proofs.Accepted.{HasNone, Keeps, same_some, no_some, same_answer, passed, tested_ok, get_elsewhere, found, registered_is, IsReadyJob, next_is, posted_is}
 use Rattle.q_desk.proofs.Lists.{get-front, get-snoc, get-written}
@@ -176,16 +177,16 @@ module _ (d : DeskState) (node : ℕ) where
       let k = passed (nat_lt (length d.programs) table.most_programs) reasons.TableFull _ r h in
       subst (λ (z : ℕ × List Certificate). slice_get z.1 i ≡ Some p) (same_answer _ r k.1) (get-front d.programs (c ∷ []) i p at)
 
-  pub registered_after : (program : Certificate) (y : ℕ × DeskState) → desk.registered d program ≡ Ok y → IsAfter d node (idle None) (entry.Register program) y.1 None
+  pub registered_after : (program : Certificate) (y : ℕ × DeskState) → desk.registered d program ≡ Ok y → IsAfter d node (idle None) (entry.Call (call.Register program)) y.1 None
   registered_after program y h =
       let z = registered_is d program y h in
-      subst (λ (x : ℕ × DeskState). IsAfter d node (idle None) (entry.Register program) x.1 None) z.2
+      subst (λ (x : ℕ × DeskState). IsAfter d node (idle None) (entry.Call (call.Register program)) x.1 None) z.2
       (record { change = grows (more_programs program (table.id_of d.programs program.text) z.0 z.1) refl; lengths = refl; adds = refl })
 
   pub asked_after : (tag program start : ℕ) (a : Begun) (y : ℕ × DeskState) → a.tag ≡ tag → desk.asked d tag program start ≡ Ok y
-      → IsAfter d node (began a) (entry.Ask program start) y.1 None
+      → IsAfter d node (began a) (entry.Call (call.Ask program start)) y.1 None
   asked_after tag program start a y tagged h =
-      subst (λ (x : ℕ × DeskState). IsAfter d node (began a) (entry.Ask program start) x.1 None) (same_answer _ y (tested_ok (desk.beginning d program) _ y h).1)
+      subst (λ (x : ℕ × DeskState). IsAfter d node (began a) (entry.Call (call.Ask program start)) x.1 None) (same_answer _ y (tested_ok (desk.beginning d program) _ y h).1)
       (record {
         change = begins (desk.begun tag program start) (record { by = a; told = refl; tagged = tagged; phase = refl }) refl refl;
         lengths = refl;
@@ -231,7 +232,7 @@ module _ (d : DeskState) (node : ℕ) where
   -- what is handed out, and the desk after it
   abbrev pub IsHanded : DeskState → Option Job → Type 0
   IsHanded e None = d ≡ e
-  IsHanded e (Some j) = IsAfter d node (idle None) entry.HandOut e (Some j)
+  IsHanded e (Some j) = IsAfter d node (idle None) (entry.Call call.HandOut) e (Some j)
 
   hands_after : (o : Option Job) (y : Option Job × DeskState) → ((j : Job) → o ≡ Some j → IsReadyJob d node j) → desk.hands d o ≡ Ok y → IsHanded y.1 y.0
   hands_after None y ready h = subst (λ (z : Option Job × DeskState). IsHanded z.1 z.0) (same_answer _ y h) refl

@@ -12,6 +12,7 @@ use Rattle.q_session.specs.declared.query.Query.{Query}
 use Rattle.q_session.specs.declared.job.Job.{Job}
 use Rattle.q_desk.specs.State.{DeskState}
 use Rattle.q_desk.specs.declared.journal.Entry.{Entry}
+use Rattle.q_desk.specs.declared.journal.Call.TheVariants as call
 use Rattle.q_desk.specs.declared.journal.Entry.TheVariants as entry
 use Rattle.q_desk.specs.Desks.{most_events, how_many_run, with_phase, is_ready, is_running, is_job_of, ready_view, job_at, job_from, next_job, handed_out, posted, posted_at, posted_to}
 use Rattle.q_desk.specs.Queries.{next_at, next_from, next_of, checked_in, checked_at, checked, IsOfRunning}
@@ -51,13 +52,13 @@ Moves queries after k from to = (q : Query) → slice_get queries k ≡ Some q �
 ready-fits : (s : DeskState) (node : ℕ) (j : Job) → IsReadyJob s node j → IsDesk s → HasRecordsWithin s.lengths j.view
 ready-fits s node j f d = subst (λ (p : Phase). PhaseFits s.lengths p) f.phase (d.fit j.query f.query f.at)
 
-pub desk-handed : (s : DeskState) (node : ℕ) (j : Job) (queries : List Query) (journal : List Entry) → IsDesk s → Some j ≡ next_job s node → IsAppended s entry.HandOut journal → ((view : ViewMap) → Moves s.queries queries j.query (Ready view) (Running view)) → IsDesk (record s { queries = queries; journal = journal })
+pub desk-handed : (s : DeskState) (node : ℕ) (j : Job) (queries : List Query) (journal : List Entry) → IsDesk s → Some j ≡ next_job s node → IsAppended s (entry.Call call.HandOut) journal → ((view : ViewMap) → Moves s.queries queries j.query (Ready view) (Running view)) → IsDesk (record s { queries = queries; journal = journal })
 desk-handed s node j queries journal d next a moves =
     let f = next_is s node j (sym next) in
     subst (λ (x : List Query). IsDesk (record s { queries = x; journal = journal })) (sym (moves j.view f.query f.at f.phase))
-    (desk-appended (record s { queries = with_phase s.queries j.query (Running j.view) }) entry.HandOut journal (record { room = a.room; is = a.is }) (desk-running s j.query j.view d (ready-fits s node j f d)))
+    (desk-appended (record s { queries = with_phase s.queries j.query (Running j.view) }) (entry.Call call.HandOut) journal (record { room = a.room; is = a.is }) (desk-running s j.query j.view d (ready-fits s node j f d)))
 
-pub handed : (s : DeskState) (node : ℕ) (j : Job) (queries : List Query) (journal : List Entry) → Some j ≡ next_job s node → IsAppended s entry.HandOut journal → ((view : ViewMap) → Moves s.queries queries j.query (Ready view) (Running view)) → handed_out s node ≡ Ok (Some j, record s { queries = queries; journal = journal })
+pub handed : (s : DeskState) (node : ℕ) (j : Job) (queries : List Query) (journal : List Entry) → Some j ≡ next_job s node → IsAppended s (entry.Call call.HandOut) journal → ((view : ViewMap) → Moves s.queries queries j.query (Ready view) (Running view)) → handed_out s node ≡ Ok (Some j, record s { queries = queries; journal = journal })
 handed s node j queries journal next a moves =
     let f = next_is s node j (sym next) in
     let room = a.room in

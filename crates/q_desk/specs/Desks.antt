@@ -15,6 +15,7 @@ use Rattle.sc_node.specs.State.{NodeState}
 use Rattle.q_desk.specs.declared.completed.Completed.{Completed}
 use Rattle.q_desk.specs.declared.completed.Completed.TheVariants as completed
 use Rattle.q_desk.specs.declared.journal.Entry.{Entry}
+use Rattle.q_desk.specs.declared.journal.Call.TheVariants as call
 use Rattle.q_desk.specs.declared.journal.Entry.TheVariants as entry
 use Rattle.q_desk.specs.State.{DeskState}
 use Rattle.q_session.specs.declared.ran.Ran.{Ran}
@@ -58,7 +59,7 @@ is_checked_for lengths program = program.lengths.lo == lengths.lo && program.len
 
 -- the table has the program under this id
 abbrev pub registers : DeskState → Certificate → ℕ → List Certificate → Result (ℕ × DeskState) Reason
-registers s program id programs = tested (room s) (Ok (id, with_entry (record s { programs = programs }) (entry.Register program)))
+registers s program id programs = tested (room s) (Ok (id, with_entry (record s { programs = programs }) (entry.Call (call.Register program))))
 
 abbrev pub registered : DeskState → Certificate → Result (ℕ × DeskState) Reason
 registered s program =
@@ -106,7 +107,7 @@ beginning s program =
 abbrev pub asked : DeskState → ℕ → ℕ → ℕ → Result (ℕ × DeskState) Reason
 asked s tag program start =
     tested (beginning s program)
-    (Ok (length s.queries, with_entry (record s { queries = s.queries ++ begun tag program start ∷ [] }) (entry.Ask program start)))
+    (Ok (length s.queries, with_entry (record s { queries = s.queries ++ begun tag program start ∷ [] }) (entry.Call (call.Ask program start))))
 
 -- the query waits for the collect with this tag
 abbrev pub waits : ℕ → Query → Bool
@@ -184,7 +185,7 @@ running_job s node k = job_at running_view s node k (slice_get s.queries k)
 abbrev pub hands : DeskState → Option Job → Result (Option Job × DeskState) Reason
 hands s None = Ok (None, s)
 hands s (Some j) =
-    tested (room s) (Ok (Some j, with_entry (record s { queries = with_phase s.queries j.query (Running j.view) }) entry.HandOut))
+    tested (room s) (Ok (Some j, with_entry (record s { queries = with_phase s.queries j.query (Running j.view) }) (entry.Call call.HandOut)))
 
 -- it is handed out; where there is none, nothing changes
 abbrev pub handed_out : DeskState → ℕ → Result (Option Job × DeskState) Reason

@@ -16,7 +16,7 @@ use crate::answer::answer_in;
 use crate::check::check_result;
 use crate::completed::Completed;
 use crate::entries::append;
-use crate::journal::Entry;
+use crate::journal::{Call, Entry};
 use crate::next::next_job;
 use bq_state::Bounds;
 use q_session::{Done, Job, Phase, Query, Ran};
@@ -137,7 +137,7 @@ impl Desk {
         let registered = program.clone()?;
         let id = self.programs.take(keyed)?;
         let _count = self.programs.len();
-        append(&mut self.journal, Entry::Register(registered));
+        append(&mut self.journal, Entry::Call(Call::Register(registered)));
         Ok(id)
     }
 
@@ -157,27 +157,27 @@ impl Desk {
 
     /// The node leaves for good. Refused with 53, then as the node refuses it, with 99.
     pub fn leave(&mut self, node: &mut Node) -> Result<Outs, DeskFault>
-        ensures { Steps memory (desk.noting self.old Entry.Leave (left node.old)) (self.old, node.old) (self.new, node.new) result }
+        ensures { Steps memory (desk.noting self.old (Entry.Call Call.Leave) (left node.old)) (self.old, node.old) (self.new, node.new) result }
     {
         if !self.has_room() {
             return Err(DeskFault::BookFull);
         }
         self.journal.reserve(self.running + 1)?;
         let outs = node.leave()?;
-        append(&mut self.journal, Entry::Leave);
+        append(&mut self.journal, Entry::Call(Call::Leave));
         Ok(outs)
     }
 
     /// The node begins to store a value. Refused with 53, then as the node refuses it, with 99.
     pub fn store(&mut self, node: &mut Node, value: &Value) -> Result<Begun, DeskFault>
-        ensures { Steps memory (desk.noting self.old (Entry.Store value.now) (store_begun node.old value.now)) (self.old, node.old) (self.new, node.new) result }
+        ensures { Steps memory (desk.noting self.old (Entry.Call (Call.Store value.now)) (store_begun node.old value.now)) (self.old, node.old) (self.new, node.new) result }
     {
         if !self.has_room() {
             return Err(DeskFault::BookFull);
         }
         self.journal.reserve(self.running + 1)?;
         let begun = node.begin_store(value)?;
-        append(&mut self.journal, Entry::Store(*value));
+        append(&mut self.journal, Entry::Call(Call::Store(*value)));
         Ok(begun)
     }
 
@@ -225,7 +225,7 @@ impl Desk {
             start,
             phase: Phase::Collecting,
         });
-        append(&mut self.journal, Entry::Ask { program, start });
+        append(&mut self.journal, Entry::Call(Call::Ask { program, start }));
         Ok((number, begun))
     }
 
@@ -271,7 +271,7 @@ impl Desk {
         self.journal.reserve(self.running + 2)?;
         run(&mut self.queries, job.query());
         self.running += 1;
-        append(&mut self.journal, Entry::HandOut);
+        append(&mut self.journal, Entry::Call(Call::HandOut));
         Ok(Some(job))
     }
 

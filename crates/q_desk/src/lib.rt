@@ -4,10 +4,10 @@
 //! view, is handed out as a job, and its answer is posted once the job was run. Each recorded answer is right: the
 //! meaning of the query's program, folded over the view that its collect returned.
 //!
-//! Each call that is accepted and changes something puts one entry into the desk's journal, which also holds what its
-//! node did: stores, deliveries, collects and its leave. Such a call of the node is made by the desk, which is given
+//! Each call that is accepted and changes something puts one [`Entry`] into the desk's journal, which also holds what
+//! its node did: stores, deliveries, collects and its leave. Such a call of the node is made by the desk, which is given
 //! the node: the journal has room for the entry before the node acts, so both do their part, or neither. No call drops
-//! or changes an earlier entry.
+//! or changes an earlier entry. What those who use a node tell it to do is a [`Call`], which the entry holds.
 //!
 //! Of its queries the one that is ready and has the least number is handed out next. The result of a job of this node
 //! alone is accepted, where its query runs and the job is that query's: so a query has one answer, and whoever posts
@@ -29,4 +29,4 @@ pub mod worked;
 
 pub use completed::Completed;
 pub use desk::{Desk, DeskFault, MOST_EVENTS, MOST_QUERIES};
-pub use journal::Entry;
+pub use journal::{Call, Entry};

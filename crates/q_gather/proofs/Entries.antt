@@ -28,12 +28,13 @@ use Rattle.reasons.specs.declared.Reason.{Reason}
 use Rattle.reasons.specs.declared.Reason.TheVariants as reasons
 use Rattle.q_book.specs.State.{BookState}
 use Rattle.q_book.specs.Books as book
+use Rattle.q_book.specs.Called.{called, reply_job}
 use Rattle.q_book.specs.Replays.{Follows}
 use Rattle.q_history.specs.declared.event.ClusterEvent.{ClusterEvent}
 use Rattle.q_history.specs.declared.event.ClusterEvent.TheVariants as event
 use Rattle.q_history.specs.declared.event.ClusterStep.{ClusterStep}
 use Rattle.q_history.specs.Headline.{ClusterState}
-use Rattle.q_history.specs.Clusters.{lift, stepped, live_at, at as at_node, enters, entered, registers, asks, stores, delivers, delivered_as, hands, posts, posted, finished, leaves}
+use Rattle.q_history.specs.Clusters.{lift, stepped, live_at, at as at_node, with_job, replies, enters, entered, delivers, delivered_as, posts, posted, finished}
 use Rattle.q_history.specs.Calls.{Answers, AnswersTo, IsHistory}
 use Rattle.q_history.proofs.Lists.{same_some}
 use Rattle.q_desk.proofs.Accepted.{Keeps, keeps_itself, answered as with_answer, IsPosted}
@@ -43,7 +44,7 @@ use Rattle.q_desk.proofs.Own.{job_by, and_both, same_bytes, same_number, own_fit
 use Rattle.q_book.proofs.Followed.{deed, told, follows-accepted, is_posted}
 use Rattle.q_history.proofs.Accepted.{WasSent, event_for, outcome, ledger, ledger_sent, did_act}
 use Rattle.q_history.proofs.World.{at_live}
-use Rattle.q_history.proofs.Called.{With}
+use Rattle.q_history.proofs.Called.{With, sent_nothing, replied_is}
 use Rattle.q_history.proofs.Histories.{history_kept}
 use Rattle.q_cluster.specs.Acts.{book_at}
 use Rattle.q_gather.specs.Merging.{CanGo}
@@ -186,51 +187,37 @@ module _ (c : ClusterState) (h : IsHistory c) (id : ℕ) (b d : BookState) (up :
       (finish_makes c b d ran i it.job (ap (live_at c) it.by ∙ up) (((history_kept c h).headed id b stands).id ∙ sym it.by) (it.of ∙ sym of) posts
       ((history_jobs c h id b stands).each number it.job it.at it.by) right number it.at)
 
-  -- the ledger has what the node did at the call of the entry, and there are these jobs
-  entry_turn : (e : Entry) (f : Follows b e d) (s : WasSent c.past.sent (deed e)) (jobs : List Job)
-      → (let r = outcome (told b e d f) d.node in IsTurn c id d (sends b e) (With c (ledger c.past id (event_for id c.past.sent (deed e) s) r) jobs id d))
+  -- the ledger has what the node did at the entry, and there are these jobs
+  entry_turn : (e : Entry) (f : Follows b e d) (s : WasSent c.past.sent (deed b e d f)) (jobs : List Job)
+      → (let r = outcome (told b e d f) d.node in IsTurn c id d (sends b e) (With c (ledger c.past id (event_for id c.past.sent (deed b e d f) s) r) jobs id d))
   entry_turn e f s jobs =
       let a = follows-accepted b e d f in
       let r = outcome (told b e d f) d.node in
-      let o = event_for id c.past.sent (deed e) s in
+      let o = event_for id c.past.sent (deed b e d f) s in
       put_turn c (ledger c.past id o r) jobs id d (sends b e)
-      (ledger_sent c.past id o b.node r (did_act id c.past.sent b (deed e) s (told b e d f) d.node a.node) ∙ ap (λ (x : List Message). c.past.sent ++ x) a.sent)
+      (ledger_sent c.past id o b.node r (did_act id c.past.sent b (deed b e d f) s (told b e d f) d.node a.node) ∙ ap (λ (x : List Message). c.past.sent ++ x) a.sent)
 
-  -- the event by which the node takes the call of the entry, which runs no job
-  call_makes : {A : Type 0} (e : Entry) (next : A → BookState → ClusterStep × ClusterState) (call : BookState → Result (A × BookState) Reason) (a : A) → call b ≡ Ok (a, d)
+  -- the event by which the node takes the entry, which runs no job
+  entry_goes : {A : Type 0} (e : Entry) (next : A → BookState → ClusterStep × ClusterState) (call : BookState → Result (A × BookState) Reason) (a : A) → call b ≡ Ok (a, d)
       → (x ev : ClusterEvent) → ev ≡ x → AnswersTo c x nothing → ((r : Ran) → stepped r c x ≡ at_node c id (λ y. lift next (call y)))
       → IsTurn c id d (sends b e) (next a d).1 → Makes c ev id d (sends b e)
-  call_makes e next call a h x ev is right says turn =
+  entry_goes e next call a h x ev is right says turn =
       subst (λ (y : ClusterEvent). Makes c y id d (sends b e)) (sym is)
       (makes c x id d (sends b e) nothing (next a d) right (λ r _. says r ∙ call_says c id b d up next call a h) turn)
 
   pub entry_makes : (e : Entry) (ev : ClusterEvent) → IsRightLater d.desk → Follows b e d → IsEventOf c id e ev → Makes c ev id d (sends b e)
-  entry_makes entry.Leave ev right f is =
-      call_makes entry.Leave (leaves c id) book.left f.0 f.1 (event.Leave id) ev is tt (λ r. refl) (entry_turn entry.Leave f tt c.jobs)
-  entry_makes (entry.Register program) ev right f is =
-      call_makes (entry.Register program) (registers c id) (λ x. book.registered x program) f.0 f.1 (event.Register id program) ev is tt (λ r. refl)
-      (entry_turn (entry.Register program) f tt c.jobs)
-  entry_makes (entry.Ask program start) ev right f is =
-      call_makes (entry.Ask program start) (asks c id) (λ x. book.asked x program start) f.0 f.1 (event.Ask id program start) ev is tt (λ r. refl)
-      (entry_turn (entry.Ask program start) f tt c.jobs)
-  entry_makes (entry.Store value) ev right f is =
-      call_makes (entry.Store value) (stores c id value) (λ x. book.stored x value) f.0 f.1 (event.Store id value) ev is tt (λ r. refl)
-      (entry_turn (entry.Store value) f tt c.jobs)
+  entry_makes (entry.Call k) ev right f is =
+      entry_goes (entry.Call k) (replies c id) (λ x. called x k) f.0 f.1 (event.Call id k) ev is tt (λ r. refl)
+      (subst (IsTurn c id d (sends b (entry.Call k))) (replied_is c id f.0 d) (entry_turn (entry.Call k) f (sent_nothing c.past.sent f.0) (with_job c.jobs (reply_job f.0))))
   entry_makes (entry.Deliver m) ev right f is =
-      call_makes (entry.Deliver m) (delivers c is.0 id) (λ x. book.delivered x m) f.0 f.1 (event.Deliver is.0 id) ev is.2 tt
+      entry_goes (entry.Deliver m) (delivers c is.0 id) (λ x. book.delivered x m) f.0 f.1 (event.Deliver is.0 id) ev is.2 tt
       (λ r. ap (λ (o : Option Message). at_node c id (λ x. delivered_as c is.0 id x o)) is.1) (entry_turn (entry.Deliver m) f (is.0, is.1) c.jobs)
-  entry_makes entry.HandOut ev right f is =
-      call_makes entry.HandOut (hands c id) book.handed_out (Some f.0) f.1 (event.HandOut id) ev is tt (λ r. refl) (entry_turn entry.HandOut f tt (c.jobs ++ f.0 ∷ []))
   entry_makes (entry.Post query ran) ev right f is = subst (λ (x : ClusterEvent). Makes c x id d []) (sym is.2) (post_makes query ran f.0 is.0 right f.1 f.3 is.1)
 
   -- where what an entry wants was sent, there is such an event
   pub entry_event : (e : Entry) → Follows b e d → CanGo c.past.sent (step_of b e) → (ev : ClusterEvent) × IsEventOf c id e ev
-  entry_event entry.Leave f can = (event.Leave id, refl)
-  entry_event (entry.Register program) f can = (event.Register id program, refl)
-  entry_event (entry.Ask program start) f can = (event.Ask id program start, refl)
-  entry_event (entry.Store value) f can = (event.Store id value, refl)
+  entry_event (entry.Call k) f can = (event.Call id k, refl)
   entry_event (entry.Deliver m) f can = (event.Deliver can.0 id, (can.0, slice_get_read c.past.sent (length c.past.sent) can.0 m refl can.1 (sym can.2), refl))
-  entry_event entry.HandOut f can = (event.HandOut id, refl)
   entry_event (entry.Post query ran) f can =
       let a = (is_posted b f.0 ran d f.3).1 in
       let had = (history_jobs c h id b stands).all f.0.query a.query a.view a.at a.phase in

@@ -35,13 +35,13 @@ pub data IsMove (c later : ClusterState) : Type 0 where
 
 module _ (c : ClusterState) where
   -- what the entry wants was sent
-  may_go : (b : BookState) (e : Entry) → WasSent c.past.sent (deed e) → CanGo c.past.sent (step_of b e)
-  may_go b (entry.Deliver m) sent = get_contains c.past.sent sent.0 m sent.1
-  may_go b e sent = tt
+  may_go : (b : BookState) (e : Entry) (d : BookState) (f : replays.Follows b e d) → WasSent c.past.sent (deed b e d f) → CanGo c.past.sent (step_of b e)
+  may_go b (entry.Deliver m) d f sent = get_contains c.past.sent sent.0 m sent.1
+  may_go b e d f sent = tt
 
   called_moves : (later : ClusterState) → IsCalled c later → IsMove c later
   called_moves later k =
-      Goes k.id k.book k.later k.entry (at_live c k.id k.book k.live) k.follows (may_go k.book k.entry k.wants)
+      Goes k.id k.book k.later k.entry (at_live c k.id k.book k.live) k.follows (may_go k.book k.entry k.later k.follows k.wants)
       (subst (IsTurn c k.id k.later (sends k.book k.entry)) k.is (put_turn c (past c later k) (with_job c.jobs (handed k.book k.entry)) k.id k.later (sends k.book k.entry) (called_sent c later k)))
 
   made_moves : (later : ClusterState) → IsMade c later → IsMove c later

@@ -66,7 +66,7 @@ did_own b Idles t n d =
 entry_own : (b c : BookState) (e : Entry) → Follows b e c → IsOwn b.node (sends b e) c.node
 entry_own b c e f =
     let a = follows-accepted b e c f in
-    subst (λ (outs : List Message). IsOwn b.node outs c.node) a.sent (did_own b (deed e) (told b e c f) c.node a.node)
+    subst (λ (outs : List Message). IsOwn b.node outs c.node) a.sent (did_own b (deed b e c f) (told b e c f) c.node a.node)
 
 -- ---- the steps of a trace
 

@@ -21,15 +21,11 @@ pub record IsJobFor (jobs : List Job) (id query number : ℕ) : Type 0 where
   pub by : job.node ≡ id
   pub of : job.query ≡ query
 
--- The entry as an event of the node. A message goes by a number at which it was sent, and an answer by the number of
+-- The entry as an event of the node. A call is the same call. A message goes by a number at which it was sent, and an answer by the number of
 -- the job that was handed out for its query.
 abbrev pub IsEventOf : ClusterState → ℕ → Entry → ClusterEvent → Type 0
-IsEventOf c id entry.Leave ev = ev ≡ event.Leave id
-IsEventOf c id (entry.Register program) ev = ev ≡ event.Register id program
-IsEventOf c id (entry.Ask program start) ev = ev ≡ event.Ask id program start
-IsEventOf c id (entry.Store value) ev = ev ≡ event.Store id value
+IsEventOf c id (entry.Call k) ev = ev ≡ event.Call id k
 IsEventOf c id (entry.Deliver m) ev = (number : ℕ) × (slice_get c.past.sent number ≡ Some m) × (ev ≡ event.Deliver number id)
-IsEventOf c id entry.HandOut ev = ev ≡ event.HandOut id
 IsEventOf c id (entry.Post query ran) ev = (number : ℕ) × IsJobFor c.jobs id query number × (ev ≡ event.Finish number)
 
 -- the entry is the next of this node, which has not crashed, and its call leads to another book

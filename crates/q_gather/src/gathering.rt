@@ -89,19 +89,9 @@ impl Gathering {
         ensures { AreNumbers self.now.cluster.past.sent self.now.numbers → IfOk result (Finds (IsEventOf self.now.cluster node entry.now)) }
     {
         let event = match entry {
-            Entry::Leave => ClusterEvent::Leave(node),
-            Entry::Register(program) => ClusterEvent::Register {
+            Entry::Call(call) => ClusterEvent::Call {
                 node,
-                program: program.clone()?,
-            },
-            Entry::Ask { program, start } => ClusterEvent::Ask {
-                node,
-                program: *program,
-                start: *start,
-            },
-            Entry::Store(value) => ClusterEvent::Store {
-                node,
-                value: *value,
+                call: call.clone()?,
             },
             Entry::Deliver(message) => {
                 let Some(message) = self.numbers.find(message)? else {
@@ -109,7 +99,6 @@ impl Gathering {
                 };
                 ClusterEvent::Deliver { message, node }
             }
-            Entry::HandOut => ClusterEvent::HandOut(node),
             Entry::Post { query, .. } => {
                 let Some(job) = self.job_for(node, *query)? else {
                     return Ok(None);
@@ -182,7 +171,7 @@ impl Gathering {
 
 /// Keeps where the job stands that this event handed out.
 fn keep_job(jobs: &mut Jobs, event: &ClusterEvent, told: EventAnswer) -> Result<(), AllocError> {
-    if let ClusterEvent::HandOut(node) = event
+    if let ClusterEvent::Call { node, .. } = event
         && let EventAnswer::HandedOut(Some(handed)) = told
     {
         jobs.add(*node, handed)?;

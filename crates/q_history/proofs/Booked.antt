@@ -22,7 +22,7 @@ use Rattle.q_history.specs.Headline.{ClusterState}
 use Rattle.q_history.specs.Clusters.{with_job}
 use Rattle.q_history.proofs.Ops.{each_put}
 use Rattle.q_history.proofs.World.{at_live}
-use Rattle.q_history.proofs.Called.{With, IsCalled, tells, past, accepted, called_sent, IsMade, enters, crashes, rests, calls}
+use Rattle.q_history.proofs.Called.{With, IsCalled, did, tells, past, accepted, called_sent, IsMade, enters, crashes, rests, calls}
 use Rattle.q_history.proofs.Kept.{IsKept}
 
 -- each of these messages fits the version
@@ -44,7 +44,7 @@ module _ (c : ClusterState) (kept : IsKept c) (books : AreBooks c) where
       let at = at_live c k.id k.book k.live in
       let was = books.replays k.id k.book at in
       let a = accepted c d k in
-      let fit = accepted_fit k.book k.entry (tells c d k) k.later a (replay_values k.book was) in
+      let fit = accepted_fit k.book k.entry (did c d k) (tells c d k) k.later a (replay_values k.book was) in
       subst AreBooks k.is
       (put_book (past c d k) (with_job c.jobs (handed k.book k.entry)) k.id k.later
       (subst (Fit c.version) (sym (called_sent c d k)) (All-append (Fits c.version) c.past.sent (sends k.book k.entry) books.messages (subst (λ (v : Version). Fit v (sends k.book k.entry)) (kept.headed k.id k.book at).version fit.1)))

@@ -1,5 +1,5 @@
 -- What an accepted event of a node was: the call of its book.
-use Rattle.std.proofs.Common.{◌≡◌, ℕ, List, ◌++◌, Option, Some, None, IfSome, refl, sym, ap, ◌∙◌, slice_get, Result, Ok, Err}
+use Rattle.std.proofs.Common.{◌≡◌, ℕ, List, ◌++◌, Option, Some, None, IfSome, refl, sym, ap, subst, ◌∙◌, slice_get, Result, Ok, Err}
 use Rattle.std.specs.FinMap as fin
 use Rattle.sc_msg.specs.declared.message.Message.{Message}
 use Rattle.sc_world.specs.declared.event.WorldEvent.{WorldEvent}
@@ -16,14 +16,18 @@ use Rattle.q_book.specs.Books as book
 use Rattle.q_book.specs.Replays as replays
 use Rattle.q_book.specs.Sends.{seen, sends, handed}
 use Rattle.q_desk.proofs.Changes.{Told}
-use Rattle.q_book.proofs.Followed.{deed, told, IsAccepted, follows-accepted, none-handed}
+use Rattle.q_book.specs.Called.{called, IsNoted, reply_job}
+use Rattle.q_book.specs.declared.reply.Reply.{Reply}
+use Rattle.q_book.specs.declared.reply.Reply.TheVariants as reply
+use Rattle.q_desk.specs.declared.journal.Call.{Call}
+use Rattle.q_book.proofs.Followed.{Deed, reply_deed, deed, reply_told, told, IsAccepted, follows-accepted, none-called}
 use Rattle.reasons.specs.declared.Reason.{Reason}
 use Rattle.q_history.specs.declared.event.ClusterEvent.{ClusterEvent}
 use Rattle.q_history.specs.declared.event.ClusterEvent.TheVariants as event
 use Rattle.q_history.specs.declared.event.ClusterStep.{ClusterStep}
 use Rattle.q_history.specs.Headline.{ClusterState}
 use Rattle.q_history.specs.Calls.{Answers, Follows}
-use Rattle.q_history.specs.Clusters.{Said, put, lift, live_at, by_book, at as at_node, with_job, entered, leaves, crashed, registers, asks, stores, delivers, delivered_as, hands, posts, finished}
+use Rattle.q_history.specs.Clusters.{Said, put, lift, live_at, by_book, at as at_node, with_job, replies, entered, crashed, delivers, delivered_as, posts, finished}
 use Rattle.q_history.proofs.Accepted.{WasSent, event_for, outcome, Acted, did_act, ledger, ledger_sent}
 
 -- ---- the book of a live node
@@ -81,8 +85,7 @@ pub record IsDue (c : ClusterState) (id : ℕ) (j : Job) (ran : Ran) : Type 0 wh
 abbrev pub AreDue : ClusterState → ℕ → Told → Type 0
 AreDue c id t = IfSome t.answer (λ p. IsDue c id p.0 p.1)
 
--- the book of a live node took the call of an entry: the ledger has what its node did, and a job that it hands out is
--- one more
+-- the book of a live node took an entry: the ledger has what its node did, and a job that it hands out is one more
 pub record IsCalled (c d : ClusterState) : Type 0 where
   pub id : ℕ
   pub book : BookState
@@ -90,26 +93,29 @@ pub record IsCalled (c d : ClusterState) : Type 0 where
   pub entry : Entry
   pub later : BookState
   pub follows : replays.Follows book entry later
-  pub wants : WasSent c.past.sent (deed entry)
+  pub wants : WasSent c.past.sent (deed book entry later follows)
   pub due : AreDue c id (told book entry later follows)
   pub is : (let r = outcome (told book entry later follows) later.node in
-      With c (ledger c.past id (event_for id c.past.sent (deed entry) wants) r) (with_job c.jobs (handed book entry)) id later ≡ d)
+      With c (ledger c.past id (event_for id c.past.sent (deed book entry later follows) wants) r) (with_job c.jobs (handed book entry)) id later ≡ d)
 
 module _ (c d : ClusterState) (k : IsCalled c d) where
   abbrev pub tells : Told
   tells = told k.book k.entry k.later k.follows
 
+  abbrev pub did : Deed
+  did = deed k.book k.entry k.later k.follows
+
   abbrev pub acts : Option WorldEvent
-  acts = event_for k.id c.past.sent (deed k.entry) k.wants
+  acts = event_for k.id c.past.sent did k.wants
 
   abbrev pub past : Past
   past = ledger c.past k.id acts (outcome tells k.later.node)
 
-  pub accepted : IsAccepted k.book k.entry tells k.later
+  pub accepted : IsAccepted k.book k.entry did tells k.later
   accepted = follows-accepted k.book k.entry k.later k.follows
 
   pub node_acted : Acted k.id c.past.sent acts k.book.node (outcome tells k.later.node)
-  node_acted = did_act k.id c.past.sent k.book (deed k.entry) k.wants tells k.later.node accepted.node
+  node_acted = did_act k.id c.past.sent k.book did k.wants tells k.later.node accepted.node
 
   -- what the call sends was sent
   pub called_sent : past.sent ≡ c.past.sent ++ sends k.book k.entry
@@ -117,7 +123,7 @@ module _ (c d : ClusterState) (k : IsCalled c d) where
       ledger_sent c.past k.id acts k.book.node (outcome tells k.later.node) node_acted ∙ ap (λ (x : List Message). c.past.sent ++ x) accepted.sent
 
 -- What an accepted event makes of a cluster: a node enters; one crashes; a node whose queries are not ready hands nothing
--- out, and its book is put in as it was; or the book of a node takes the call of an entry.
+-- out, and its book is put in as it was; or the book of a node takes an entry.
 pub data IsMade (c d : ClusterState) : Type 0 where
   enters : (id : ℕ) → fin.get c.books id ≡ None
       → (let e = book.entered c.version c.past.config id in With c (recorded c.past (world_event.Enter id) id e.1 None None) c.jobs id e.0 ≡ d)
@@ -126,12 +132,32 @@ pub data IsMade (c d : ClusterState) : Type 0 where
   rests : (id : ℕ) (b : BookState) → live_at c id ≡ Some b → With c c.past c.jobs id b ≡ d → IsMade c d
   calls : IsCalled c d → IsMade c d
 
+-- what a reply is for the ledger needs no message that was sent
+pub sent_nothing : (sent : List Message) (a : Reply) → WasSent sent (reply_deed a)
+sent_nothing sent (reply.Left outs) = tt
+sent_nothing sent (reply.Registered id) = tt
+sent_nothing sent (reply.Asked a) = tt
+sent_nothing sent (reply.Stored value a) = tt
+sent_nothing sent (reply.HandedOut o) = tt
+
+-- what it makes of a cluster
+abbrev pub Replied : ClusterState → ℕ → Reply → BookState → ClusterState
+Replied c id a b =
+    With c (ledger c.past id (event_for id c.past.sent (reply_deed a) (sent_nothing c.past.sent a)) (outcome (reply_told a) b.node)) (with_job c.jobs (reply_job a)) id b
+
+pub replied_is : (c : ClusterState) (id : ℕ) (a : Reply) (b : BookState) → Replied c id a b ≡ (replies c id a b).1
+replied_is c id (reply.Left outs) b = refl
+replied_is c id (reply.Registered program) b = refl
+replied_is c id (reply.Asked a) b = refl
+replied_is c id (reply.Stored value a) b = refl
+replied_is c id (reply.HandedOut o) b = refl
+
 module _ (c : ClusterState) where
-  -- from the call of a book to that of an entry
+  -- from the call of a book to an entry
   made : {A : Type 0} {next : A → BookState → ClusterStep × ClusterState} {call : BookState → Result (A × BookState) Reason} {d : ClusterState} (id : ℕ)
-      (k : IsCall c id next call d) (e : Entry) (f : replays.Follows k.book e k.answer.1) (w : WasSent c.past.sent (deed e)) → AreDue c id (told k.book e k.answer.1 f)
+      (k : IsCall c id next call d) (e : Entry) (f : replays.Follows k.book e k.answer.1) (w : WasSent c.past.sent (deed k.book e k.answer.1 f)) → AreDue c id (told k.book e k.answer.1 f)
       → (let r = outcome (told k.book e k.answer.1 f) k.answer.1.node in
-      With c (ledger c.past id (event_for id c.past.sent (deed e) w) r) (with_job c.jobs (handed k.book e)) id k.answer.1 ≡ d) → IsMade c d
+      With c (ledger c.past id (event_for id c.past.sent (deed k.book e k.answer.1 f) w) r) (with_job c.jobs (handed k.book e)) id k.answer.1 ≡ d) → IsMade c d
   made id k e f w due is = calls (record {
     id = id;
     book = k.book;
@@ -159,15 +185,32 @@ module _ (c : ClusterState) where
       let k = call-ok c id (delivers c number id) (λ b. book.delivered b m) y h in
       made id k (entry.Deliver m) (k.answer.0, k.called) (number, is) tt k.is
 
-  hand_out_is : (id : ℕ) (d : ClusterState) (k : IsCall c id (hands c id) book.handed_out d) (o : Option Job) → k.answer.0 ≡ o → IsMade c d
-  hand_out_is id d k None none =
-      let called = k.called ∙ ap (λ (o : Option Job). let r : Result (Option Job × BookState) Reason = Ok (o, k.answer.1) in r) none in
-      rests id k.book k.live
-      ((λ i. With c c.past (with_job c.jobs (sym none i)) id (none-handed k.book k.answer.1 called i)) ∙ k.is)
-  hand_out_is id d k (Some j) some =
-      let called = k.called ∙ ap (λ (o : Option Job). let r : Result (Option Job × BookState) Reason = Ok (o, k.answer.1) in r) some in
-      made id k entry.HandOut (j, called) tt tt
-      (ap (λ (o : Option Job). With c c.past (with_job c.jobs o) id k.answer.1) (ap (seen (λ (x : Option Job). x) None) k.called) ∙ k.is)
+  -- nothing that is told of a reply is an answer
+  nothing_due : (id : ℕ) (a : Reply) → AreDue c id (reply_told a)
+  nothing_due id (reply.Left outs) = tt
+  nothing_due id (reply.Registered program) = tt
+  nothing_due id (reply.Asked a) = tt
+  nothing_due id (reply.Stored value a) = tt
+  nothing_due id (reply.HandedOut o) = tt
+
+  noted_is : (id : ℕ) (d : ClusterState) (k : Call) (x : IsCall c id (replies c id) (λ b. called b k) d) → IsNoted x.answer.0 → IsMade c d
+  noted_is id d k x noted =
+      let a = x.answer.0 in
+      let hands : handed x.book (entry.Call k) ≡ reply_job a = ap (seen reply_job None) x.called in
+      made id x (entry.Call k) (a, x.called, noted) (sent_nothing c.past.sent a) (nothing_due id a)
+      (ap (λ (o : Option Job). With c (ledger c.past id (event_for id c.past.sent (reply_deed a) (sent_nothing c.past.sent a)) (outcome (reply_told a) x.answer.1.node)) (with_job c.jobs o) id x.answer.1) hands
+      ∙ replied_is c id a x.answer.1 ∙ x.is)
+
+  call_is : (id : ℕ) (d : ClusterState) (k : Call) (x : IsCall c id (replies c id) (λ b. called b k) d) (a : Reply) → x.answer.0 ≡ a → IsMade c d
+  call_is id d k x (reply.HandedOut None) is =
+      let none = x.called ∙ ap (λ (a : Reply). let r : Result (Reply × BookState) Reason = Ok (a, x.answer.1) in r) is in
+      rests id x.book x.live
+      (ap (λ (b : BookState). With c c.past c.jobs id b) (none-called x.book k x.answer.1 none) ∙ ap (λ (a : Reply). (replies c id a x.answer.1).1) (sym is) ∙ x.is)
+  call_is id d k x (reply.HandedOut (Some j)) is = noted_is id d k x (subst IsNoted (sym is) tt)
+  call_is id d k x (reply.Left outs) is = noted_is id d k x (subst IsNoted (sym is) tt)
+  call_is id d k x (reply.Registered program) is = noted_is id d k x (subst IsNoted (sym is) tt)
+  call_is id d k x (reply.Asked a) is = noted_is id d k x (subst IsNoted (sym is) tt)
+  call_is id d k x (reply.Stored value a) is = noted_is id d k x (subst IsNoted (sym is) tt)
 
   finish_is : (number : ℕ) (ran : Ran) (o : Option Job) (y : ClusterStep × ClusterState) → slice_get c.jobs number ≡ o → IfSome o (λ j. Answers j ran)
       → finished c ran o ≡ Ok y → IsMade c y.1
@@ -179,20 +222,8 @@ module _ (c : ClusterState) where
   pub event_is : (e : ClusterEvent) (says : ClusterStep) (d : ClusterState) → Follows c e says d → IsMade c d
   event_is (event.Enter id) says d f = enter_is id (fin.get c.books id) (says, d) refl f.stepped
   event_is (event.Crash id) says d f = crash_is id (live_at c id) (says, d) refl f.stepped
-  event_is (event.Leave id) says d f =
-      let k = call-ok c id (leaves c id) book.left (says, d) f.stepped in
-      made id k entry.Leave (k.answer.0, k.called) tt tt k.is
-  event_is (event.Register id program) says d f =
-      let k = call-ok c id (registers c id) (λ b. book.registered b program) (says, d) f.stepped in
-      made id k (entry.Register program) (k.answer.0, k.called) tt tt k.is
-  event_is (event.Ask id program start) says d f =
-      let k = call-ok c id (asks c id) (λ b. book.asked b program start) (says, d) f.stepped in
-      made id k (entry.Ask program start) (k.answer.0, k.called) tt tt k.is
-  event_is (event.Store id value) says d f =
-      let k = call-ok c id (stores c id value) (λ b. book.stored b value) (says, d) f.stepped in
-      made id k (entry.Store value) (k.answer.0, k.called) tt tt k.is
+  event_is (event.Call id k) says d f =
+      let x = call-ok c id (replies c id) (λ b. called b k) (says, d) f.stepped in
+      call_is id d k x x.answer.0 refl
   event_is (event.Deliver number id) says d f = deliver_is number id (slice_get c.past.sent number) (says, d) refl f.stepped
-  event_is (event.HandOut id) says d f =
-      let k = call-ok c id (hands c id) book.handed_out (says, d) f.stepped in
-      hand_out_is id d k k.answer.0 refl
   event_is (event.Finish number) says d f = finish_is number f.ran (slice_get c.jobs number) (says, d) refl f.right f.stepped

@@ -35,7 +35,7 @@ use Rattle.q_history.specs.Clusters.{live_at, with_job}
 use Rattle.q_history.proofs.Lists.{same_some, no_some}
 use Rattle.q_history.proofs.Ops.{IsOnward, onward_itself, insert_same}
 use Rattle.q_history.proofs.World.{node_of, get-nodes, world_live, at_live}
-use Rattle.q_history.proofs.Accepted.{opened_by, outcome, silent, Acted, ledger, act_step, act_onward, still_onward}
+use Rattle.q_history.proofs.Accepted.{opened_by, outcome, Acted, ledger, act_step, act_onward, still_onward}
 use Rattle.q_history.proofs.Called.{past_in, With, IsDue, IsCalled, tells, acts, past, accepted, node_acted, IsMade, enters, crashes, rests, calls}
 use Rattle.q_history.proofs.Kept.{HasView, Owes, IsKnown, IsKept, IsStep, stays_itself, known_on, head_in, head_with, desk_changed, put_stays, put, put_desk, which_job}
 

@@ -7,7 +7,7 @@ use Rattle.std.specs.FinMap as fin
 use Rattle.std.specs.FinMap.Entries.{find}
 use Rattle.std.specs.FinSet as set
 use Rattle.sc_node.specs.State.{NodeState}
-use Rattle.sc_world.specs.State.{Past, WorldState, world_of}
+use Rattle.sc_world.specs.State.{Past, world_of}
 use Rattle.sc_world.specs.Worlds as world
 use Rattle.sc_world.proofs.Finite.{get-insert}
 use Rattle.q_session.specs.declared.job.Job.{Job}

@@ -16,12 +16,14 @@ use Rattle.reasons.specs.declared.Reason.{Reason}
 use Rattle.reasons.specs.declared.Reason.TheVariants as reasons
 use Rattle.sc_world.specs.State.{Past}
 use Rattle.sc_world.specs.Ledgers.{first, recorded, numbered, stopped}
-use Rattle.bq_check.specs.Certificate.{Certificate}
 use Rattle.q_session.specs.declared.ran.Ran.{Ran}
 use Rattle.q_session.specs.declared.job.Job.{Job}
 use Rattle.q_book.specs.State.{BookState}
+use Rattle.q_desk.specs.declared.journal.Call.{Call}
 use Rattle.q_book.specs.Books as book
-use Rattle.q_book.specs.declared.answer.Asked.{Asked}
+use Rattle.q_book.specs.Called as calls
+use Rattle.q_book.specs.declared.reply.Reply.{Reply}
+use Rattle.q_book.specs.declared.reply.Reply.TheVariants as reply
 use Rattle.q_book.specs.declared.answer.Delivery.{Delivery}
 use Rattle.q_history.specs.declared.event.ClusterEvent.{ClusterEvent}
 use Rattle.q_history.specs.declared.event.ClusterEvent.TheVariants as event
@@ -72,30 +74,53 @@ by_book (Some b) f = f b
 abbrev pub at : ClusterState → ℕ → (BookState → Said) → Said
 at c id f = by_book (live_at c id) f
 
--- ---- programs
+-- ---- calls
 
-abbrev pub registers : ClusterState → ℕ → ℕ → BookState → ClusterStep × ClusterState
-registers c id program b = quiet c (told.Registered program) c.jobs id b
+abbrev pub handed : List Job → Option Job → Option Handed
+handed jobs None = None
+handed jobs (Some j) = Some (record { job = length jobs; query = j.query })
 
-abbrev pub registered : ClusterState → ℕ → Certificate → BookState → Said
-registered c id program b = lift (registers c id) (book.registered b program)
-
--- ---- queries and stores
+abbrev pub with_job : List Job → Option Job → List Job
+with_job jobs None = jobs
+with_job jobs (Some j) = jobs ++ j ∷ []
 
 abbrev pub opened : Begun → Option Opened
 opened begun = Some (record { tag = begun.tag; session = begun.session })
 
-abbrev pub asks : ClusterState → ℕ → Asked → BookState → ClusterStep × ClusterState
-asks c id a b = noted c (told.Asked a.query) (world_event.Collect id) id a.begun.outs None (opened a.begun) b
+-- what is told of a reply
+abbrev pub told_by : List Job → Reply → EventAnswer
+told_by jobs (reply.Left outs) = told.Left
+told_by jobs (reply.Registered program) = told.Registered program
+told_by jobs (reply.Asked a) = told.Asked a.query
+told_by jobs (reply.Stored value a) = told.Stored a.tag
+told_by jobs (reply.HandedOut j) = told.HandedOut (handed jobs j)
 
-abbrev pub asked : ClusterState → ℕ → ℕ → ℕ → BookState → Said
-asked c id program start b = lift (asks c id) (book.asked b program start)
+-- the event of the world that it is, and the operation that began at it: a node leaves, collects or stores
+abbrev pub event_by : ℕ → Reply → Option WorldEvent
+event_by id (reply.Left outs) = Some (world_event.Leave id)
+event_by id (reply.Asked a) = Some (world_event.Collect id)
+event_by id (reply.Stored value a) = Some (world_event.Store id value)
+event_by id a = None
 
-abbrev pub stores : ClusterState → ℕ → List ℕ → Begun → BookState → ClusterStep × ClusterState
-stores c id value a b = noted c (told.Stored a.tag) (world_event.Store id value) id a.outs None (opened a) b
+abbrev pub begun_by : Reply → Option Opened
+begun_by (reply.Asked a) = opened a.begun
+begun_by (reply.Stored value a) = opened a
+begun_by a = None
 
-abbrev pub stored : ClusterState → ℕ → List ℕ → BookState → Said
-stored c id value b = lift (stores c id value) (book.stored b value)
+-- what the ledger has then: an event of the world is recorded
+abbrev pub past_by : Past → ℕ → Option WorldEvent → List Message → Option Opened → Past
+past_by p id None outs begun = p
+past_by p id (Some e) outs begun = recorded p e id outs None begun
+
+-- what the reply of a book makes of its cluster
+abbrev pub replies : ClusterState → ℕ → Reply → BookState → ClusterStep × ClusterState
+replies c id a b = (
+  record { told = told_by c.jobs a; sent = numbered c.past (calls.reply_outs a) },
+  put c (past_by c.past id (event_by id a) (calls.reply_outs a) (begun_by a)) (with_job c.jobs (calls.reply_job a)) id b,
+)
+
+abbrev pub called : ClusterState → ℕ → Call → BookState → Said
+called c id k b = lift (replies c id) (calls.called b k)
 
 -- ---- messages
 
@@ -110,20 +135,6 @@ abbrev pub delivered : ClusterState → ℕ → ℕ → BookState → Said
 delivered c number id b = delivered_as c number id b (slice_get c.past.sent number)
 
 -- ---- jobs
-
-abbrev pub handed : List Job → Option Job → Option Handed
-handed jobs None = None
-handed jobs (Some j) = Some (record { job = length jobs; query = j.query })
-
-abbrev pub with_job : List Job → Option Job → List Job
-with_job jobs None = jobs
-with_job jobs (Some j) = jobs ++ j ∷ []
-
-abbrev pub hands : ClusterState → ℕ → Option Job → BookState → ClusterStep × ClusterState
-hands c id j b = quiet c (told.HandedOut (handed c.jobs j)) (with_job c.jobs j) id b
-
-abbrev pub handed_out : ClusterState → ℕ → BookState → Said
-handed_out c id b = lift (hands c id) (book.handed_out b)
 
 abbrev pub posts : ClusterState → Job → Ran → Unit {0} → BookState → ClusterStep × ClusterState
 posts c j ran u b = quiet c (told.Finished (record { node = j.node; query = j.query; ran = ran })) c.jobs j.node b
@@ -145,12 +156,6 @@ abbrev pub entered : ClusterState → ℕ → Option BookState → Said
 entered c id None = Ok (enters c id (book.entered c.version c.past.config id))
 entered c id (Some b) = Err reasons.IdUsed
 
-abbrev pub leaves : ClusterState → ℕ → List Message → BookState → ClusterStep × ClusterState
-leaves c id outs b = noted c told.Left (world_event.Leave id) id outs None None b
-
-abbrev pub left : ClusterState → ℕ → BookState → Said
-left c id b = lift (leaves c id) (book.left b)
-
 abbrev pub crashed : ClusterState → ℕ → Option BookState → Said
 crashed c id None = Err reasons.NoSuchNode
 crashed c id (Some b) =
@@ -161,13 +166,9 @@ crashed c id (Some b) =
 -- What an event answers and makes of a cluster, or why it is refused. A job that it finishes comes to ran.
 abbrev pub stepped : Ran → ClusterState → ClusterEvent → Said
 stepped ran c (event.Enter id) = entered c id (fin.get c.books id)
-stepped ran c (event.Leave id) = at c id (left c id)
 stepped ran c (event.Crash id) = crashed c id (live_at c id)
-stepped ran c (event.Register id program) = at c id (registered c id program)
-stepped ran c (event.Ask id program start) = at c id (asked c id program start)
-stepped ran c (event.Store id value) = at c id (stored c id value)
+stepped ran c (event.Call id k) = at c id (called c id k)
 stepped ran c (event.Deliver number id) = at c id (delivered c number id)
-stepped ran c (event.HandOut id) = at c id (handed_out c id)
 stepped ran c (event.Finish number) = finished c ran (slice_get c.jobs number)
 
 -- ---- founders

@@ -1,10 +1,9 @@
 //! What happens to a cluster, and what it tells.
 
-use q_desk::Completed;
+use q_desk::{Call, Completed};
 use q_session::Ran;
-use q_table::{Program, ProgramId};
+use q_table::ProgramId;
 use reasons::Reason;
-use sc_view::Value;
 use sc_world::Sent;
 
 /// Why an event is refused. After a refusal the cluster is as it was. Where several hold, the first of 83, 81, 82, 42,
@@ -16,33 +15,21 @@ pub type ClusterFault = Reason;
 pub enum ClusterEvent {
     /// A node with a new id enters.
     Enter(u64),
-    /// A node leaves for good, and tells it.
-    Leave(u64),
     /// A node stops for good, and tells nobody.
     Crash(u64),
-    /// A node registers a program.
-    Register {
+    /// The book of a node takes a call: the node leaves for good and tells it, registers a program, is asked a query,
+    /// begins to store a value, or hands out the job of its ready query with the least number, if there is one.
+    Call {
+        /// The node.
         node: u64,
-        program: Program,
-    },
-    /// A query begins, and with it a collect.
-    Ask {
-        node: u64,
-        program: ProgramId,
-        start: u64,
-    },
-    /// A node begins to store a value.
-    Store {
-        node: u64,
-        value: Value,
+        /// The call.
+        call: Call,
     },
     /// A message that was sent, by its number, reaches a node.
     Deliver {
         message: usize,
         node: u64,
     },
-    /// A node hands out the job of its ready query with the least number, if there is one.
-    HandOut(u64),
     /// A job, by its number, is run, and its node records the answer.
     Finish(usize),
 }

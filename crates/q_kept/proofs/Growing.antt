@@ -1,11 +1,14 @@
 -- The book grows by each call under the lock.
-use Rattle.std.proofs.Common.{◌≡◌, ℕ, List, [], ◌∷◌, Option, subst, sym, Result, Ok, Err}
+use Rattle.std.proofs.Common.{◌≡◌, ℕ, List, [], ◌∷◌, Option, subst, sym, ap, Result, Ok, Err}
+use Rattle.forms.specs.Calls.{mapped}
 use Rattle.sc_msg.specs.declared.message.Message.{Message}
 use Rattle.q_desk.specs.declared.journal.Entry.{Entry}
+use Rattle.q_desk.specs.declared.journal.Call.TheVariants as call
 use Rattle.q_desk.specs.declared.journal.Entry.TheVariants as entry
 use Rattle.q_desk.specs.declared.completed.Completed.{Completed}
 use Rattle.q_book.specs.State.{BookState}
 use Rattle.q_book.specs.Replays.{Follows}
+use Rattle.q_book.specs.declared.reply.Reply.TheVariants as reply
 use Rattle.reasons.specs.declared.Reason.{Reason}
 use Rattle.q_held.specs.Held.{Asks, Delivers, Hears, Leaves, Receives, Stores}
 use Rattle.q_held.specs.declared.held.Lost.{Lost}
@@ -13,12 +16,12 @@ use Rattle.q_held.specs.declared.held.Lost.TheVariants as lost
 use Rattle.q_held.specs.declared.losses.Losses.{Losses}
 use Rattle.q_kept.specs.Recording.{Grows}
 
-module _ (same : (b : BookState) → Grows b b) (call : (b c : BookState) (e : Entry) → Follows b e c → Grows b c) where
+module _ (same : (b : BookState) → Grows b b) (grow : (b c : BookState) (e : Entry) → Follows b e c → Grows b c) where
   grows_same : (b c : BookState) → c ≡ b → Grows b c
   grows_same b c e = subst (Grows b) (sym e) (same b)
 
   delivers_grow : (m : Message) (b c : BookState) (had has : List Message) (r : Result (Option Completed) Lost) → Delivers m b had r c has → Grows b c
-  delivers_grow m b c had has (Ok ended) h = call b c (entry.Deliver m) (h.0, h.1)
+  delivers_grow m b c had has (Ok ended) h = grow b c (entry.Deliver m) (h.0, h.1)
   delivers_grow m b c had has (Err (lost.Book f)) h = grows_same b c h.0.0
   delivers_grow m b c had has (Err (lost.Bytes f)) h = absurd h
   delivers_grow m b c had has (Err lost.OutOfMemory) h = absurd h
@@ -34,13 +37,13 @@ module _ (same : (b : BookState) → Grows b b) (call : (b c : BookState) (e : E
   receives_grow (byte ∷ bytes) b c had has l k ended h = hears_grow (byte ∷ bytes) b c had has h.0 h.1
 
   pub stores_grow : (value : List ℕ) (b c : BookState) (had has : List Message) (r : Result ℕ Reason) → Stores value b had r c has → Grows b c
-  stores_grow value b c had has (Ok tag) h = call b c (entry.Store value) (h.0, h.1)
+  stores_grow value b c had has (Ok tag) h = grow b c (entry.Call (call.Store value)) (reply.Stored value h.0, ap (mapped (reply.Stored value)) h.1, tt)
   stores_grow value b c had has (Err f) h = grows_same b c h.0.0
 
   pub asks_grow : (program start : ℕ) (b c : BookState) (had has : List Message) (r : Result ℕ Reason) → Asks program start b had r c has → Grows b c
-  asks_grow program start b c had has (Ok query) h = call b c (entry.Ask program start) (h.0, h.1)
+  asks_grow program start b c had has (Ok query) h = grow b c (entry.Call (call.Ask program start)) (reply.Asked h.0, ap (mapped reply.Asked) h.1, tt)
   asks_grow program start b c had has (Err f) h = grows_same b c h.0.0
 
   pub leaves_grow : (b c : BookState) (had has : List Message) (r : Result (Unit {0}) Reason) → Leaves b had r c has → Grows b c
-  leaves_grow b c had has (Ok u) h = call b c entry.Leave (h.0, h.1)
+  leaves_grow b c had has (Ok u) h = grow b c (entry.Call call.Leave) (reply.Left h.0, ap (mapped reply.Left) h.1, tt)
   leaves_grow b c had has (Err f) h = grows_same b c h.0.0

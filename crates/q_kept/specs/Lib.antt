@@ -7,3 +7,4 @@ pub mod Letters
 pub mod Questions
 pub mod Giving
 pub mod Settling
+pub mod Sample

@@ -16,7 +16,6 @@ ghost use Rattle.sc_operations.specs.declared.session.Phase.{Phase as Waiting};
 ghost use Rattle.sc_operations.specs.declared.session.Session.TheVariants as operation;
 ghost use Rattle.sc_operations.specs.declared.session.StoreBack.{StoreBack as Back};
 ghost use Rattle.sc_node.specs.State.{NodeState};
-ghost use Rattle.q_desk.specs.declared.journal.Entry.TheVariants as entry;
 ghost use Rattle.q_book.specs.State.{BookState};
 ghost use Rattle.q_replay.specs.Spelling.{head_bytes};
 ghost use Rattle.q_replay.specs.Journal.{head_of, journal_of};
@@ -30,6 +29,7 @@ ghost use Rattle.q_kept.specs.Questions.{IsFor, asking_phase, goes_again, is_due
 ghost use Rattle.q_kept.specs.Settling.{GivesNone, GivesWritten};
 ghost use Rattle.q_kept.specs.declared.letter.Letter.{Letter as Sent};
 ghost use Rattle.q_kept.specs.declared.question.Question.{Question as Asking};
+ghost use Rattle.q_kept.specs.Sample.{both, hand_out};
 
 /// To whom messages go, and which go again.
 pub fn worked()
@@ -88,18 +88,18 @@ pub fn worked_settling()
     // No message leaves before the journal that gave it is written: not while its last entry is not in the file, not
     // where a write failed, and not where memory for what lacks ran out.
     ensures not_before { (r : RecorderState) (b c : BookState) (old : Outbox) (letters : List Sent) (r' : RecorderState)
-        (new : Outbox) → IsRecorded (Some []) b r → c.desk.journal ≡ entry.HandOut ∷ entry.Leave ∷ []
+        (new : Outbox) → IsRecorded (Some []) b r → c.desk.journal ≡ both
         → r'.file ≡ Some (head_bytes (head_of c) ++ (6 ∷ 0 ∷ 0 ∷ 0 ∷ 0 ∷ []))
         → GivesWritten r b c old letters r' new → ⊥ }
     ensures not_failed { (r : RecorderState) (b c : BookState) (old : Outbox) (letters : List Sent) (r' : RecorderState)
         (new : Outbox) → Records r c (Err fault.Failed) r' → GivesWritten r b c old letters r' new → ⊥ }
     ensures not_short { (r : RecorderState) (b c : BookState) (old : Outbox) (letters : List Sent) (r' : RecorderState)
-        (new : Outbox) → c.desk.journal ≡ entry.HandOut ∷ entry.Leave ∷ [] → r.written ≡ 1
+        (new : Outbox) → c.desk.journal ≡ both → r.written ≡ 1
         → Records r c (Err fault.OutOfMemory) r' → GivesWritten r b c old letters r' new → ⊥ }
 
     // Nor where the book got one entry more after its journal was written.
     ensures not_later { (r : RecorderState) (b c d : BookState) (old : Outbox) (letters : List Sent) (r' : RecorderState)
-        (new : Outbox) → c.desk.journal ≡ entry.HandOut ∷ [] → d.desk.journal ≡ entry.HandOut ∷ entry.HandOut ∷ []
+        (new : Outbox) → c.desk.journal ≡ hand_out ∷ [] → d.desk.journal ≡ hand_out ∷ hand_out ∷ []
         → Records r c (Ok (tt {0})) r' → GivesWritten r b d old letters r' new → ⊥ }
 
     // A node is mute once a write failed: it gives no message at any later time, and stays mute.

@@ -4,7 +4,6 @@ ghost use Rattle.std.specs.Prelude.{◌≡◌, ◌++◌, ℕ, List, [], ◌∷�
 ghost use Rattle.std.specs.Io.KnownBytes.{WriteAppends};
 ghost use Rattle.reasons.specs.declared.Reason.TheVariants as reasons;
 ghost use Rattle.q_desk.specs.declared.journal.Entry.{Entry};
-ghost use Rattle.q_desk.specs.declared.journal.Entry.TheVariants as entry;
 ghost use Rattle.q_book.specs.State.{BookState};
 ghost use Rattle.q_replay.specs.Spelling.{head_bytes};
 ghost use Rattle.q_replay.specs.Journal.{head_of, journal_of};
@@ -12,6 +11,7 @@ ghost use Rattle.q_kept.specs.State.{RecorderState};
 ghost use Rattle.q_kept.specs.Faults.{reason};
 ghost use Rattle.q_kept.specs.Recording.{Grows, IsKept, IsRecorded, Records, lacking_bytes, recorded_bytes};
 ghost use Rattle.q_kept.specs.declared.fault.Unrecorded.TheVariants as fault;
+ghost use Rattle.q_kept.specs.Sample.{both};
 
 /// What the definitions say at telling operands, of a book whose journal is a hand-out and a leave.
 #[tactic(auto, unfolding(spelling::specs::Numbers::number_bytes))]
@@ -22,15 +22,15 @@ pub fn worked()
     ensures all_lacks { (r : RecorderState) (b : BookState) → r.begun ≡ false → r.written ≡ 0 → lacking_bytes r b ≡ journal_of b }
     ensures head_lacks { (r : RecorderState) (b : BookState) → r.begun ≡ false
         → take 3 (lacking_bytes r b) ≡ 0x42 ∷ 0x51 ∷ 0x4a ∷ [] }
-    ensures last_lacks { (r : RecorderState) (b : BookState) → b.desk.journal ≡ entry.HandOut ∷ entry.Leave ∷ [] → r.begun ≡ true → r.written ≡ 1 → lacking_bytes r b ≡ 1 ∷ 0 ∷ 0 ∷ 0 ∷ 0 ∷ [] }
-    ensures none_lacks { (r : RecorderState) (b : BookState) → b.desk.journal ≡ entry.HandOut ∷ entry.Leave ∷ [] → r.begun ≡ true → r.written ≡ 2 → lacking_bytes r b ≡ [] }
-    ensures first_is_there { (r : RecorderState) (b : BookState) → b.desk.journal ≡ entry.HandOut ∷ entry.Leave ∷ [] → r.begun ≡ true → r.written ≡ 1 → recorded_bytes r b ≡ head_bytes (head_of b) ++ (6 ∷ 0 ∷ 0 ∷ 0 ∷ 0 ∷ []) }
+    ensures last_lacks { (r : RecorderState) (b : BookState) → b.desk.journal ≡ both → r.begun ≡ true → r.written ≡ 1 → lacking_bytes r b ≡ 1 ∷ 0 ∷ 0 ∷ 0 ∷ 0 ∷ [] }
+    ensures none_lacks { (r : RecorderState) (b : BookState) → b.desk.journal ≡ both → r.begun ≡ true → r.written ≡ 2 → lacking_bytes r b ≡ [] }
+    ensures first_is_there { (r : RecorderState) (b : BookState) → b.desk.journal ≡ both → r.begun ≡ true → r.written ≡ 1 → recorded_bytes r b ≡ head_bytes (head_of b) ++ (6 ∷ 0 ∷ 0 ∷ 0 ∷ 0 ∷ []) }
 
     // After a call that succeeds all that lacked stands in the file, to the last byte, and is counted.
     ensures appends_all { (r s : RecorderState) (b : BookState) (all : List ℕ)
-        → b.desk.journal ≡ entry.HandOut ∷ entry.Leave ∷ [] → r.begun ≡ true → r.written ≡ 1 → r.file ≡ Some []
+        → b.desk.journal ≡ both → r.begun ≡ true → r.written ≡ 1 → r.file ≡ Some []
         → s.file ≡ Some all → Records r b (Ok (tt {0})) s → all ≡ 1 ∷ 0 ∷ 0 ∷ 0 ∷ 0 ∷ [] }
-    ensures counts_all { (r s : RecorderState) (b : BookState) → b.desk.journal ≡ entry.HandOut ∷ entry.Leave ∷ []
+    ensures counts_all { (r s : RecorderState) (b : BookState) → b.desk.journal ≡ both
         → Records r b (Ok (tt {0})) s → s.written ≡ 2 }
 
     // A recorder that is broken writes nothing and never succeeds.
@@ -48,6 +48,6 @@ pub fn worked()
         → IsRecorded (Some []) b r → ⊥ }
 
     // No entry is left out, also by a recorder that is broken, and a book does not grow by losing entries.
-    ensures no_hole { (r : RecorderState) (b : BookState) → b.desk.journal ≡ entry.HandOut ∷ entry.Leave ∷ [] → r.file ≡ Some (head_bytes (head_of b) ++ (1 ∷ 0 ∷ 0 ∷ 0 ∷ 0 ∷ [])) → IsRecorded (Some []) b r → ⊥ }
+    ensures no_hole { (r : RecorderState) (b : BookState) → b.desk.journal ≡ both → r.file ≡ Some (head_bytes (head_of b) ++ (1 ∷ 0 ∷ 0 ∷ 0 ∷ 0 ∷ [])) → IsRecorded (Some []) b r → ⊥ }
     ensures no_shorter { (b c : BookState) (e : Entry) → b.desk.journal ≡ e ∷ [] → c.desk.journal ≡ [] → Grows b c → ⊥ }
 {}

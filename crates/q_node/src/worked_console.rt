@@ -6,8 +6,8 @@ ghost use Rattle.reasons.specs.declared.Reason.TheVariants as reasons;
 ghost use Rattle.q_script.specs.declared.file.ClusterFile.{ClusterFile as File};
 ghost use Rattle.q_script.specs.declared.fault.ClusterFileFault.TheVariants as cluster_fault;
 ghost use Rattle.q_kept.specs.declared.fault.Unrecorded.TheVariants as unrecorded;
+ghost use Rattle.q_kept.specs.Sample.{leave};
 ghost use Rattle.q_sim.specs.declared.refusal.RefusalPlace.TheVariants as place;
-ghost use Rattle.q_desk.specs.declared.journal.Entry.TheVariants as entry;
 ghost use Rattle.q_book.specs.State.{BookState};
 ghost use Rattle.q_doors.specs.Books.{IsBookOf};
 ghost use Rattle.q_node.specs.Console as console;
@@ -42,7 +42,7 @@ pub fn worked()
 
     // A leave is done where a book of the node took it, and that is the last event of its journal.
     ensures left { (node : ℕ) → IsSaidToLeave node said.Done
-        → (b c : BookState) × IsBookOf node b × (c.desk.journal ≡ b.desk.journal ++ entry.Leave ∷ []) }
+        → (b c : BookState) × IsBookOf node b × (c.desk.journal ≡ b.desk.journal ++ leave ∷ []) }
 {}
 
 /// How a run ends.

@@ -7,6 +7,7 @@ use Rattle.reasons.specs.declared.Reason.TheVariants as reasons
 use Rattle.sc_node.specs.Nodes as node
 use Rattle.sc_node.specs.State.{NodeState}
 use Rattle.q_desk.specs.Desks as desk
+use Rattle.q_desk.specs.declared.journal.Call.TheVariants as call
 use Rattle.q_desk.specs.declared.journal.Entry.TheVariants as entry
 use Rattle.q_book.specs.State.{BookState}
 use Rattle.q_book.specs.Books as book
@@ -34,7 +35,7 @@ not_then {S} {A} e (Err f) rest first later h = first (ap (λ x. let r : Result 
 pub store_finds_a_node : (b : BookState) (value : List ℕ) → book.stored b value ≡ Err reasons.NoSuchNode → ⊥
 store_finds_a_node b value h =
     not_tested reasons.NoSuchNode (book.storing b value) _ ((λ e. absurd cc), ((λ e. absurd cc), ((λ e. absurd cc), ((λ e. absurd cc), tt))))
-    (not_then reasons.NoSuchNode (desk.noted b.desk (entry.Store value)) (book.stores_node b value)
+    (not_then reasons.NoSuchNode (desk.noted b.desk (entry.Call (call.Store value))) (book.stores_node b value)
     (not_tested reasons.NoSuchNode (desk.room b.desk) _ ((λ e. absurd cc), tt) (λ e. no_refusal reasons.NoSuchNode _ (sym e)))
     (λ u d. not_then reasons.NoSuchNode (node.store_begun b.node value) _ (not_begun b.node value) (λ a n e. no_refusal reasons.NoSuchNode _ (sym e)))) h
   where

@@ -4,6 +4,7 @@ use crate::again::{again, is_told, tell_change};
 use crate::digest::{Journal, NODES, see};
 use crate::rows::{ROWS, Row};
 use q_cluster::Cluster;
+use q_desk::Call;
 use q_history::{ClusterEvent, ClusterFault, ClusterStep, EventAnswer};
 use q_script::{Founding, Script, ScriptLine};
 use q_sim::{Refusal, certified_code, config_of, event_of, print_pairs, print_told};
@@ -34,7 +35,10 @@ fn found(alloc: Global, founding: &Founding) -> Result<Cluster, Refusal> {
 /// The event of a line that registers a program.
 fn registration(rt: &HostRuntime, node: u64, code: &[u8]) -> Option<ClusterEvent> {
     match again!(rt, certified_code(rt.alloc(), code)) {
-        Ok(program) => Some(ClusterEvent::Register { node, program }),
+        Ok(program) => Some(ClusterEvent::Call {
+            node,
+            call: Call::Register(program),
+        }),
         Err(_) => None,
     }
 }
@@ -43,9 +47,9 @@ fn registration(rt: &HostRuntime, node: u64, code: &[u8]) -> Option<ClusterEvent
 fn event(rt: &HostRuntime, line: &ScriptLine) -> Option<ClusterEvent> {
     match line {
         ScriptLine::Program { node, code } => registration(rt, *node, code.as_slice()),
-        ScriptLine::Store { node, value } => Some(ClusterEvent::Store {
+        ScriptLine::Store { node, value } => Some(ClusterEvent::Call {
             node: *node,
-            value: Value::new(value.as_slice()).ok()?,
+            call: Call::Store(Value::new(value.as_slice()).ok()?),
         }),
         _ => event_of(line),
     }

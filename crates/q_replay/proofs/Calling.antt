@@ -1,7 +1,6 @@
 -- What taking an event comes to.
 use Rattle.std.proofs.Common.{◌≡◌, ◌≢◌, ℕ, ◌+◌, ◌≤◌, List, [], ◌∷◌, ◌++◌, length, length-append, add-one, Option, Some, None, refl, sym, ap, ◌∙◌, subst, flat_map, Result, Ok, Err, IsErrAnd, IfErr, arith}
 use Rattle.std.proofs.lemmas.Bool.{not_from_false}
-use Rattle.forms.specs.Calls.{mapped}
 use Rattle.forms.proofs.Calls.{tested_pass}
 use Rattle.spelling.specs.Codes.{BeginsNone}
 use Rattle.sc_msg.specs.declared.version.Version.{Version}
@@ -10,16 +9,16 @@ use Rattle.q_session.specs.Done.{Finished, IsFinished}
 use Rattle.q_session.specs.declared.ran.Ran.{Ran}
 use Rattle.q_session.specs.declared.job.Job.{Job}
 use Rattle.q_desk.specs.Desks as desk
+use Rattle.q_desk.specs.declared.journal.Call.{Call}
 use Rattle.q_desk.specs.declared.journal.Entry.TheVariants as entry
+use Rattle.sc_msg.specs.declared.message.Message.{Message}
 use Rattle.q_book.specs.State.{BookState}
 use Rattle.q_book.specs.Books as book
 use Rattle.reasons.specs.declared.Reason.TheVariants.{OutOfMemory as memory}
 use Rattle.q_book.specs.Replays.{Follows}
-use Rattle.q_book.specs.Called.{called}
-use Rattle.q_book.specs.declared.call.Call.{Call}
-use Rattle.q_book.specs.declared.call.Call.TheVariants as call
-use Rattle.q_book.specs.declared.call.Reply.{Reply}
-use Rattle.q_book.specs.declared.call.Reply.TheVariants as reply
+use Rattle.q_book.specs.Called.{called, IsNoted}
+use Rattle.q_book.specs.declared.answer.Delivery.{Delivery}
+use Rattle.q_book.specs.declared.reply.Reply.{Reply}
 use Rattle.reasons.specs.declared.Reason.{Reason}
 use Rattle.q_replay.specs.Spelling.{head_bytes, event_bytes, IsWritten}
 use Rattle.q_replay.specs.declared.raw_entry.RawEntry.{RawEntry}
@@ -28,7 +27,7 @@ use Rattle.q_desk.specs.Desks.{running_job}
 use Rattle.q_replay.specs.Journal.{written_of, IsEntry}
 use Rattle.q_replay.specs.Head.{Head}
 use Rattle.q_replay.specs.Replayed.{IsAnswering, Takes, Leads, IsFault, begun}
-use Rattle.q_replay.specs.Taking.{of_book, entry_of, IsDue, Tells, Beginning, Taking}
+use Rattle.q_replay.specs.Taking.{of_book, Beginning, Taking}
 use Rattle.q_replay.specs.declared.fault.ReplayFault.TheVariants as fault
 use Rattle.q_replay.specs.declared.refusal.Refusal.{Refusal}
 use Rattle.q_replay.specs.declared.refusal.Refusal.TheVariants.{Mismatch, OutOfMemory}
@@ -82,40 +81,38 @@ own_post b c k j r runs f =
 
 -- the call leads to this book, and an entry tells of it
 abbrev pub IsTold : BookState → Result (Reply × BookState) Reason → Type 0
-IsTold c (Ok y) = (y.1 ≡ c) × Tells y.0
+IsTold c (Ok y) = (y.1 ≡ c) × IsNoted y.0
 IsTold c (Err f) = ⊥
 
-told : {A : Type 0} (f : A → Reply) {r : Result (A × BookState) Reason} {y : A × BookState} → r ≡ Ok y → Tells (f y.0) → IsTold y.1 (mapped f r)
-told f {y = y} h t = subst (λ x. IsTold y.1 (mapped f x)) (sym h) (refl, t)
+told_is : (r : Result (Reply × BookState) Reason) (c : BookState) → IsTold c r → (a : Reply) × (r ≡ Ok (a, c)) × IsNoted a
+told_is (Ok y) c t = (y.0, (λ i. Ok (y.0, t.0 i)), t.1)
+told_is (Err f) c t = absurd t
 
-own : {A : Type 0} (f : A → Reply) (r : Result (A × BookState) Reason) (c : BookState) → IsTold c (mapped f r) → (x : A) × (r ≡ Ok (x, c))
-own f (Ok y) c t = (y.0, λ i. Ok (y.0, t.0 i))
-own f (Err e) c t = absurd t
+module _ (one : OneLongest) (b : BookState) where
+  module _ (k : Call) (legal : IsEntry b.version (entry.Call k)) where
+    pub made : (c : BookState) → IsTold c (called b k) → Takes b (written_of (entry.Call k)) c
+    made c t = record { called = entry.Call k; legal = legal; is = refl; answers = tt; follows = told_is (called b k) c t }
 
-own_job : (r : Result (Option Job × BookState) Reason) (c : BookState) → IsTold c (mapped reply.HandedOut r) → (j : Job) × (r ≡ Ok (Some j, c))
-own_job (Ok (Some j, d)) c t = (j, λ i. Ok (Some j, t.0 i))
-own_job (Ok (None, d)) c t = absurd t.1
-own_job (Err f) c t = absurd t
+    -- a call that no entry tells of leads nowhere
+    pub unmade : ((d : BookState) → IsTold d (called b k) → ⊥) → (c : BookState) → Takes b (written_of (entry.Call k)) c → ⊥
+    unmade none c t =
+        let f = (takes_as one b _ c (entry.Call k) legal refl t).0 in
+        none c (subst (IsTold c) (sym f.1) (refl, f.2))
 
-module _ (b c : BookState) where
-  -- a call that an entry tells of is that of its entry
-  follows : (x : Call) → IsDue b x → IsTold c (called b x) → Follows b (entry_of x) c × IsAnswering b (entry_of x)
-  follows call.HandOut due t = (own_job _ c t, tt)
-  follows (call.Post done) due t = ((done.now.job, refl, due.1, (own _ _ c t).1), (done.now.job, due.0, due.1))
-  follows x due t = (own _ _ c t, tt)
+  module _ (m : Message) (legal : IsWritten b.version (written.Deliver m)) where
+    pub delivered : (a : Delivery) (c : BookState) → book.delivered b m ≡ Ok (a, c) → Takes b (written.Deliver m) c
+    delivered a c h = record { called = entry.Deliver m; legal = (legal, tt); is = refl; answers = tt; follows = (a, h) }
 
-  -- where an entry is followed, it tells of the call
-  told_of : (x : Call) → IsDue b x → Follows b (entry_of x) c → (d : BookState) × IsTold d (called b x)
-  told_of (call.Post done) due f = let p = own_post b c done.now.job.query done.now.job done.now.ran due.0 f in (p.0, told _ p.1 tt)
-  told_of x due f = (c, told _ f.1 tt)
+    pub undelivered : (f : Reason) → book.delivered b m ≡ Err f → (c : BookState) → Takes b (written.Deliver m) c → ⊥
+    undelivered f h c t = absurd (no_refusal f _ (sym h ∙ (takes_as one b _ c (entry.Deliver m) (legal, tt) refl t).0.1))
 
-module _ (one : OneLongest) (b : BookState) (x : Call) (legal : IsEntry b.version (entry_of x)) (due : IsDue b x) where
-  pub made : (c : BookState) → IsTold c (called b x) → Takes b (written_of (entry_of x)) c
-  made c t = let p = follows b c x due t in record { called = entry_of x; legal = legal; is = refl; answers = p.1; follows = p.0 }
+  -- the result of the query's own job
+  module _ (j : Job) (ran : Ran) (legal : IsWritten b.version (written.Post j.query ran.acc ran.steps)) (runs : running_job b.desk b.id j.query ≡ Some j) where
+    pub posted : (c : BookState) → IsRight j.certified j.view j.start ran → book.posted b j ran ≡ Ok (tt, c) → Takes b (written.Post j.query ran.acc ran.steps) c
+    posted c right h = record { called = entry.Post j.query ran; legal = (legal, tt); is = refl; answers = (j, runs, right); follows = (j, refl, right, h) }
 
-  -- a call that no entry tells of leads nowhere
-  pub unmade : ((d : BookState) → IsTold d (called b x) → ⊥) → (c : BookState) → Takes b (written_of (entry_of x)) c → ⊥
-  unmade none c t = let p = told_of b c x due (takes_as one b _ c (entry_of x) legal refl t).0 in none p.0 p.1
+    pub unposted : (f : Reason) → book.posted b j ran ≡ Err f → (c : BookState) → Takes b (written.Post j.query ran.acc ran.steps) c → ⊥
+    unposted f h c t = absurd (no_refusal f _ (sym h ∙ (own_post b c j.query j ran runs (takes_as one b _ c (entry.Post j.query ran) (legal, tt) refl t).0).1))
 
 -- an answer that is not right is that of no event
 unanswered : OneLongest → (b : BookState) (k : ℕ) (r : Ran) → IsWritten b.version (written.Post k r.acc r.steps) → (IsAnswering b (entry.Post k r) → ⊥) → (c : BookState) → Takes b (written.Post k r.acc r.steps) c → ⊥

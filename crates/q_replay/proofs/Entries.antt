@@ -14,6 +14,7 @@ use Rattle.q_session.specs.declared.query.Query.{Query}
 use Rattle.q_session.specs.declared.job.Job.{Job}
 use Rattle.q_desk.specs.Answers.{AnswersAreRight}
 use Rattle.q_desk.specs.declared.journal.Entry.{Entry}
+use Rattle.q_desk.specs.declared.journal.Call.TheVariants as call
 use Rattle.q_desk.specs.declared.journal.Entry.TheVariants as entry
 use Rattle.q_book.specs.State.{BookState}
 use Rattle.q_book.specs.Books.{record_lengths}
@@ -60,16 +61,19 @@ same_post query other ran gone h =
     λ i. entry.Post (q i) (record { acc = acc i; steps = steps i })
 
 pub entry_one : OneLongest → (version : Version) (e f : Entry) → IsCertifiedEntry version e → IsCertifiedEntry version f → written_of e ≡ written_of f → e ≡ f
-entry_one one version entry.Leave entry.Leave a b h = refl
-entry_one one version (entry.Register c) (entry.Register d) a b h =
+entry_one one version (entry.Call call.Leave) (entry.Call call.Leave) a b h = refl
+entry_one one version (entry.Call (call.Register c)) (entry.Call (call.Register d)) a b h =
     let text : c.text ≡ d.text = cc in
     let notes : c.notes ≡ d.notes = cc in
-    ap entry.Register (same_certificate one version c d a b text notes)
-entry_one one version (entry.Ask program start) (entry.Ask other begin) a b h = cc
-entry_one one version (entry.Store value) (entry.Store other) a b h = cc
+    ap (λ (x : Certificate). entry.Call (call.Register x)) (same_certificate one version c d a b text notes)
+entry_one one version (entry.Call (call.Ask program start)) (entry.Call (call.Ask other begin)) a b h = cc
+entry_one one version (entry.Call (call.Store value)) (entry.Call (call.Store other)) a b h = cc
 entry_one one version (entry.Deliver m) (entry.Deliver n) a b h = cc
-entry_one one version entry.HandOut entry.HandOut a b h = refl
+entry_one one version (entry.Call call.HandOut) (entry.Call call.HandOut) a b h = refl
 entry_one one version (entry.Post query ran) (entry.Post other gone) a b h = same_post query other ran gone h
+-- these two name one call, so that the last line sees each
+entry_one one version (entry.Deliver m) (entry.Call call.Leave) a b h = absurd (cc)
+entry_one one version (entry.Post query ran) (entry.Call call.Leave) a b h = absurd (cc)
 entry_one one version e f a b h = absurd (cc)
 
 -- ---- what an event makes of a book

@@ -3,15 +3,19 @@ use Rattle.std.proofs.Common.{◌≡◌, ℕ, ◌+◌, ◌<◌, ◌≤◌, List,
 use Rattle.std.proofs.lemmas.List.{flat_map_more, take_more, take_all, append-nil}
 use Rattle.std.proofs.lemmas.List.Elements.{All-from_recursion, All-drop, All-get_or}
 use Rattle.std.specs.List.{All, AllByRecursion}
+use Rattle.forms.proofs.Calls.{mapped_ok}
 use Rattle.sc_members.specs.Members.{IsConfig}
 use Rattle.sc_msg.specs.declared.version.Version.{Version}
 use Rattle.q_desk.specs.Answers.{AnswersAreRight}
 use Rattle.q_desk.specs.Desks as desk
 use Rattle.q_desk.specs.declared.journal.Entry.{Entry}
+use Rattle.q_desk.specs.declared.journal.Call.TheVariants as call
 use Rattle.q_desk.specs.declared.journal.Entry.TheVariants as entry
 use Rattle.q_desk.proofs.Accepted.{registered_checked}
 use Rattle.q_book.specs.State.{BookState}
+use Rattle.q_book.specs.Books as book
 use Rattle.q_book.specs.Books.{new_book, record_lengths}
+use Rattle.q_book.specs.declared.reply.Reply.TheVariants as reply
 use Rattle.q_book.specs.Replays.{Follows, Replays, IsReplay}
 use Rattle.q_book.proofs.Parts.{desk-parts}
 use Rattle.q_book.proofs.Followed.{follows-accepted}
@@ -25,8 +29,9 @@ use Rattle.q_replay.proofs.Lists.{all_push}
 -- ---- programs are those of the version
 
 follows-checked : (version : Version) (b : BookState) (e : Entry) (c : BookState) → b.desk.lengths ≡ record_lengths version → Follows b e c → IsChecked version e
-follows-checked version b (entry.Register program) c lengths f =
-    let d = desk-parts b (desk.registered b.desk program) (f.0, c) f.1 in
+follows-checked version b (entry.Call (call.Register program)) c lengths f =
+    let a = mapped_ok reply.Registered (book.registered b program) (f.0, c) f.1 in
+    let d = desk-parts b (desk.registered b.desk program) a.0 a.1 in
     registered_checked b.desk program d.0 d.1 ∙ lengths
 follows-checked version b e c lengths f = tt
 

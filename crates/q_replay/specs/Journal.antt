@@ -6,6 +6,7 @@ use Rattle.sc_members.specs.Members.{IsConfig}
 use Rattle.sc_msg.specs.declared.version.Version.{Version}
 use Rattle.q_desk.specs.Answers.{AnswersAreRight}
 use Rattle.q_desk.specs.declared.journal.Entry.{Entry}
+use Rattle.q_desk.specs.declared.journal.Call.TheVariants as call
 use Rattle.q_desk.specs.declared.journal.Entry.TheVariants as entry
 use Rattle.q_book.specs.State.{BookState}
 use Rattle.q_book.specs.Books.{record_lengths}
@@ -17,12 +18,12 @@ use Rattle.q_replay.specs.declared.raw_entry.RawEntry.TheVariants as written
 
 -- an entry as the bytes hold it
 abbrev pub written_of : Entry → RawEntry
-written_of entry.Leave = written.Leave
-written_of (entry.Register program) = written.Register program.text program.notes
-written_of (entry.Ask program start) = written.Ask program start
-written_of (entry.Store value) = written.Store value
+written_of (entry.Call call.Leave) = written.Leave
+written_of (entry.Call (call.Register program)) = written.Register program.text program.notes
+written_of (entry.Call (call.Ask program start)) = written.Ask program start
+written_of (entry.Call (call.Store value)) = written.Store value
 written_of (entry.Deliver m) = written.Deliver m
-written_of entry.HandOut = written.HandOut
+written_of (entry.Call call.HandOut) = written.HandOut
 written_of (entry.Post query ran) = written.Post query ran.acc ran.steps
 
 abbrev pub head_of : BookState → Head
@@ -38,7 +39,7 @@ journal_of b = head_bytes (head_of b) ++ entries_bytes b.version b.desk.journal
 -- an entry that a book of that version may hold: it has a spelling, and the notes of a program pass for the records of
 -- the book's views
 abbrev pub IsCertifiedEntry : Version → Entry → Type 0
-IsCertifiedEntry version (entry.Register program) = IsCertified program × (program.lengths ≡ record_lengths version)
+IsCertifiedEntry version (entry.Call (call.Register program)) = IsCertified program × (program.lengths ≡ record_lengths version)
 IsCertifiedEntry version e = Unit {0}
 
 abbrev pub IsEntry : Version → Entry → Type 0

@@ -8,6 +8,7 @@ ghost use Rattle.spelling.specs.Codes.{BeginsNone};
 ghost use Rattle.sc_msg.specs.declared.version.Version.{Version};
 ghost use Rattle.sc_msg.specs.declared.message.Body.TheVariants as body;
 ghost use Rattle.sc_msg.specs.declared.version.Version.TheVariants.{First, Second};
+ghost use Rattle.q_desk.specs.declared.journal.Call.TheVariants as call;
 ghost use Rattle.q_desk.specs.declared.journal.Entry.TheVariants as entry;
 ghost use Rattle.q_replay.specs.Head.{Head};
 ghost use Rattle.q_replay.specs.Spelling.{head_bytes, IsHead, event_bytes, IsWritten};
@@ -20,7 +21,7 @@ ghost use Rattle.q_replay.specs.declared.raw_entry.RawEntry.TheVariants as writt
 /// was taken.
 #[tactic(auto, unfolding(spelling::specs::Numbers::number_bytes))]
 pub fn worked()
-    ensures entries { (version : Version) → entries_bytes version (entry.HandOut ∷ entry.Leave ∷ entry.Post 0 (record { acc = 1; steps = 3 }) ∷ []) ≡ 6 ∷ 0 ∷ 0 ∷ 0 ∷ 0 ∷ 1 ∷ 0 ∷ 0 ∷ 0 ∷ 0 ∷ 7 ∷ 0x18 ∷ 0 ∷ 0 ∷ 0 ∷ 0 ∷ 0 ∷ 0 ∷ 0 ∷ 0 ∷ 0 ∷ 0 ∷ 0 ∷ 1 ∷ 0 ∷ 0 ∷ 0 ∷ 0 ∷ 0 ∷ 0 ∷ 0 ∷ 3 ∷ 0 ∷ 0 ∷ 0 ∷ 0 ∷ 0 ∷ 0 ∷ 0 ∷ [] }
+    ensures entries { (version : Version) → entries_bytes version (entry.Call call.HandOut ∷ entry.Call call.Leave ∷ entry.Post 0 (record { acc = 1; steps = 3 }) ∷ []) ≡ 6 ∷ 0 ∷ 0 ∷ 0 ∷ 0 ∷ 1 ∷ 0 ∷ 0 ∷ 0 ∷ 0 ∷ 7 ∷ 0x18 ∷ 0 ∷ 0 ∷ 0 ∷ 0 ∷ 0 ∷ 0 ∷ 0 ∷ 0 ∷ 0 ∷ 0 ∷ 0 ∷ 1 ∷ 0 ∷ 0 ∷ 0 ∷ 0 ∷ 0 ∷ 0 ∷ 0 ∷ 3 ∷ 0 ∷ 0 ∷ 0 ∷ 0 ∷ 0 ∷ 0 ∷ 0 ∷ [] }
     ensures not_the_first { (h : Head) → IsHead h → IsFault (head_bytes h ++ (1 ∷ 0 ∷ 0 ∷ 0 ∷ 0 ∷ 9 ∷ [])) (Form 1) → ⊥ }
 {}
 

@@ -15,7 +15,7 @@ ghost use Rattle.q_replay.specs.declared.raw_entry.RawEntry.TheVariants as writt
 
 use bq_check::Notes;
 use bq_insn::Text;
-use q_desk::Entry;
+use q_desk::{Call, Entry};
 use sc_members::Config;
 use sc_msg::{Version, encode_fitting};
 use spelling::{put_u16, put_u32, put_u64};
@@ -124,19 +124,19 @@ impl Bytes {
         ensures spelled { OnOk result (self.new ≡ self.old ++ body_bytes version (written_of entry.now)) }
     {
         match entry {
-            Entry::Leave => Ok(1),
-            Entry::Register(program) => {
+            Entry::Call(Call::Leave) => Ok(1),
+            Entry::Call(Call::Register(program)) => {
                 let certified = program.certified();
                 let _longest = certified.longest();
                 self.program(alloc, version, certified.text(), certified.notes())?;
                 Ok(2)
             }
-            Entry::Ask { program, start } => {
+            Entry::Call(Call::Ask { program, start }) => {
                 self.word(program.number())?;
                 self.number(*start)?;
                 Ok(3)
             }
-            Entry::Store(value) => {
+            Entry::Call(Call::Store(value)) => {
                 self.append(value.bytes())?;
                 Ok(4)
             }
@@ -145,7 +145,7 @@ impl Bytes {
                 self.append(&bytes)?;
                 Ok(5)
             }
-            Entry::HandOut => Ok(6),
+            Entry::Call(Call::HandOut) => Ok(6),
             Entry::Post { query, ran } => {
                 self.number(*query as u64)?;
                 self.number(ran.acc)?;

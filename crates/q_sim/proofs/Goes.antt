@@ -13,12 +13,15 @@ use Rattle.q_session.specs.declared.job.Job.{Job}
 use Rattle.q_session.specs.declared.ran.Ran.{Ran}
 use Rattle.q_book.specs.State.{BookState}
 use Rattle.q_book.specs.Books as book
+use Rattle.q_book.specs.Called.{called}
+use Rattle.q_book.specs.declared.reply.Reply.{Reply}
+use Rattle.q_book.specs.declared.reply.Reply.TheVariants as reply
 use Rattle.reasons.specs.declared.Reason.{Reason}
 use Rattle.q_history.specs.declared.event.ClusterEvent.{ClusterEvent}
 use Rattle.q_history.specs.declared.event.ClusterEvent.TheVariants as event
 use Rattle.q_history.specs.declared.event.ClusterStep.{ClusterStep}
 use Rattle.q_history.specs.Headline.{ClusterState}
-use Rattle.q_history.specs.Clusters.{live, live_at, put, lift, registers, asks, stores, delivers, delivered_as, hands, posts, finished, leaves, crashed, stepped, at as at_node}
+use Rattle.q_history.specs.Clusters.{live, live_at, put, lift, replies, delivers, delivered_as, posts, finished, crashed, stepped, at as at_node}
 use Rattle.q_history.specs.Calls.{Takes}
 use Rattle.q_history.proofs.Called.{at-ok, call-ok}
 
@@ -68,6 +71,13 @@ module _ (c : ClusterState) where
   more : (outs : List Message) → length c.past.sent ≤ length (c.past.sent ++ outs)
   more outs = omega (arith, length-append c.past.sent outs)
 
+  reply_goes : (id : ℕ) (x : BookState) → live_at c id ≡ Some x → (a : Reply) (b : BookState) → Goes c (replies c id a b).1
+  reply_goes id x at (reply.Left outs) b = put_goes c id x at b _ _ refl (more outs)
+  reply_goes id x at (reply.Registered program) b = put_goes c id x at b _ _ refl (omega arith)
+  reply_goes id x at (reply.Asked a) b = put_goes c id x at b _ _ refl (more a.begun.outs)
+  reply_goes id x at (reply.Stored value a) b = put_goes c id x at b _ _ refl (more a.outs)
+  reply_goes id x at (reply.HandedOut o) b = put_goes c id x at b _ _ refl (omega arith)
+
   deliver_goes : (number id : ℕ) (o : Option Message) (y : ClusterStep × ClusterState) → at_node c id (λ b. delivered_as c number id b o) ≡ Ok y → Goes c y.1
   deliver_goes number id None y h = absurd (no_refusal _ y (at-ok c id (λ b. delivered_as c number id b None) y h).gives)
   deliver_goes number id (Some m) y h = call_goes id (delivers c number id) (λ b. book.delivered b m) y (λ x at a b. put_goes c id x at b _ _ refl (more a.outs)) h
@@ -82,13 +92,9 @@ IsNoEnter e = (id : ℕ) → e ≢ event.Enter id
 
 event_goes : (c : ClusterState) (ran : Ran) (e : ClusterEvent) (y : ClusterStep × ClusterState) → IsNoEnter e → stepped ran c e ≡ Ok y → Goes c y.1
 event_goes c ran (event.Enter id) y other h = absurd (other id refl)
-event_goes c ran (event.Leave id) y other h = call_goes c id (leaves c id) book.left y (λ x at a b. put_goes c id x at b _ _ refl (more c a)) h
 event_goes c ran (event.Crash id) y other h = crash_goes c id (live_at c id) y h
-event_goes c ran (event.Register id program) y other h = call_goes c id (registers c id) (λ b. book.registered b program) y (λ x at a b. put_goes c id x at b _ _ refl (omega arith)) h
-event_goes c ran (event.Ask id program start) y other h = call_goes c id (asks c id) (λ b. book.asked b program start) y (λ x at a b. put_goes c id x at b _ _ refl (more c a.begun.outs)) h
-event_goes c ran (event.Store id value) y other h = call_goes c id (stores c id value) (λ b. book.stored b value) y (λ x at a b. put_goes c id x at b _ _ refl (more c a.outs)) h
+event_goes c ran (event.Call id k) y other h = call_goes c id (replies c id) (λ b. called b k) y (λ x at a b. reply_goes c id x at a b) h
 event_goes c ran (event.Deliver number id) y other h = deliver_goes c number id (slice_get c.past.sent number) y h
-event_goes c ran (event.HandOut id) y other h = call_goes c id (hands c id) book.handed_out y (λ x at a b. put_goes c id x at b _ _ refl (omega arith)) h
 event_goes c ran (event.Finish number) y other h = finish_goes c ran (slice_get c.jobs number) y h
 
 -- an event that is taken or refused

@@ -10,6 +10,7 @@ use Rattle.q_book.specs.State.{BookState}
 use Rattle.q_script.specs.declared.line.ScriptLine.{ScriptLine}
 use Rattle.q_script.specs.declared.line.ScriptLine.TheVariants.{Program, All, Pairs, Journal}
 use Rattle.q_history.specs.declared.event.ClusterEvent.{ClusterEvent}
+use Rattle.q_desk.specs.declared.journal.Call.TheVariants as call
 use Rattle.q_history.specs.declared.event.ClusterEvent.TheVariants as event
 use Rattle.q_history.specs.declared.event.ClusterStep.{ClusterStep}
 use Rattle.q_history.specs.Headline.{ClusterState}
@@ -73,7 +74,7 @@ tries_led : (s : SimState) (message node : ℕ) (t : SimState) → Tries s messa
 tries_led s message node t h = record { leads = takes_leads s.cluster t.cluster (event.Deliver message node) h.result h.takes; refused = λ told. ap is_any h.faults ∙ told }
 
 registers_led : (node : ℕ) (code : List ℕ) (s : SimState) (text : List ℕ) (t : SimState) → Registers node code s text t → IsLed s t
-registers_led node code s text t h = elim h [ inl a ↦ acts_led (event.Register node a.0) s text t a.2 | inr r ↦ led_refusing s t r.0 r.2 ]
+registers_led node code s text t h = elim h [ inl a ↦ acts_led (event.Call node (call.Register a.0)) s text t a.2 | inr r ↦ led_refusing s t r.0 r.2 ]
 
 delivers_led : (limit : ℕ) (s : SimState) (text : List ℕ) (t : SimState) → DeliversAll limit s text t → IsLed s t
 delivers_led zero s text t h = led_itself s t h.0

@@ -4,6 +4,8 @@ use Rattle.std.specs.Prelude.{nat_le, if◌then◌else◌, Result, Ok, Err, OnOk
 use Rattle.std.specs.FinSet as set
 use Rattle.std.proofs.lemmas.Bool.{lt-leb}
 use Rattle.std.proofs.Math.Bool.{and-false}
+use Rattle.forms.specs.Calls.{mapped}
+use Rattle.sc_node.specs.declared.answer.Begun.{Begun}
 use Rattle.sc_view.specs.Values.{most_bytes, is_within}
 use Rattle.sc_view.specs.declared.value.ValueFault.{ValueFault}
 use Rattle.sc_view.specs.declared.value.ValueFault.TheVariants as value_fault
@@ -13,9 +15,11 @@ use Rattle.sc_msg.specs.declared.version.Version.TheVariants.{First, Second}
 use Rattle.reasons.specs.declared.Reason.TheVariants as reasons
 use Rattle.q_book.specs.State.{BookState}
 use Rattle.q_book.specs.Books as book
+use Rattle.q_book.specs.declared.reply.Reply.TheVariants as reply
 use Rattle.reasons.specs.declared.Reason.{Reason}
-use Rattle.q_history.specs.Clusters.{Said, live, live_at, by_book, lift, stores, stored}
+use Rattle.q_history.specs.Clusters.{Said, live, live_at, by_book, lift, replies, called}
 use Rattle.q_history.specs.Headline.{ClusterState}
+use Rattle.q_desk.specs.declared.journal.Call.TheVariants as call
 use Rattle.q_history.specs.declared.event.ClusterEvent.TheVariants as event
 use Rattle.q_cluster.specs.Acts.{book_at}
 use Rattle.q_cluster.proofs.Coming.{live_none}
@@ -60,17 +64,17 @@ not_there (Some b) f is = absurd (true≢false is)
 
 module _ (c : ClusterState) (id : ℕ) where
   pub at_no_node : is_some (live_at c id) ≡ false → RefusesLonger c id reasons.NoSuchNode
-  at_no_node is value ran over = not_there (live_at c id) (stored c id value) is
+  at_no_node is value ran over = not_there (live_at c id) (called c id (call.Store value)) is
 
   pub at_no_book : None ≡ book_at c id → RefusesLonger c id reasons.NoSuchNode
   at_no_book is = at_no_node (sym (live_none (set.contains c.past.crashed id) (book_at c id) is))
 
   module _ (b : BookState) (is : Some b ≡ book_at c id) (lives : is_some (live_at c id) ≡ true) where
-    by_its_book : (value : List ℕ) (e : Reason) → (b.node.gone ≡ false → book.stored b value ≡ Err e) → by_book (live_at c id) (stored c id value) ≡ Err e
+    by_its_book : (value : List ℕ) (e : Reason) → (b.node.gone ≡ false → book.stored b value ≡ Err e) → by_book (live_at c id) (called c id (call.Store value)) ≡ Err e
     by_its_book value e says =
         let crashed = set.contains c.past.crashed id in
         let there = is_there crashed b (ap (λ (o : Option BookState). is_some (live crashed o)) is ∙ lives) in
-        ap (λ (o : Option BookState). by_book o (stored c id value)) (ap (live crashed) (sym is) ∙ there.1) ∙ ap (lift (stores c id value)) (says there.0)
+        ap (λ (o : Option BookState). by_book o (called c id (call.Store value))) (ap (live crashed) (sym is) ∙ there.1) ∙ ap (λ (r : Result (Begun × BookState) Reason). lift (replies c id) (mapped (reply.Stored value) r)) (says there.0)
 
     pub before_it_joined : b.node.joined ≡ false → RefusesLonger c id reasons.NotJoined
     before_it_joined out value ran over = by_its_book value reasons.NotJoined (λ here. not_joined value over b here out)
@@ -80,7 +84,7 @@ module _ (c : ClusterState) (id : ℕ) where
 
 -- what is printed of one
 pub longer_refused : {X E : Type 0} (r : Result X E) (s t : SimState) (node : ℕ) (value : List ℕ) (f : Reason) (before after : List ℕ) → RefusesLonger s.cluster node f → most_bytes < length value
-    → OnOk r (t ≡ refusing (refusal.Cluster f) s) → OnOk r (after ≡ before ++ refusal_line (refusal.Cluster f)) → OnOk r ((text : List ℕ) × Acts (event.Store node value) s text t × (after ≡ before ++ text))
+    → OnOk r (t ≡ refusing (refusal.Cluster f) s) → OnOk r (after ≡ before ++ refusal_line (refusal.Cluster f)) → OnOk r ((text : List ℕ) × Acts (event.Call node (call.Store value)) s text t × (after ≡ before ++ text))
 longer_refused (Err x) s t node value f before after refuses over same line = tt
 longer_refused (Ok x) s t node value f before after refuses over same line = (
   refusal_line (refusal.Cluster f),

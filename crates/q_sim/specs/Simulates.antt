@@ -13,6 +13,7 @@ use Rattle.q_script.specs.declared.line.ScriptLine.{ScriptLine}
 use Rattle.q_script.specs.declared.line.ScriptLine.TheVariants.{Program, Store, Ask, Deliver, All, Hand, Run, Enter, Leave, Crash, Pairs, Journal}
 use Rattle.q_script.specs.declared.script.Script.{Script}
 use Rattle.q_history.specs.declared.event.ClusterEvent.{ClusterEvent}
+use Rattle.q_desk.specs.declared.journal.Call.TheVariants as call
 use Rattle.q_history.specs.declared.event.ClusterEvent.TheVariants as event
 use Rattle.q_history.specs.declared.event.ClusterStep.{ClusterStep}
 use Rattle.reasons.specs.declared.Reason.{Reason}
@@ -100,7 +101,7 @@ pub record Acts (e : ClusterEvent) (s : SimState) (text : List ℕ) (t : SimStat
 -- is printed, and nothing else is done.
 abbrev pub Registers : ℕ → List ℕ → SimState → List ℕ → SimState → Type 0
 Registers node code s text t =
-    ((program : Certificate) × IsProgram code program × Acts (event.Register node program) s text t)
+    ((program : Certificate) × IsProgram code program × Acts (event.Call node (call.Register program)) s text t)
     ⊎ ((r : Refusal) × IsRefusal code r × (t ≡ refusing r s) × (text ≡ refusal_line r))
 
 -- ---- deliveries
@@ -188,12 +189,12 @@ LeavesFiles does s before text t after = does s text t × (after ≡ before)
 
 -- the event that a line is, and nothing else
 abbrev pub event_of : ScriptLine → Option ClusterEvent
-event_of (Ask node program start) = Some (event.Ask node (min program (2 ^ 32 - 1)) start)
+event_of (Ask node program start) = Some (event.Call node (call.Ask (min program (2 ^ 32 - 1)) start))
 event_of (Deliver message node) = Some (event.Deliver message node)
-event_of (Hand node) = Some (event.HandOut node)
+event_of (Hand node) = Some (event.Call node call.HandOut)
 event_of (Run job) = Some (event.Finish job)
 event_of (Enter id) = Some (event.Enter id)
-event_of (Leave id) = Some (event.Leave id)
+event_of (Leave id) = Some (event.Call id call.Leave)
 event_of (Crash id) = Some (event.Crash id)
 event_of _ = None
 
@@ -205,7 +206,7 @@ ActsAs None s text t = ⊥
 module _ {F : Type 0} (writes : Writing F) where
   abbrev pub Does : ScriptLine → SimState → F → List ℕ → SimState → F → Type 0
   Does (Program node code) = LeavesFiles (Registers node code.items)
-  Does (Store node value) = LeavesFiles (Acts (event.Store node value.items))
+  Does (Store node value) = LeavesFiles (Acts (event.Call node (call.Store value.items)))
   Does (All limit) = LeavesFiles (Spreads limit)
   Does Pairs = LeavesFiles Tells
   Does (Journal node file) = Saves writes node (string_bytes file)

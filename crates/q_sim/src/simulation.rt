@@ -10,6 +10,7 @@ use crate::printing::{print_messages, print_told};
 use crate::program::certified_code;
 use crate::refusal::{Refusal, RefusedLine};
 use q_cluster::Cluster;
+use q_desk::Call;
 use q_history::{ClusterEvent, ClusterFault, ClusterStep};
 use q_outside::{FileFault, Files};
 use q_replay::journal_bytes;
@@ -219,18 +220,25 @@ impl Simulation {
         ensures { OnOk result (Prints (Registers node code.now) self.old self.new) }
     {
         match certified_code(self.alloc, code) {
-            Ok(program) => self.step(&ClusterEvent::Register { node, program }),
+            Ok(program) => self.call(node, Call::Register(program)),
             Err(refusal) => self.refuse(&refusal),
         }
+    }
+
+    /// A node takes a call.
+    fn call(&mut self, node: u64, call: Call) -> Result<(), AllocError>
+        ensures { OnOk result (Prints (Acts (ClusterEvent.Call node call)) self.old self.new) }
+    {
+        self.step(&called(node, call))
     }
 
     /// Begins to store a value of these bytes at a node. No event has a value of more than 112: what the cluster would
     /// refuse such a store with is printed.
     fn store(&mut self, node: u64, bytes: &[u8]) -> Result<(), AllocError>
-        ensures { OnOk result (Prints (Acts (ClusterEvent.Store node bytes.now)) self.old self.new) }
+        ensures { OnOk result (Prints (Acts (ClusterEvent.Call node (Call.Store bytes.now))) self.old self.new) }
     {
         match Value::new(bytes) {
-            Ok(value) => self.step(&ClusterEvent::Store { node, value }),
+            Ok(value) => self.call(node, Call::Store(value)),
             Err(_) => {
                 let fault = self.longer_store(node);
                 self.refuse(&Refusal::Cluster(fault))
@@ -428,19 +436,19 @@ pub fn event_of(line: &ScriptLine) -> Option<ClusterEvent>
             node,
             program,
             start,
-        } => Some(ClusterEvent::Ask {
-            node: *node,
-            program: program_id(*program),
-            start: *start,
-        }),
+        } => {
+            let program = program_id(*program);
+            let start = *start;
+            Some(called(*node, Call::Ask { program, start }))
+        }
         ScriptLine::Deliver { message, node } => Some(ClusterEvent::Deliver {
             message: *message as usize,
             node: *node,
         }),
-        ScriptLine::Hand { node } => Some(ClusterEvent::HandOut(*node)),
+        ScriptLine::Hand { node } => Some(called(*node, Call::HandOut)),
         ScriptLine::Run { job } => Some(ClusterEvent::Finish(*job as usize)),
         ScriptLine::Enter { node } => Some(ClusterEvent::Enter(*node)),
-        ScriptLine::Leave { node } => Some(ClusterEvent::Leave(*node)),
+        ScriptLine::Leave { node } => Some(called(*node, Call::Leave)),
         ScriptLine::Crash { node } => Some(ClusterEvent::Crash(*node)),
         ScriptLine::Program { .. }
         | ScriptLine::Store { .. }
@@ -448,6 +456,13 @@ pub fn event_of(line: &ScriptLine) -> Option<ClusterEvent>
         | ScriptLine::Pairs
         | ScriptLine::Journal { .. } => None,
     }
+}
+
+/// The node takes the call.
+fn called(node: u64, call: Call) -> ClusterEvent
+    ensures { result ≡ ClusterEvent.Call node call }
+{
+    ClusterEvent::Call { node, call }
 }
 
 /// The id of this number. Of a number that is too large it is the greatest id, which no program has.

@@ -26,6 +26,11 @@ loop-rounds-smaller-in_ok-take c =
     let t = c.in_ok-take.ensures {u = tt} in
     turn_less c.args.books.now c.loop-rounds.gathering.cluster c.take.new.self.cluster c.loop-rounds.gathering.numbers c.take.new.self.numbers c.loop-rounds.rounds c.loop-rounds.invariant _ c.in-Some.event c.in-Some.is c.in_ok-event.ensures.next t.event.0 t.event.1
 
+pub loop-rounds-smaller-in_ok-take-2 : goal.loop-rounds-smaller-in_ok-take-2
+loop-rounds-smaller-in_ok-take-2 c =
+    let t = c.in_ok-take.ensures {u = tt} in
+    turn_less c.args.books.now c.loop-rounds.gathering.cluster c.take.new.self.cluster c.loop-rounds.gathering.numbers c.take.new.self.numbers c.loop-rounds.rounds c.loop-rounds.invariant _ c.in-Some.event c.in-Some.is c.in_ok-event.ensures.next t.event.0 t.event.1
+
 pub loop-rounds-smaller : goal.loop-rounds-smaller
 loop-rounds-smaller c =
     let t = c.in_ok-take.ensures {u = tt} in
@@ -33,6 +38,12 @@ loop-rounds-smaller c =
 
 pub loop-rounds-preserved-in_ok-take : goal.loop-rounds-preserved-in_ok-take
 loop-rounds-preserved-in_ok-take c =
+    let t = c.in_ok-take.ensures {u = tt} in
+    turn_kept c.args.books.now c.loop-rounds.gathering.cluster c.take.new.self.cluster c.loop-rounds.gathering.numbers c.take.new.self.numbers c.loop-rounds.rounds c.loop-rounds.invariant _ c.in-Some.event c.in-Some.is c.in_ok-event.ensures.next t.event.0 t.event.1
+    t.numbers c.next.new.self c.in_ok-event.ensures.waiting c.next.ensures.sent
+
+pub loop-rounds-preserved-in_ok-take-2 : goal.loop-rounds-preserved-in_ok-take-2
+loop-rounds-preserved-in_ok-take-2 c =
     let t = c.in_ok-take.ensures {u = tt} in
     turn_kept c.args.books.now c.loop-rounds.gathering.cluster c.take.new.self.cluster c.loop-rounds.gathering.numbers c.take.new.self.numbers c.loop-rounds.rounds c.loop-rounds.invariant _ c.in-Some.event c.in-Some.is c.in_ok-event.ensures.next t.event.0 t.event.1
     t.numbers c.next.new.self c.in_ok-event.ensures.waiting c.next.ensures.sent

@@ -7,6 +7,7 @@ use Rattle.spelling.specs.Numbers.{number_bytes}
 use Rattle.sc_msg.specs.declared.message.Message.{Message}
 use Rattle.sc_msg.specs.declared.version.Version.{Version}
 use Rattle.q_desk.specs.declared.journal.Entry.{Entry}
+use Rattle.q_desk.specs.declared.journal.Call.TheVariants as call
 use Rattle.q_desk.specs.declared.journal.Entry.TheVariants as entry
 use Rattle.q_book.specs.State.{BookState}
 use Rattle.q_replay.specs.Spelling.{head_bytes}
@@ -29,7 +30,7 @@ returns-clause-written _ = λ r b c old letters r' new h g. behind_none r'.file 
 
 -- the bytes of a hand-out are not those of a hand-out and a leave
 short_of_a_leave : (b : BookState)
-    → 6 ∷ 0 ∷ 0 ∷ 0 ∷ 0 ∷ [] ≡ entries_bytes b.version (entry.HandOut ∷ entry.Leave ∷ []) → ⊥
+    → 6 ∷ 0 ∷ 0 ∷ 0 ∷ 0 ∷ [] ≡ entries_bytes b.version (entry.Call call.HandOut ∷ entry.Call call.Leave ∷ []) → ⊥
 unfolding number_bytes
 short_of_a_leave b e = let n : 5 ≡ 10 = ap length e in omega (arith, n)
 
@@ -57,15 +58,15 @@ all_counted r r' b es w journal = ap (λ (x : RecorderState). x.written) w.count
 
 pub returns-clause-not_short : goal.returns-clause-not_short
 returns-clause-not_short _ = λ r b c old letters r' new journal one h g.
-    let counted : r'.written ≡ 2 = all_counted r r' c (entry.HandOut ∷ entry.Leave ∷ []) g.written journal in
+    let counted : r'.written ≡ 2 = all_counted r r' c (entry.Call call.HandOut ∷ entry.Call call.Leave ∷ []) g.written journal in
     let same : r'.written ≡ r.written = ap (λ (x : RecorderState). x.written) h.1 in
     omega (arith, counted, same, one)
 
 -- the book that is written has one entry, and the book that gives has two
 pub returns-clause-not_later : goal.returns-clause-not_later
 returns-clause-not_later _ = λ r b c d old letters r' new one two w g.
-    let first : r'.written ≡ 1 = all_counted r r' c (entry.HandOut ∷ []) w one in
-    let second : r'.written ≡ 2 = all_counted r r' d (entry.HandOut ∷ entry.HandOut ∷ []) g.written two in
+    let first : r'.written ≡ 1 = all_counted r r' c (entry.Call call.HandOut ∷ []) w one in
+    let second : r'.written ≡ 2 = all_counted r r' d (entry.Call call.HandOut ∷ entry.Call call.HandOut ∷ []) g.written two in
     omega (arith, first, second)
 
 pub returns-clause-mute : goal.returns-clause-mute

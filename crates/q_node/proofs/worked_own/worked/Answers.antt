@@ -1,6 +1,6 @@
 -- What is not done, what is not told, and what is behind.
 use Rattle.std.proofs.Common.{ap}
-use Rattle.q_desk.specs.declared.journal.Entry.TheVariants.{HandOut, Leave}
+use Rattle.q_kept.specs.Sample.{hand_out, leave}
 use Rattle.q_kept.specs.State.{RecorderState}
 use Rattle.q_node.proofs.Told.{not_one, undone}
 use Rattle.q_node.proofs.Waits.{behind_by, told_by, untold_by, wait_on}
@@ -10,7 +10,7 @@ pub returns-clause-undone : goal.returns-clause-undone
 returns-clause-undone c = λ old new letters f refused l. undone old letters new f refused l
 
 pub returns-clause-two_events : goal.returns-clause-two_events
-returns-clause-two_events c = λ r s b is h. not_one b HandOut Leave is h.1
+returns-clause-two_events c = λ r s b is h. not_one b hand_out leave is h.1
 
 pub returns-clause-failed : goal.returns-clause-failed
 returns-clause-failed c = λ r s b h. ap (λ (x : RecorderState). x.broken) h.broken

@@ -3,10 +3,13 @@ use Rattle.std.proofs.Common.{◌≡◌, ◌∙◌, ℕ, List, Result, Ok, sym, 
 use Rattle.forms.proofs.Calls.{passes}
 use Rattle.sc_node.specs.Nodes as node
 use Rattle.q_desk.specs.Desks as desk
+use Rattle.forms.specs.Calls.{mapped}
+use Rattle.q_desk.specs.declared.journal.Call.TheVariants as call
 use Rattle.q_desk.specs.declared.journal.Entry.TheVariants as entry
 use Rattle.q_book.specs.Books.{stored, storing}
 use Rattle.q_book.specs.State.{BookState}
 use Rattle.q_book.specs.contracts.book.Book as book
+use Rattle.q_book.specs.declared.reply.Reply.TheVariants as reply
 use Rattle.reasons.specs.declared.Reason.{Reason}
 use Rattle.q_book.proofs.Calls.{holds_inside, by_call, call_refused, test_refused, stores_call, stored_by}
 use Rattle.q_book.proofs.Replays.{with, book_next}
@@ -23,10 +26,10 @@ returns-in_err-begun c =
     let rest : Result (List ℕ) Reason = Ok bytes in
     let same : c.in_ok-value.value ≡ bytes = (passes (storing c.args.self.now bytes) bytes c.in_ok-value.value rest c.in_ok-value.ensures).0 in
     let told = c.in_err-begun.ensures in
-    call_refused c.args.self.now (with b c.store.new.node c.store.new.self) (stored c.args.self.now bytes) (stores_call b) (desk.noting b.desk (entry.Store c.in_ok-value.value) (node.store_begun b.node c.in_ok-value.value))
+    call_refused c.args.self.now (with b c.store.new.node c.store.new.self) (stored c.args.self.now bytes) (stores_call b) (desk.noting b.desk (entry.Call (call.Store c.in_ok-value.value)) (node.store_begun b.node c.in_ok-value.value))
     c.in_err-begun.field-0.0 c.from_residual-in_err-begun.result
     (ap (λ (x : BookState). stored x bytes) (sym c.self.view_is) ∙ stored_by b bytes hold
-    ∙ ap (λ (v : List ℕ). by_call (stores_call b) (desk.noting b.desk (entry.Store v) (node.store_begun b.node v))) (sym same))
+    ∙ ap (λ (v : List ℕ). by_call (stores_call b) (desk.noting b.desk (entry.Call (call.Store v)) (node.store_begun b.node v))) (sym same))
     ((λ i. with b (told.0 i).1 (told.0 i).0) ∙ c.self.view_is) told.1 c.from_residual-in_err-begun.ensures.1
 
 pub invariant_of-self-2 : goal.invariant_of-self-2
@@ -36,5 +39,9 @@ invariant_of-self-2 c =
     let hold = holds_inside (λ (x : BookState). storing x bytes) b c.args.self.now bytes c.in_ok-value.value c.self.view_is c.in_ok-value.ensures in
     let rest : Result (List ℕ) Reason = Ok bytes in
     let same : c.in_ok-value.value ≡ bytes = (passes (storing c.args.self.now bytes) bytes c.in_ok-value.value rest c.in_ok-value.ensures).0 in
-    book_next b (with b c.store.new.node c.store.new.self) (entry.Store bytes) c.self.invariant
-    (c.in_ok-begun.begun, stored_by b bytes hold ∙ ap (λ (v : List ℕ). by_call (stores_call b) (desk.noting b.desk (entry.Store v) (node.store_begun b.node v))) (sym same) ∙ ap (by_call (stores_call b)) c.in_ok-begun.ensures)
+    book_next b (with b c.store.new.node c.store.new.self) (entry.Call (call.Store bytes)) c.self.invariant (
+      reply.Stored bytes c.in_ok-begun.begun,
+      ap (mapped (reply.Stored bytes)) (stored_by b bytes hold
+          ∙ ap (λ (v : List ℕ). by_call (stores_call b) (desk.noting b.desk (entry.Call (call.Store v)) (node.store_begun b.node v))) (sym same) ∙ ap (by_call (stores_call b)) c.in_ok-begun.ensures),
+      tt,
+    )

@@ -1,6 +1,7 @@
 -- Desk::ask: the node begins to collect, and a query begins that waits for that collect.
 use Rattle.std.proofs.Common.{◌≡◌, ◌++◌, ◌∷◌, [], List, rules, subst, refl, sym, ap, ◌∙◌}
 use Rattle.q_session.specs.declared.query.Query.{Query}
+use Rattle.q_desk.specs.declared.journal.Call.TheVariants as call
 use Rattle.q_desk.specs.declared.journal.Entry.TheVariants as entry
 use Rattle.q_desk.specs.Keeping.{IsDesk}
 use Rattle.q_desk.specs.Desks.{begun, how_many_run}
@@ -14,6 +15,6 @@ invariant_of-self-2 c =
     let q = begun c.in_ok-begun.begun.tag c.args.program c.args.start in
     let pushed : s.queries.items ++ q ∷ [] ≡ c.push_reserved.new.self.items = search rules in (
       subst (λ (queries : List Query). IsDesk (record { lengths = s.lengths; programs = s.programs; queries = queries; journal = c.append.new.entries.items })) pushed
-          (desk-appended _ (entry.Ask c.args.program c.args.start) _ (record { room = search rules; is = search rules }) (desk-begun _ q c.self.invariant.0 (search rules) (search rules) refl)),
+          (desk-appended _ (entry.Call (call.Ask c.args.program c.args.start)) _ (record { room = search rules; is = search rules }) (desk-begun _ q c.self.invariant.0 (search rules) (search rules) refl)),
       record { counted = c.self.invariant.1.counted ∙ sym (run-begun s.queries.items q refl) ∙ ap how_many_run pushed; fits = search rules },
     )

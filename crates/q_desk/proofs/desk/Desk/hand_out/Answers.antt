@@ -4,6 +4,7 @@ use Rattle.std.specs.Prelude.{slice_get}
 use Rattle.sc_view.specs.Views.{ViewMap}
 use Rattle.q_session.specs.declared.query.Phase.TheVariants.{Ready, Running}
 use Rattle.q_session.specs.declared.query.Query.{Query}
+use Rattle.q_desk.specs.declared.journal.Call.TheVariants as call
 use Rattle.q_desk.specs.declared.journal.Entry.TheVariants as entry
 use Rattle.q_desk.specs.State.{DeskState}
 use Rattle.q_desk.specs.Keeping.{MayAllRun}
@@ -33,7 +34,7 @@ moves c view q there ready =
     c.run.ensures q view (ap (λ (k : ℕ). slice_get (inside c).queries k) c.query.ensures ∙ there) ready
     ∙ ap (λ (k : ℕ). with_phase (inside c).queries k (Running view)) c.query.ensures
 
-appended : (c : goal.After-append) → IsAppended (inside c) entry.HandOut c.append.new.entries.items
+appended : (c : goal.After-append) → IsAppended (inside c) (entry.Call call.HandOut) c.append.new.entries.items
 appended c = record { room = search rules; is = search rules }
 
 pub invariant_of-self-2 : goal.invariant_of-self-2

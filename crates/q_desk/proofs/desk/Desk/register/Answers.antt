@@ -3,6 +3,7 @@ use Rattle.std.proofs.Common.{rules, ap, sym, ◌∙◌}
 use Rattle.std.proofs.lemmas.Bool.{not-false}
 use Rattle.bq_check.specs.Certificate.{Certificate}
 use Rattle.q_table.specs.Programs.{id_of, registered}
+use Rattle.q_desk.specs.declared.journal.Call.TheVariants as call
 use Rattle.q_desk.specs.declared.journal.Entry.TheVariants as entry
 use Rattle.q_desk.proofs.Accepted.{same_lengths}
 use Rattle.q_desk.proofs.Keeps.{desk-appended, desk-registered}
@@ -14,7 +15,7 @@ invariant_of-self-2 c =
     let program = c.args.program.now in
     let lengths = c.lengths.ensures.value ∙ ap (λ (p : Certificate). p.lengths) c.certified.ensures in
     let same = sym lengths ∙ same_lengths c.lengths.result s.lengths (not-false _ (sym c.if-ne.ensures)) in (
-      desk-appended _ (entry.Register program) _ (record { room = search rules; is = search rules })
+      desk-appended _ (entry.Call (call.Register program)) _ (record { room = search rules; is = search rules })
           (desk-registered _ _ program c.in_ok-id.id (id_of s.programs program.text) (ap (λ p. registered s.programs p) (sym c.in_ok-keyed.ensures) ∙ c.in_ok-id.ensures) same c.self.invariant.0 c.len-count.ensures.table),
       record { counted = c.self.invariant.1.counted; fits = search rules },
     )

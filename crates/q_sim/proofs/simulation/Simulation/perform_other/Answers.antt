@@ -1,6 +1,7 @@
 -- Simulation::perform_other: runs a line that is not an event and nothing else.
 use Rattle.std.proofs.Common.{ℕ, List, subst}
 use Rattle.std.specs.Prelude.{OnOk}
+use Rattle.q_desk.specs.declared.journal.Call.TheVariants as call
 use Rattle.q_history.specs.declared.event.ClusterEvent.TheVariants as event
 use Rattle.q_sim.specs.Simulates.{Acts, Registers, Saves, Spreads, Tells}
 use Rattle.q_sim.specs.Seen.{Prints, PrintsOver}
@@ -16,8 +17,8 @@ returns-in-Program g c =
 pub returns-in-Store : goal.returns-in-Store
 returns-in-Store g c =
     performed g.F.Files.write_gives c.store.result c.args.self.now c.store.new.self c.args.files.now c.args.files.now c.args.line _ c.in-Store.is
-    (leaves_files c.store.result (Acts (event.Store c.in-Store.node c.in-Store.value.items)) c.args.self.now c.store.new.self c.args.files.now
-    (subst (λ (v : List ℕ). OnOk c.store.result (Prints (Acts (event.Store c.in-Store.node v)) c.args.self.now c.store.new.self)) c.as_slice-in-Store.ensures.value c.store.ensures))
+    (leaves_files c.store.result (Acts (event.Call c.in-Store.node (call.Store c.in-Store.value.items))) c.args.self.now c.store.new.self c.args.files.now
+    (subst (λ (v : List ℕ). OnOk c.store.result (Prints (Acts (event.Call c.in-Store.node (call.Store v))) c.args.self.now c.store.new.self)) c.as_slice-in-Store.ensures.value c.store.ensures))
 
 pub returns-in-All : goal.returns-in-All
 returns-in-All g c =

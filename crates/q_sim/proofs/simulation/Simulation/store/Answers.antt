@@ -1,6 +1,7 @@
 -- Simulation::store: begins to store a value of these bytes at a node.
 use Rattle.std.proofs.Common.{ℕ, List, subst, string_bytes}
 use Rattle.std.specs.Prelude.{OnOk}
+use Rattle.q_desk.specs.declared.journal.Call.TheVariants as call
 use Rattle.q_history.specs.declared.event.ClusterEvent.TheVariants as event
 use Rattle.q_sim.specs.Seen.{Prints, seen}
 use Rattle.q_sim.specs.Simulates.{Acts}
@@ -9,7 +10,7 @@ use Rattle.q_sim.proofs.simulation.Simulation.store.Goals as goal
 
 pub returns-in-Ok : goal.returns-in-Ok
 returns-in-Ok c =
-    subst (λ (v : List ℕ). OnOk c.step.result (Prints (Acts (event.Store c.args.node v)) c.args.self.now c.step.new.self)) c.in-Ok.ensures.ok c.step.ensures
+    subst (λ (v : List ℕ). OnOk c.call.result (Prints (Acts (event.Call c.args.node (call.Store v))) c.args.self.now c.call.new.self)) c.in-Ok.ensures.ok c.call.ensures
 
 pub returns-in-Err : goal.returns-in-Err
 returns-in-Err c =
