@@ -8,11 +8,12 @@ ghost use Rattle.q_bqview.specs.Runs.{CarriesOut, Does, Explains, Gathers, IsUng
 use crate::client::client_advice;
 use q_asker::ClientEnding;
 use q_command::{
-    Denied, FileCommand, NodeCommand, Wanted, WordsFault, carry_out, gather_files, given_words,
-    nodes_advice, read_words,
+    Denied, FileCommand, Wanted, WordsFault, carry_out, gather_files, given_words, nodes_advice,
+    read_words,
 };
 use q_nodes::{ClusterEnding, ClusterRunFault, FileRun, run_file};
 use q_outside::{Counted, Files};
+use q_script::NodeWords;
 use q_sim::{Refusal, put_refusal};
 use std::alloc::{AllocError, Global};
 use std::convert::AsStr;
@@ -263,24 +264,16 @@ where
     /// Runs a node by itself, whose console is the standard input: the exit status.
     fn run_node<F: Files, W: Write, N: Write>(
         &self,
-        command: &NodeCommand<'_>,
+        words: &NodeWords<'_>,
         files: &mut F,
         out: &mut Counted<W>,
         notes: &mut N,
     ) -> u8
-        ensures { RunsApart F.read_gives F.write_gives command.now.file.now command.now.id files.old
+        ensures { RunsApart F.read_gives F.write_gives words.now.file.now words.now.id files.old
             (output_of W.contents out.old) result files.new (output_of W.contents out.new) }
     {
-        let words = q_node::NodeWords {
-            file: command.file,
-            id: command.id,
-            clients: command.clients,
-            journal: command.journal,
-            runners: command.runners,
-            sync: command.sync,
-        };
         let mut console = self.rt.reader();
-        q_node::run_file(self.rt, self.alloc, &words, files, &mut console, out, notes).status()
+        q_node::run_file(self.rt, self.alloc, words, files, &mut console, out, notes).status()
     }
 
     /// Does what is wanted: the exit status.

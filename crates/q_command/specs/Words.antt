@@ -20,7 +20,7 @@ use Rattle.q_command.specs.declared.words.FileCommand.{FileCommand}
 use Rattle.q_command.specs.declared.words.FileCommand.TheVariants.{Asm, Dis, Check, Run, Sim, Audit}
 use Rattle.q_command.specs.declared.words.ProgramForm.{ProgramForm}
 use Rattle.q_command.specs.declared.words.ProgramForm.TheVariants as form
-use Rattle.q_command.specs.declared.words.NodeCommand.{NodeCommand}
+use Rattle.q_script.specs.declared.node_words.NodeWords.{NodeWords}
 use Rattle.q_command.specs.declared.words.Wanted.{Wanted}
 use Rattle.q_command.specs.declared.words.Wanted.TheVariants as wanted
 use Rattle.q_command.specs.declared.words.WordsFault.{WordsFault}
@@ -207,7 +207,7 @@ HasCommand (Sim script strict) met = (met.0 ≡ codes "sim") × (script.now ≡ 
 HasCommand (Audit journal) met = (met.0 ≡ codes "audit") × (journal.now ≡ operand_of (codes "JOURNAL") met.1)
 
 -- the node with what was found for its operands and options
-pub record HasNode (line : NodeCommand) (rows : List Row) : Type 0 where
+pub record HasNode (line : NodeWords) (rows : List Row) : Type 0 where
   pub file : line.file.now ≡ operand_of (codes "FILE") rows
   pub id : IsNumeral (operand_of (codes "ID") rows) line.id
   pub clients : line.clients.now ≡ operand_of (codes "clients") rows

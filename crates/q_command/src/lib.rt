@@ -74,6 +74,4 @@ pub use journal_files::gather_files;
 pub use lister::listing;
 pub use perform::{CommandEnding, LONGEST_JOURNAL, carry_out};
 pub use sources::{certified, program, utf8};
-pub use words::{
-    FileCommand, NodeCommand, ProgramForm, VERSION, Wanted, WordsFault, given_words, read_words,
-};
+pub use words::{FileCommand, ProgramForm, VERSION, Wanted, WordsFault, given_words, read_words};

@@ -15,7 +15,7 @@ use crate::help::About;
 use bq_state::Bounds;
 use clap::error::ErrorKind;
 use clap::{Arg, ArgAction, ArgMatches, Command, Error};
-use q_script::number;
+use q_script::{NodeWords, number};
 use std::alloc::{AllocError, Global};
 use std::convert::AsStr;
 use std::env::Args;
@@ -99,23 +99,6 @@ impl FileCommand<'_> {
     }
 }
 
-/// The command `node FILE ID`, with its operands and options: a node that runs as a process of its own.
-#[derive(Clone, Copy)]
-pub struct NodeCommand<'a> {
-    /// The name of the file of the cluster.
-    pub file: &'a str,
-    /// The id of the node.
-    pub id: u64,
-    /// Where its clients come in: a host and a port, or the path of a Unix socket, which has a slash.
-    pub clients: &'a str,
-    /// The name of the file to which its journal is to be written.
-    pub journal: &'a str,
-    /// How many threads run programs, from 1 to 64.
-    pub runners: usize,
-    /// Whether each part of the journal is to be kept on the disk before anything is sent.
-    pub sync: bool,
-}
-
 /// What the words of a command line ask for.
 #[derive(Drop)]
 pub enum Wanted<'a> {
@@ -136,7 +119,7 @@ pub enum Wanted<'a> {
         pairs: bool,
     },
     /// `node FILE ID`: run a node of a cluster whose nodes run apart.
-    Node(NodeCommand<'a>),
+    Node(NodeWords<'a>),
     /// `client ADDR SCRIPT`: run a script over a connection with such a node.
     Client {
         /// Where the node is: a host and a port, or the path of a Unix socket.
@@ -675,7 +658,7 @@ fn node_line<'a>(found: &ArgMatches<'a>) -> Result<Wanted<'a>, WordsFault<'a>>
             runners: runners_text,
         });
     };
-    Ok(Wanted::Node(NodeCommand {
+    Ok(Wanted::Node(NodeWords {
         file: operand_text(found, "FILE"),
         id,
         clients: operand_text(found, "clients"),

@@ -12,7 +12,7 @@ use q_board::MOST_RUNNERS;
 use q_doors::{ClientDoor, DoorAddress, PostFault, UdpPost, address_of};
 use q_kept::DiskFile;
 use q_outside::{Counted, Files, LONGEST_TEXT};
-use q_script::{ClusterFile, ClusterFileFault, read_cluster};
+use q_script::{ClusterFile, ClusterFileFault, NodeWords, read_cluster};
 use std::alloc::{AllocError, Global};
 use std::fs::{File, Files as SystemFiles};
 use std::io::{BufRead, Eprint, ErrorKind, Write};
@@ -24,23 +24,6 @@ use std::{io, str};
 
 /// For how many milliseconds the socket waits for a datagram.
 const PATIENCE: u64 = 100;
-
-/// What the words of the command say.
-#[derive(Clone, Copy)]
-pub struct NodeWords<'a> {
-    /// The name of the file of the cluster.
-    pub file: &'a str,
-    /// The id of the node.
-    pub id: u64,
-    /// Where clients come in: a TCP address, or the path of a Unix socket.
-    pub clients: &'a str,
-    /// The name of the journal's file, which must not be there yet.
-    pub journal: &'a str,
-    /// How many threads run jobs: 1 to 64.
-    pub runners: usize,
-    /// Whether the system is asked to keep each part of the journal before anything is sent.
-    pub sync: bool,
-}
 
 /// What would satisfy the reader of a cluster's file.
 fn advice(source: &str, fault: ClusterFileFault) -> &'static str {

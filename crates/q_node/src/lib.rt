@@ -70,7 +70,7 @@ pub mod worked;
 pub mod worked_console;
 pub mod worked_own;
 
-pub use command::{NodeWords, run_file};
+pub use command::run_file;
 pub use console::{Command, Said, put_said};
 pub use ending::{NodeEnding, close, print_refusal};
 pub use fault::StartFault;

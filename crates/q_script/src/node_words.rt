@@ -1,0 +1,19 @@
+//! What names a node that runs as a process of its own.
+
+/// What the words of a command line say of a node that runs as a process of its own, and is of a cluster whose file
+/// [`read_cluster`](crate::read_cluster) reads.
+#[derive(Clone, Copy)]
+pub struct NodeWords<'a> {
+    /// The name of the file of the cluster.
+    pub file: &'a str,
+    /// The id of the node.
+    pub id: u64,
+    /// Where its clients come in: a host and a port, or the path of a Unix socket, which has a slash.
+    pub clients: &'a str,
+    /// The name of the journal's file, which must not be there yet.
+    pub journal: &'a str,
+    /// How many threads run programs, from 1 to 64.
+    pub runners: usize,
+    /// Whether the system is asked to keep each part of the journal on the disk before anything is sent.
+    pub sync: bool,
+}
