@@ -13,7 +13,7 @@ use Rattle.bq_sound.specs.Passes.{note_at, IsFine, AllFine}
 use Rattle.bq_check.specs.declared.fault.CheckFault.{CheckFault}
 use Rattle.bq_check.specs.declared.fault.CheckFault.TheVariants.{WrongCount, Flow, NoteForm, Entry, Rule, NotCovered, OutOfMemory}
 use Rattle.bq_check.specs.Reasons.{flow_refusal}
-use Rattle.bq_check.specs.Faults.{MayStand, AllMayStand, IsOpened, IsUnitFault, IsFirstFault}
+use Rattle.bq_check.specs.Faults.{MayHaveState, AllMayHaveStates, IsOpened, IsUnitFault, IsFirstFault}
 
 -- where nothing is looked at, nothing is there
 pub not_copied : {C : Type 0} (o : Option (Bor StateKinds)) (state : StateKinds) → ((x : Bor StateKinds) → o ≡ Some x → ⊥) → option_copied o ≡ Some state → C
@@ -65,13 +65,13 @@ module _ (text : List Insn) (notes : List (Option StateKinds)) where
   flow_fault l flows.OutOfMemory count fault = tt
 
 module _ (bounds : Interval) (text : List Insn) (notes : List (Option StateKinds)) where
-  pub stand_more : (unit : ℕ) → AllMayStand bounds text notes unit → ((state : StateKinds) → note_at notes unit ≡ Some state → MayStand bounds text unit state) → AllMayStand bounds text notes (unit + 1)
+  pub stand_more : (unit : ℕ) → AllMayHaveStates bounds text notes unit → ((state : StateKinds) → note_at notes unit ≡ Some state → MayHaveState bounds text unit state) → AllMayHaveStates bounds text notes (unit + 1)
   stand_more unit h here = record { each = λ u state l noted. each u state l noted }
     where
-      each : (u : ℕ) (state : StateKinds) → u < unit + 1 → note_at notes u ≡ Some state → MayStand bounds text u state
+      each : (u : ℕ) (state : StateKinds) → u < unit + 1 → note_at notes u ≡ Some state → MayHaveState bounds text u state
       each u state l noted = elim (cases_lt u unit) [
         | inl m ↦ h.each u state m noted
         | inr g ↦
             let e : u ≡ unit = omega (arith, l, g) in
-            subst (λ n. MayStand bounds text n state) (sym e) (here state (ap (note_at notes) (sym e) ∙ noted))
+            subst (λ n. MayHaveState bounds text n state) (sym e) (here state (ap (note_at notes) (sym e) ∙ noted))
       ]

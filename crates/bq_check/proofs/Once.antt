@@ -12,11 +12,11 @@ use Rattle.bq_state.specs.Kinds.{StateKinds}
 use Rattle.bq_state.specs.declared.rule.Rule.{Rule as Broken}
 use Rattle.bq_state.specs.Rules.{transfer}
 use Rattle.bq_state.specs.Edges.{edges}
-use Rattle.bq_sound.specs.Passes.{note_at, AllCovered, NoHalves, AreSuited, IsFine, AllFine, Passes}
+use Rattle.bq_sound.specs.Passes.{note_at, AllCovered, NoHalves, AllFitLengths, IsFine, AllFine, Passes}
 use Rattle.bq_check.specs.Certificate.{Certificate}
 use Rattle.bq_check.specs.declared.fault.CheckFault.{CheckFault}
 use Rattle.bq_check.specs.declared.fault.CheckFault.TheVariants.{WrongCount, Flow, NoteForm, Entry, Rule, NotCovered, OutOfMemory}
-use Rattle.bq_check.specs.Faults.{IsReached, AllMayStand, IsFirstWrongState, IsOpened, IsFirstFault}
+use Rattle.bq_check.specs.Faults.{IsReached, AllMayHaveStates, IsFirstWrongState, IsOpened, IsFirstFault}
 
 module _ (l : Interval) (text : List Insn) (notes : List (Option StateKinds)) where
   -- ---- where states stand
@@ -30,30 +30,30 @@ module _ (l : Interval) (text : List Insn) (notes : List (Option StateKinds)) wh
     | inr g ↦ absurd (no_state state (note_at notes unit) (get_or_past notes unit None g) noted)
   ]
 
-  -- states that may stand where they do are none at a second half, and are suited
-  no_halves : AllMayStand l text notes (units text) → NoHalves text notes (units text)
+  -- states that may stand where they do are none at a second half, and fit the lengths
+  no_halves : AllMayHaveStates l text notes (units text) → NoHalves text notes (units text)
   no_halves h = record { each = λ unit state low noted. (h.each unit state low noted).begins }
 
-  are_suited : length notes ≡ units text → AllMayStand l text notes (units text) → AreSuited l notes
-  are_suited count h = record { each = λ unit state noted. (h.each unit state (let low = note_within unit state noted in omega (arith, low, count)) noted).suited }
+  all_fit_lengths : length notes ≡ units text → AllMayHaveStates l text notes (units text) → AllFitLengths l notes
+  all_fit_lengths count h = record { each = λ unit state noted. (h.each unit state (let low = note_within unit state noted in omega (arith, low, count)) noted).fits }
 
   pub opened_passes : IsOpened l text notes → AllFine text notes (units text) → Passes l text notes
   opened_passes opened fine = record {
     count = opened.count;
     flow = opened.flow;
     halves = no_halves opened.standing;
-    suited = are_suited opened.count opened.standing;
+    fits = all_fit_lengths opened.count opened.standing;
     entry = opened.entry;
     fine = fine;
   }
 
-  all_stand : NoHalves text notes (units text) → AreSuited l notes → AllMayStand l text notes (units text)
-  all_stand halves suited = record { each = λ unit state low noted. record { begins = halves.each unit state low noted; suited = suited.each unit state noted } }
+  all_stand : NoHalves text notes (units text) → AllFitLengths l notes → AllMayHaveStates l text notes (units text)
+  all_stand halves fits = record { each = λ unit state low noted. record { begins = halves.each unit state low noted; fits = fits.each unit state noted } }
 
-  wrong_before : (unit n : ℕ) → IsFirstWrongState l text notes unit → AllMayStand l text notes n → unit < n → ⊥
+  wrong_before : (unit n : ℕ) → IsFirstWrongState l text notes unit → AllMayHaveStates l text notes n → unit < n → ⊥
   wrong_before unit n f h low = f.wrong (h.each unit f.state low f.noted)
 
-  none_wrong : (unit : ℕ) → IsFirstWrongState l text notes unit → length notes ≡ units text → AllMayStand l text notes (units text) → ⊥
+  none_wrong : (unit : ℕ) → IsFirstWrongState l text notes unit → length notes ≡ units text → AllMayHaveStates l text notes (units text) → ⊥
   none_wrong unit f count h = wrong_before unit (units text) f h (let low = note_within unit f.state f.noted in omega (arith, low, count))
 
   one_wrong : (unit other : ℕ) → IsFirstWrongState l text notes unit → IsFirstWrongState l text notes other → unit ≡ other
@@ -134,7 +134,7 @@ module _ (l : Interval) (text : List Insn) (notes : List (Option StateKinds)) wh
   pub only_memory : (f : CheckFault) → IsFirstFault l text notes f → Passes l text notes → f ≡ OutOfMemory
   only_memory WrongCount f p = absurd (f p.count)
   only_memory (Flow unit rule) f p = absurd (not_legal text unit rule f.1 p.flow)
-  only_memory (NoteForm unit) f p = absurd (none_wrong unit f.2 f.0 (all_stand p.halves p.suited))
+  only_memory (NoteForm unit) f p = absurd (none_wrong unit f.2 f.0 (all_stand p.halves p.fits))
   only_memory Entry f p = absurd (f.3 p.entry)
   only_memory (Rule unit rule) f p = absurd (not_all_fine unit f.1.0 f.1.1 (broken_is_bad unit f.1.0 f.1.1 rule f.1.2 f.1.3) p.fine)
   only_memory (NotCovered unit) f p = absurd (not_all_fine unit f.1.0 f.1.1 (uncovered_is_bad unit f.1.0 f.1.1 f.1.2 f.1.3 f.1.4 f.1.5) p.fine)

@@ -11,7 +11,7 @@ use Rattle.bq_state.specs.Rules.{transfer}
 use Rattle.bq_state.specs.Edges.{edges}
 use Rattle.bq_check.specs.declared.fault.CheckFault.{CheckFault}
 use Rattle.bq_check.specs.declared.fault.CheckFault.TheVariants.{WrongCount, Flow, NoteForm, Entry, Rule, NotCovered, OutOfMemory}
-use Rattle.bq_sound.specs.Passes.{note_at, NoteCovers, AllCovered, IsSuited, AllFine}
+use Rattle.bq_sound.specs.Passes.{note_at, NoteCovers, AllCovered, FitsLengths, AllFine}
 
 -- a unit below which all is fine, with a state and an instruction
 pub record IsReached (text : List Insn) (notes : List (Option StateKinds)) (unit : ℕ) (i : Insn) (state : StateKinds) : Type 0 where
@@ -19,27 +19,27 @@ pub record IsReached (text : List Insn) (notes : List (Option StateKinds)) (unit
   pub noted : note_at notes unit ≡ Some state
   pub there : insn_at text unit ≡ Some i
 
--- a state may stand at a unit: an instruction begins there, and the state is suited to the lengths
-pub record MayStand (l : Interval) (text : List Insn) (unit : ℕ) (state : StateKinds) : Type 0 where
+-- a state may stand at a unit: an instruction begins there, and the state fits the lengths
+pub record MayHaveState (l : Interval) (text : List Insn) (unit : ℕ) (state : StateKinds) : Type 0 where
   pub begins : (i : Insn) × (insn_at text unit ≡ Some i)
-  pub suited : IsSuited l state
+  pub fits : FitsLengths l state
 
 -- all states below this unit may stand where they do
-pub record AllMayStand (l : Interval) (text : List Insn) (notes : List (Option StateKinds)) (n : ℕ) : Type 0 where
-  pub each : (unit : ℕ) (state : StateKinds) → unit < n → note_at notes unit ≡ Some state → MayStand l text unit state
+pub record AllMayHaveStates (l : Interval) (text : List Insn) (notes : List (Option StateKinds)) (n : ℕ) : Type 0 where
+  pub each : (unit : ℕ) (state : StateKinds) → unit < n → note_at notes unit ≡ Some state → MayHaveState l text unit state
 
 -- a unit with a state that may not stand there, and none below it
 pub record IsFirstWrongState (l : Interval) (text : List Insn) (notes : List (Option StateKinds)) (unit : ℕ) : Type 0 where
-  pub below : AllMayStand l text notes unit
+  pub below : AllMayHaveStates l text notes unit
   pub state : StateKinds
   pub noted : note_at notes unit ≡ Some state
-  pub wrong : MayStand l text unit state → ⊥
+  pub wrong : MayHaveState l text unit state → ⊥
 
 -- what holds where the units are looked at one by one
 pub record IsOpened (l : Interval) (text : List Insn) (notes : List (Option StateKinds)) : Type 0 where
   pub count : length notes ≡ units text
   pub flow : IsLegalFlow text
-  pub standing : AllMayStand l text notes (units text)
+  pub standing : AllMayHaveStates l text notes (units text)
   pub entry : NoteCovers notes (0, entry_state l)
 
 -- what is wrong with the instruction at a unit with a state
@@ -53,7 +53,7 @@ IsFirstFault l text notes WrongCount = length notes ≢ units text
 IsFirstFault l text notes (Flow unit rule) = (length notes ≡ units text) × IsFirstFlowFault text unit rule
 IsFirstFault l text notes (NoteForm unit) = (length notes ≡ units text) × IsLegalFlow text × IsFirstWrongState l text notes unit
 IsFirstFault l text notes Entry =
-    (length notes ≡ units text) × IsLegalFlow text × AllMayStand l text notes (units text) × (NoteCovers notes (0, entry_state l) → ⊥)
+    (length notes ≡ units text) × IsLegalFlow text × AllMayHaveStates l text notes (units text) × (NoteCovers notes (0, entry_state l) → ⊥)
 IsFirstFault l text notes (Rule unit rule) =
     IsOpened l text notes × ((i : Insn) × (state : StateKinds) × IsReached text notes unit i state × (transfer i state ≡ Err rule))
 IsFirstFault l text notes (NotCovered unit) =

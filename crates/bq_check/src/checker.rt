@@ -8,12 +8,12 @@ ghost use Rattle.bq_state.specs.InPlace.{way};
 ghost use Rattle.bq_state.specs.Kinds.{StateKinds, all_lengths};
 ghost use Rattle.bq_sound.specs.Passes.{note_at, NoteCovers, AllCovered, IsFine, AllFine, Passes};
 ghost use Rattle.bq_check.specs.Certified.{IsCertified};
-ghost use Rattle.bq_check.specs.Faults.{MayStand, AllMayStand, IsFirstWrongState, IsOpened, IsUnitFault, IsFirstFault};
+ghost use Rattle.bq_check.specs.Faults.{MayHaveState, AllMayHaveStates, IsFirstWrongState, IsOpened, IsUnitFault, IsFirstFault};
 
 use crate::certified::Certified;
 use crate::fault::CheckFault;
+use crate::lengths::fits_lengths;
 use crate::notes::Notes;
-use crate::suited::is_suited;
 use bq_code::lower;
 use bq_flow::Flow;
 use bq_insn::{Insn, Text};
@@ -68,28 +68,28 @@ impl Notes {
     }
 }
 
-/// Whether a state may stand at a unit: an instruction begins there, and the state is suited to the lengths.
-fn may_stand(text: &Text, bounds: Bounds, unit: usize, state: &State) -> bool
-    ensures { IsTrue result ↔ MayStand bounds text.now unit state.now }
+/// Whether a state may stand at a unit: an instruction begins there, and the state fits the lengths.
+fn may_have_state(text: &Text, bounds: Bounds, unit: usize, state: &State) -> bool
+    ensures { IsTrue result ↔ MayHaveState bounds text.now unit state.now }
 {
-    text.at(unit).is_some() && is_suited(bounds, state)
+    text.at(unit).is_some() && fits_lengths(bounds, state)
 }
 
 /// Whether every state may stand at a unit: an instruction begins there, and records have several lengths.
-fn any_may_stand(text: &Text, bounds: Bounds, unit: usize) -> bool
-    ensures { IsTrue result → (state : StateKinds) → MayStand bounds text.now unit state }
+fn any_may_have_state(text: &Text, bounds: Bounds, unit: usize) -> bool
+    ensures { IsTrue result → (state : StateKinds) → MayHaveState bounds text.now unit state }
 {
     text.at(unit).is_some() && bounds.least() != bounds.most()
 }
 
 /// Whether the state at a unit, if there is one, may stand there.
-fn is_rightly_noted(text: &Text, notes: &Notes, bounds: Bounds, unit: usize) -> bool
-    ensures right { IsTrue result → (state : StateKinds) → note_at notes.now unit ≡ Some state → MayStand bounds text.now unit state }
-    ensures wrong { (IsTrue result → ⊥) → (state : StateKinds) × (note_at notes.now unit ≡ Some state) × (MayStand bounds text.now unit state → ⊥) }
+fn note_holds(text: &Text, notes: &Notes, bounds: Bounds, unit: usize) -> bool
+    ensures right { IsTrue result → (state : StateKinds) → note_at notes.now unit ≡ Some state → MayHaveState bounds text.now unit state }
+    ensures wrong { (IsTrue result → ⊥) → (state : StateKinds) × (note_at notes.now unit ≡ Some state) × (MayHaveState bounds text.now unit state → ⊥) }
 {
-    any_may_stand(text, bounds, unit)
+    any_may_have_state(text, bounds, unit)
         || match notes.note(unit) {
-            Some(state) => may_stand(text, bounds, unit, state),
+            Some(state) => may_have_state(text, bounds, unit, state),
             None => true,
         }
 }
@@ -97,10 +97,10 @@ fn is_rightly_noted(text: &Text, notes: &Notes, bounds: Bounds, unit: usize) -> 
 /// The first unit with a state that may not stand there.
 fn first_wrong_state(text: &Text, notes: &Notes, bounds: Bounds) -> Option<usize>
     ensures found { IfSome result (IsFirstWrongState bounds text.now notes.now) }
-    ensures none { IfNone result (AllMayStand bounds text.now notes.now (units text.now)) }
+    ensures none { IfNone result (AllMayHaveStates bounds text.now notes.now (units text.now)) }
 {
     for unit in 0..text.units() {
-        if !is_rightly_noted(text, notes, bounds, unit) {
+        if !note_holds(text, notes, bounds, unit) {
             return Some(unit);
         }
     }

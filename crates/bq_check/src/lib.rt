@@ -45,10 +45,10 @@ mod fault;
 mod form;
 mod kept;
 pub mod laws;
+mod lengths;
 mod notes;
 mod reading;
 mod run;
-mod suited;
 pub mod worked;
 mod writing;
 

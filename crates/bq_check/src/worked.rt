@@ -7,7 +7,7 @@ ghost use Rattle.bq_insn.specs.declared.insn.Insn.TheVariants as insn;
 ghost use Rattle.bq_range.specs.Interval.{between};
 ghost use Rattle.bq_flow.specs.declared.fault.FlowRule.TheVariants.{FallsOff};
 ghost use Rattle.bq_flow.specs.declared.fault.FlowFault.TheVariants as flow;
-ghost use Rattle.bq_sound.specs.Passes.{note_at, AreSuited};
+ghost use Rattle.bq_sound.specs.Passes.{note_at, AllFitLengths};
 ghost use Rattle.bq_state.specs.Kinds.{all_lengths, state_of, view_lengths};
 ghost use Rattle.bq_state.specs.declared.kind.Kind.TheVariants as kind;
 ghost use Rattle.bq_state.specs.declared.region.Region.TheVariants as region;
@@ -41,9 +41,9 @@ pub fn worked()
     ensures none { note_at (None ∷ Some (state_of (kind.Unset ∷ []) view_lengths) ∷ []) 0 ≡ None }
     ensures behind_the_end { note_at (Some (state_of (kind.Unset ∷ []) view_lengths) ∷ []) 1 ≡ None }
 
-    // States that are not suited to records of one length, and codes that are not those of a text.
-    ensures other_lengths { AreSuited view_lengths (Some (state_of [] all_lengths) ∷ []) → ⊥ }
-    ensures told_as_a_length { AreSuited view_lengths (Some (state_of (kind.Length ∷ []) view_lengths) ∷ []) → ⊥ }
+    // States that do not fit records of one length, and codes that are not those of a text.
+    ensures other_lengths { AllFitLengths view_lengths (Some (state_of [] all_lengths) ∷ []) → ⊥ }
+    ensures told_as_a_length { AllFitLengths view_lengths (Some (state_of (kind.Length ∷ []) view_lengths) ∷ []) → ⊥ }
     ensures no_codes { IsLowered (insn.Exit ∷ []) [] → ⊥ }
 
     // The bytes of notes, those of a number from the lowest.

@@ -2,7 +2,7 @@
 
 ghost use Rattle.std.specs.Prelude.{◌≡◌, ◌↔◌, ◌<◌, ◌^◌, ◌++◌, Err, IfOk, OnOk};
 ghost use Rattle.bq_state.specs.Kinds.{view_lengths};
-ghost use Rattle.bq_sound.specs.Passes.{AreSuited};
+ghost use Rattle.bq_sound.specs.Passes.{AllFitLengths};
 ghost use Rattle.bq_check.specs.Spelling.{range_bytes, span_bytes, region_byte, kind_bytes, lengths_bytes, note_bytes, state_bytes, notes_bytes, IsNotes};
 
 use crate::fault::NotesFault;
@@ -123,11 +123,11 @@ impl Notes {
         ensures spelled { IfOk result (λ bytes. bytes.items ≡ notes_bytes NotesForm.First self.now) }
 
         // What is refused.
-        ensures suited { IfOk result (λ bytes. AreSuited view_lengths self.now) }
-        ensures refused { (result ≡ Err NotesFault.NoteForm) ↔ (AreSuited view_lengths self.now → ⊥) }
+        ensures fits { IfOk result (λ bytes. AllFitLengths view_lengths self.now) }
+        ensures refused { (result ≡ Err NotesFault.NoteForm) ↔ (AllFitLengths view_lengths self.now → ⊥) }
     {
         self.are_notes();
-        if !self.are_suited(Bounds::of_views()) {
+        if !self.all_fit_lengths(Bounds::of_views()) {
             return Err(NotesFault::NoteForm);
         }
         Ok(self.spelled(alloc, NotesForm::First)?)

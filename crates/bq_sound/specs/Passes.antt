@@ -28,11 +28,11 @@ pub record NoHalves (text : List Insn) (notes : List (Option StateKinds)) (n : �
   pub each : (unit : ℕ) (state : StateKinds) → unit < n → note_at notes unit ≡ Some state → (i : Insn) × (insn_at text unit ≡ Some i)
 
 -- where records have one length alone a state knows that length, and no register as a length
-abbrev pub IsSuited : Interval → StateKinds → Type 0
-IsSuited l state = l.lo ≡ l.hi → IsPlain l.lo state
+abbrev pub FitsLengths : Interval → StateKinds → Type 0
+FitsLengths l state = l.lo ≡ l.hi → IsPlain l.lo state
 
-pub record AreSuited (l : Interval) (notes : List (Option StateKinds)) : Type 0 where
-  pub each : (unit : ℕ) (state : StateKinds) → note_at notes unit ≡ Some state → IsSuited l state
+pub record AllFitLengths (l : Interval) (notes : List (Option StateKinds)) : Type 0 where
+  pub each : (unit : ℕ) (state : StateKinds) → note_at notes unit ≡ Some state → FitsLengths l state
 
 -- at a unit with a state the instruction breaks no rule, and each feasible successor's state covers what it leaves
 pub record IsFine (notes : List (Option StateKinds)) (unit : ℕ) (i : Insn) (state : StateKinds) : Type 0 where
@@ -44,12 +44,12 @@ pub record IsFine (notes : List (Option StateKinds)) (unit : ℕ) (i : Insn) (st
 pub record AllFine (text : List Insn) (notes : List (Option StateKinds)) (n : ℕ) : Type 0 where
   pub each : (unit : ℕ) (state : StateKinds) (i : Insn) → unit < n → note_at notes unit ≡ Some state → insn_at text unit ≡ Some i → IsFine notes unit i state
 
--- one note for each unit, none at a second half; the flow is legal; the notes are suited to the lengths; the note at 0
+-- one note for each unit, none at a second half; the flow is legal; the notes fit the lengths; the note at 0
 -- covers the entry; all units are fine
 pub record Passes (l : Interval) (text : List Insn) (notes : List (Option StateKinds)) : Type 0 where
   pub count : length notes ≡ units text
   pub flow : IsLegalFlow text
   pub halves : NoHalves text notes (units text)
-  pub suited : AreSuited l notes
+  pub fits : AllFitLengths l notes
   pub entry : NoteCovers notes (0, entry_state l)
   pub fine : AllFine text notes (units text)

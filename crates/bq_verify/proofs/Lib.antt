@@ -5,4 +5,4 @@ pub mod Passing
 pub mod Filling
 mod Notes
 mod Least
-mod Suits
+mod Fitting

@@ -13,7 +13,7 @@ use Rattle.bq_state.specs.Kinds.{StateKinds, StateCovers, join_states, entry_sta
 use Rattle.bq_state.specs.Rules.{transfer}
 use Rattle.bq_state.specs.Edges.{edges}
 use Rattle.bq_state.specs.Monotone.{StatesAreOrdered}
-use Rattle.bq_sound.specs.Passes.{note_at, NoteCovers, AllCovered, AreSuited, IsFine, Passes}
+use Rattle.bq_sound.specs.Passes.{note_at, NoteCovers, AllCovered, AllFitLengths, IsFine, Passes}
 use Rattle.bq_sound.proofs.Among.{among_left, among_right, among_either}
 use Rattle.bq_verify.specs.States.{joined, edges_after, edges_from, leading_to, arriving, AreStates, NoRuleBroken}
 use Rattle.bq_verify.proofs.Forward.{Leads, AllLead, edges_lead}
@@ -123,8 +123,8 @@ module _ (order : StatesAreOrdered) where
           subst (λ es. Among edge.1 (leading_to edge.0 es)) (sym are) (brought edge.0 edge (edges unit i after) refl among) in
           noted bounds text notes edge a (insn_within text edge.0 leads.insn leads.begins) (arrives bounds text notes edge.0 unit (units text) edge.1 within to)
 
-  pub states_pass : (bounds : Interval) (text : List Insn) (notes : List (Option StateKinds)) → AreSuited bounds notes → IsText text → IsLegalFlow text → AreStates bounds text notes (units text) → NoRuleBroken text notes (units text) → Passes bounds text notes
-  states_pass bounds text notes suited text_is legal a unbroken = record {
+  pub states_pass : (bounds : Interval) (text : List Insn) (notes : List (Option StateKinds)) → AllFitLengths bounds notes → IsText text → IsLegalFlow text → AreStates bounds text notes (units text) → NoRuleBroken text notes (units text) → Passes bounds text notes
+  states_pass bounds text notes fits text_is legal a unbroken = record {
     count = a.count;
     flow = legal;
     halves = record {
@@ -133,7 +133,7 @@ module _ (order : StatesAreOrdered) where
           let x = some_among (arriving bounds text notes unit (units text)) state e in
           begins bounds text notes unit (units text) x.0 text_is legal x.1;
     };
-    suited = suited;
+    fits = fits;
     entry = noted bounds text notes (0, entry_state bounds) a (omega (arith, text_is.some)) (entry_arrives bounds text notes (units text));
     fine = record { each = λ unit state i within here there. fine bounds text notes unit state i text_is legal a unbroken within here there };
   }

@@ -2,7 +2,7 @@
 use Rattle.std.proofs.Common.{◌≡◌, ℕ, List, Option, None, Result}
 use Rattle.sc_msg.specs.declared.message.Message.{Message}
 use Rattle.sc_operations.specs.declared.progress.Progress.{Progress}
-use Rattle.sc_world.specs.declared.act.Opened.{Opened}
+use Rattle.sc_world.specs.declared.act.BegunOp.{BegunOp}
 use Rattle.sc_world.specs.declared.event.WorldEvent.{WorldEvent}
 use Rattle.sc_world.specs.declared.event.WorldEvent.TheVariants as world_event
 use Rattle.q_session.specs.declared.job.Job.{Job}
@@ -43,7 +43,7 @@ pub record Note : Type 0 where
   pub act : WorldEvent
   pub outs : List Message
   pub progress : Option Progress
-  pub begun : Option Opened
+  pub begun : Option BegunOp
 
 abbrev pub calling : ℕ → Call → BookEvent Reply
 calling id k = record { event = event.Call id k; said = λ b. called b k; next = λ c. replies c id }

@@ -10,7 +10,7 @@ ghost use Rattle.forms.specs.Calls.{Gives};
 ghost use Rattle.q_session.specs.declared.ran.Ran.{Ran};
 ghost use Rattle.reasons.specs.declared.Reason.TheVariants.{OutOfMemory as memory};
 ghost use Rattle.q_history.specs.World.{world};
-ghost use Rattle.q_history.specs.Clusters.{at, live_at, told_by, event_by, begun_by, past_by, opened, with_job, finished, started};
+ghost use Rattle.q_history.specs.Clusters.{at, live_at, told_by, event_by, begun_by, past_by, begun_op, with_job, finished, started};
 ghost use Rattle.q_book.specs.Called.{reply_outs, reply_job};
 ghost use Rattle.q_history.specs.Calls.{Takes, Runs, IsHistory};
 ghost use Rattle.q_history.specs.Headline.{AnswersAreTrue, AnswersStay, ViewsAreReturned};
@@ -30,7 +30,7 @@ use q_session::{Done, Job};
 use sc_members::Config;
 use sc_msg::{Message, Version};
 use sc_node::{Begun, Outs};
-use sc_world::{Ledger, Op, Opened, Sent, WorldEvent};
+use sc_world::{Ledger, Op, BegunOp, Sent, WorldEvent};
 use std::alloc::Global;
 use std::marker::Model;
 
@@ -475,11 +475,11 @@ fn put_job(jobs: &mut Vec<Job>, job: Option<Job>)
 // Records the event of a node that began an operation, if it is one.
 fn record_begun(ledger: &mut Ledger, event: Option<WorldEvent>, node: u64, begun: Begun) -> Sent
     requires { ledger.old.room ≡ true }
-    ensures past { ledger.new.past ≡ past_by ledger.old.past node event begun.outs (opened begun) }
+    ensures past { ledger.new.past ≡ past_by ledger.old.past node event begun.outs (begun_op begun) }
     ensures sent { result ≡ numbered ledger.old.past begun.outs }
 {
     let Begun { tag, session, outs } = begun;
-    record_call(ledger, event, node, outs, Some(Opened { tag, session }))
+    record_call(ledger, event, node, outs, Some(BegunOp { tag, session }))
 }
 
 // Records an event of a node, if it is one: it may begin an operation, and moves none. The numbers of the messages.
@@ -488,7 +488,7 @@ fn record_call(
     event: Option<WorldEvent>,
     node: u64,
     outs: Outs,
-    begun: Option<Opened>,
+    begun: Option<BegunOp>,
 ) -> Sent
     requires { ledger.old.room ≡ true }
     ensures past { ledger.new.past ≡ past_by ledger.old.past node event outs begun }

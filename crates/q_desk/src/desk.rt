@@ -128,14 +128,14 @@ impl Desk {
         if program.certified().lengths() != self.lengths {
             return Err(DeskFault::WrongBounds);
         }
-        let keyed = self.programs.keyed(program)?;
-        self.programs.check(&keyed)?;
+        let encoded = self.programs.encoded(program)?;
+        self.programs.check(&encoded)?;
         if !self.has_room() {
             return Err(DeskFault::BookFull);
         }
         self.journal.reserve(self.running + 1)?;
         let registered = program.clone()?;
-        let id = self.programs.take(keyed)?;
+        let id = self.programs.insert(encoded)?;
         let _count = self.programs.len();
         append(&mut self.journal, Entry::Call(Call::Register(registered)));
         Ok(id)

@@ -6,7 +6,7 @@ use Rattle.std.specs.FinMap as fin
 use Rattle.sc_msg.specs.declared.message.Message.{Message}
 use Rattle.sc_node.specs.declared.answer.Begun.{Begun}
 use Rattle.sc_node.specs.State.{NodeState}
-use Rattle.sc_world.specs.declared.act.Opened.{Opened}
+use Rattle.sc_world.specs.declared.act.BegunOp.{BegunOp}
 use Rattle.sc_world.specs.declared.event.WorldEvent.{WorldEvent}
 use Rattle.sc_world.specs.declared.event.WorldEvent.TheVariants as event
 use Rattle.reasons.specs.declared.Reason.{Reason}
@@ -87,12 +87,12 @@ event_for id sent (Stores value) s = Some (event.Store id value)
 event_for id sent (Delivers m) s = Some (event.Deliver s.0 id)
 event_for id sent Idles s = None
 
-abbrev pub opened_by : Begun → Opened
-opened_by a = record { tag = a.tag; session = a.session }
+abbrev pub begun_op_by : Begun → BegunOp
+begun_op_by a = record { tag = a.tag; session = a.session }
 
 -- what was told of a call, as the world has it
 abbrev pub outcome : Told → NodeState → Outcome
-outcome t n = record { node = n; outs = t.outs; progress = t.progress; begun = option_map opened_by t.begun; ended = t.ended }
+outcome t n = record { node = n; outs = t.outs; progress = t.progress; begun = option_map begun_op_by t.begun; ended = t.ended }
 
 abbrev pub silent : NodeState → Outcome
 silent n = record { node = n; outs = []; progress = None; begun = None; ended = None }

@@ -9,7 +9,7 @@ use Rattle.sc_node.specs.State.{NodeState}
 use Rattle.sc_node.specs.Nodes as node
 use Rattle.sc_operations.specs.declared.progress.OpResult.TheVariants as op_result
 use Rattle.sc_operations.specs.declared.progress.Ended.{Ended}
-use Rattle.sc_world.specs.declared.act.Opened.{Opened}
+use Rattle.sc_world.specs.declared.act.BegunOp.{BegunOp}
 use Rattle.sc_world.specs.declared.event.WorldEvent.{WorldEvent}
 use Rattle.sc_world.specs.declared.event.WorldEvent.TheVariants as world_event
 use Rattle.sc_world.specs.declared.op.Op.{Op}
@@ -35,7 +35,7 @@ use Rattle.q_history.specs.Clusters.{live_at, with_job}
 use Rattle.q_history.proofs.Lists.{same_some, no_some}
 use Rattle.q_history.proofs.Ops.{IsOnward, onward_itself, insert_same}
 use Rattle.q_history.proofs.World.{node_of, get-nodes, world_live, at_live}
-use Rattle.q_history.proofs.Accepted.{opened_by, outcome, Acted, ledger, act_step, act_onward, still_onward}
+use Rattle.q_history.proofs.Accepted.{begun_op_by, outcome, Acted, ledger, act_step, act_onward, still_onward}
 use Rattle.q_history.proofs.Called.{past_in, With, IsDue, IsCalled, tells, acts, past, accepted, node_acted, IsMade, enters, crashes, rests, calls}
 use Rattle.q_history.proofs.Kept.{HasView, Owes, IsKnown, IsKept, IsStep, stays_itself, known_on, head_in, head_with, desk_changed, put_stays, put, put_desk, which_job}
 
@@ -116,7 +116,7 @@ module _ (c : ClusterState) (kept : IsKept c) where
   record IsActed (id : ℕ) (p : Past) (r : world.Outcome) : Type 0 where
     lawful : IsLawful (world_of (fin.insert (nodes_of c.books) id r.node) (past_in c p))
     onward : IsOnward c.past.ops p.ops
-    begun : (a : Opened) → r.begun ≡ Some a → (o : Op) × Among o p.ops × (o.node ≡ id) × (o.tag ≡ a.tag)
+    begun : (a : BegunOp) → r.begun ≡ Some a → (o : Op) × Among o p.ops × (o.node ≡ id) × (o.tag ≡ a.tag)
     returned : (x : Ended) (view : ViewMap) → r.ended ≡ Some x → x.what ≡ op_result.Returned view → HasReturned (world_of (fin.insert (nodes_of c.books) id r.node) (past_in c p)) (world.clock w) id x.tag view
 
   acted_by : (id : ℕ) (b : BookState) → live_at c id ≡ Some b → (o : Option WorldEvent) (r : world.Outcome) → Acted id c.past.sent o b.node r → IsActed id (ledger c.past id o r) r
@@ -135,11 +135,11 @@ module _ (c : ClusterState) (kept : IsKept c) where
       record {
         lawful = lawful_next e id r step;
         onward = act_onward w b.node r id e kept.world.invariant.linked at h.1;
-        begun = λ opened is.
-            let o : Op = record { node = id; tag = opened.tag; begin = world.clock w; end = None; session = opened.session } in (
+        begun = λ begun_op is.
+            let o : Op = record { node = id; tag = begun_op.tag; begin = world.clock w; end = None; session = begun_op.session } in (
               o,
               among-right o (map (world.advanced id (world.clock w) r.progress) w.ops) (world.op_begun id (world.clock w) r.begun)
-                  (subst (λ (x : Option Opened). Among o (world.op_begun id (world.clock w) x)) (sym is) (inl refl)),
+                  (subst (λ (x : Option BegunOp). Among o (world.op_begun id (world.clock w) x)) (sym is) (inl refl)),
               refl,
               refl,
             );
@@ -173,7 +173,7 @@ module _ (c : ClusterState) (kept : IsKept c) where
     owes : Owes c.past.ops p.ops did.onward k.id k.book.desk told
     owes = record {
       begun = λ q b.
-          let h = did.begun (opened_by b.by) (ap (option_map opened_by) b.told) in
+          let h = did.begun (begun_op_by b.by) (ap (option_map begun_op_by) b.told) in
           record { op = h.0; among = h.1; by = h.2; tagged = h.3 ∙ b.tagged; has = subst (HasView h.0) (sym b.phase) tt };
       returned = λ q view r.
           let h = did.returned r.by view r.told r.what in

@@ -9,7 +9,7 @@ use Rattle.sc_msg.specs.declared.version.Version.{Version}
 use Rattle.sc_node.specs.Nodes.{founder, are_founders}
 use Rattle.sc_node.specs.declared.answer.Begun.{Begun}
 use Rattle.sc_operations.specs.declared.progress.Progress.{Progress}
-use Rattle.sc_world.specs.declared.act.Opened.{Opened}
+use Rattle.sc_world.specs.declared.act.BegunOp.{BegunOp}
 use Rattle.sc_world.specs.declared.event.WorldEvent.{WorldEvent}
 use Rattle.sc_world.specs.declared.event.WorldEvent.TheVariants as world_event
 use Rattle.reasons.specs.declared.Reason.{Reason}
@@ -48,7 +48,7 @@ abbrev pub quiet : ClusterState → EventAnswer → List Job → ℕ → BookSta
 quiet c t jobs id b = (record { told = t; sent = record { first = length c.past.sent; count = 0 } }, put c c.past jobs id b)
 
 -- an event that the ledger records
-abbrev pub noted : ClusterState → EventAnswer → WorldEvent → ℕ → List Message → Option Progress → Option Opened → BookState → ClusterStep × ClusterState
+abbrev pub noted : ClusterState → EventAnswer → WorldEvent → ℕ → List Message → Option Progress → Option BegunOp → BookState → ClusterStep × ClusterState
 noted c t e id outs progress begun b =
     (record { told = t; sent = numbered c.past outs }, put c (recorded c.past e id outs progress begun) c.jobs id b)
 
@@ -84,8 +84,8 @@ abbrev pub with_job : List Job → Option Job → List Job
 with_job jobs None = jobs
 with_job jobs (Some j) = jobs ++ j ∷ []
 
-abbrev pub opened : Begun → Option Opened
-opened begun = Some (record { tag = begun.tag; session = begun.session })
+abbrev pub begun_op : Begun → Option BegunOp
+begun_op begun = Some (record { tag = begun.tag; session = begun.session })
 
 -- what is told of a reply
 abbrev pub told_by : List Job → Reply → EventAnswer
@@ -102,13 +102,13 @@ event_by id (reply.Asked a) = Some (world_event.Collect id)
 event_by id (reply.Stored value a) = Some (world_event.Store id value)
 event_by id a = None
 
-abbrev pub begun_by : Reply → Option Opened
-begun_by (reply.Asked a) = opened a.begun
-begun_by (reply.Stored value a) = opened a
+abbrev pub begun_by : Reply → Option BegunOp
+begun_by (reply.Asked a) = begun_op a.begun
+begun_by (reply.Stored value a) = begun_op a
 begun_by a = None
 
 -- what the ledger has then: an event of the world is recorded
-abbrev pub past_by : Past → ℕ → Option WorldEvent → List Message → Option Opened → Past
+abbrev pub past_by : Past → ℕ → Option WorldEvent → List Message → Option BegunOp → Past
 past_by p id None outs begun = p
 past_by p id (Some e) outs begun = recorded p e id outs None begun
 

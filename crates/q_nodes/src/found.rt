@@ -15,7 +15,7 @@ ghost use Rattle.q_nodes.specs.declared.outcome.Outcome.TheVariants as outcome;
 ghost use Rattle.q_nodes.specs.declared.report.Report.TheVariants as report;
 
 use crate::outcome::Outcome;
-use crate::places::Places;
+use crate::ops_by_tag::OpsByTag;
 use crate::report::Report;
 use crate::script::{ClusterLine, program_id};
 use bq_insn::encode;
@@ -68,7 +68,7 @@ fn stores(op: &Op, bytes: &[u8]) -> bool
 /// The store of these bytes by the node under this tag.
 fn store_of<'a>(
     cluster: &'a Cluster,
-    places: &Places,
+    places: &OpsByTag,
     node: u64,
     tag: u64,
     bytes: &[u8],
@@ -149,7 +149,7 @@ fn find_program(
 }
 
 /// What a line tells that was answered with this tag.
-fn find_store(cluster: &Cluster, places: &Places, line: &ClusterLine, tag: u64) -> Option<Report>
+fn find_store(cluster: &Cluster, places: &OpsByTag, line: &ClusterLine, tag: u64) -> Option<Report>
     requires { AreFiled cluster.now.past.ops (get (λ a b. nat_eq a.0 b.0 && nat_eq a.1 b.1) places.now.by_tag) }
     ensures { (nodes : ℕ) → ComesTo nodes line.now (outcome.Stored tag) → Finds nodes cluster.now line.now (outcome.Stored tag) result }
 {
@@ -192,7 +192,7 @@ fn find_query(cluster: &Cluster, line: &ClusterLine, query: usize) -> Option<Rep
 fn find_line(
     alloc: Global,
     cluster: &Cluster,
-    places: &Places,
+    places: &OpsByTag,
     line: &ClusterLine,
     outcome: Outcome,
 ) -> Result<Option<Report>, AllocError>
@@ -219,7 +219,7 @@ pub(crate) fn find_all(
     requires { InTurn (ComesTo nodes) lines.now outcomes.now }
     ensures { IfOk result (λ found. FindsAll nodes cluster.now lines.now (option_map (λ reports. reports.items) found)) }
 {
-    let places = Places::of(alloc, cluster.ops())?;
+    let places = OpsByTag::of(alloc, cluster.ops())?;
     let mut reports = Vec::new(alloc);
     for (place, line) in lines.iter().enumerate() {
         // There are as many as lines.

@@ -61,7 +61,7 @@ mod line;
 mod node;
 mod outcome;
 mod own;
-mod places;
+mod ops_by_tag;
 mod report;
 mod run;
 mod script;

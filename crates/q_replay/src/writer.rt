@@ -2,7 +2,7 @@
 
 ghost use Rattle.std.specs.Prelude.{◌≡◌, ◌<◌, ◌^◌, ◌++◌, ◌∷◌, [], length, option_map, IfOk, IfSome, OnOk};
 ghost use Rattle.std.specs.List.{flat_map, AllByRecursion};
-ghost use Rattle.bq_sound.specs.Passes.{AreSuited};
+ghost use Rattle.bq_sound.specs.Passes.{AllFitLengths};
 ghost use Rattle.bq_check.specs.Spelling.{notes_bytes, IsNotes};
 ghost use Rattle.spelling.specs.Numbers.{number_bytes};
 ghost use Rattle.q_book.specs.Replays.{EntryFits};
@@ -104,7 +104,7 @@ impl Bytes {
         text: &Text,
         notes: &Notes,
     ) -> Result<(), AllocError>
-        requires { AreSuited (record_lengths version) notes.now }
+        requires { AllFitLengths (record_lengths version) notes.now }
         ensures legal { OnOk result (IsWritten version (written.Register text.now notes.now)) }
         ensures spelled { OnOk result (self.new ≡ self.old ++ body_bytes version (written.Register text.now notes.now)) }
     {
@@ -158,7 +158,7 @@ impl Bytes {
 
 /// The bytes of the notes in the form of that version. The one error is that memory ran out.
 fn spelled_notes(alloc: Global, version: Version, notes: &Notes) -> Result<Vec<u8>, AllocError>
-    requires { AreSuited (record_lengths version) notes.now }
+    requires { AllFitLengths (record_lengths version) notes.now }
     ensures legal { IfOk result (λ _. IsNotes (form_of version) notes.now) }
     ensures spelled { IfOk result (λ bytes. bytes.items ≡ notes_bytes (form_of version) notes.now) }
 {

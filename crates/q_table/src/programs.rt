@@ -5,7 +5,7 @@ ghost use Rattle.forms.specs.Calls.{Steps};
 ghost use Rattle.reasons.specs.declared.Reason.TheVariants as reasons;
 ghost use Rattle.q_table.specs.Programs.{registered, checked, IsTable};
 
-use crate::keyed::Keyed;
+use crate::encoded::EncodedProgram;
 use crate::program::{Program, ProgramId};
 use indexmap::IndexMap;
 use reasons::Reason;
@@ -63,23 +63,23 @@ impl Programs {
     pub fn register(&mut self, program: &Program) -> Result<ProgramId, TableFault>
         ensures { Steps reasons.OutOfMemory (registered self.old program.now) self.old self.new result }
     {
-        let keyed = self.keyed(program)?;
-        self.take(keyed)
+        let encoded = self.encoded(program)?;
+        self.insert(encoded)
     }
 
-    /// A program with the bytes of its text, to be asked for and then taken. The one error is that memory ran out (99
+    /// A program with the bytes of its text, to be asked for and then inserted. The one error is that memory ran out (99
     /// OutOfMemory).
-    pub fn keyed(&self, program: &Program) -> Result<Keyed, AllocError>
+    pub fn encoded(&self, program: &Program) -> Result<EncodedProgram, AllocError>
         ensures { IfOk result (λ k. k ≡ program.now) }
     {
-        Keyed::of(self.alloc, program)
+        EncodedProgram::of(self.alloc, program)
     }
 
-    /// Whether `take` would refuse the program for another cause than memory: with 52. Takes no memory.
-    pub fn check(&self, keyed: &Keyed) -> Result<(), TableFault>
-        ensures { result ≡ checked self.now keyed.now }
+    /// Whether `insert` would refuse the program for another cause than memory: with 52. Takes no memory.
+    pub fn check(&self, encoded: &EncodedProgram) -> Result<(), TableFault>
+        ensures { result ≡ checked self.now encoded.now }
     {
-        if self.by_text.get_index_of(&keyed.bytes).is_none()
+        if self.by_text.get_index_of(&encoded.bytes).is_none()
             && MOST_PROGRAMS <= self.by_text.len()
         {
             return Err(TableFault::TableFull);
@@ -88,10 +88,10 @@ impl Programs {
     }
 
     /// Registers a program, as [`register`](Programs::register) does. Refused with 52, 99.
-    pub fn take(&mut self, keyed: Keyed) -> Result<ProgramId, TableFault>
-        ensures { Steps reasons.OutOfMemory (registered self.old keyed) self.old self.new result }
+    pub fn insert(&mut self, encoded: EncodedProgram) -> Result<ProgramId, TableFault>
+        ensures { Steps reasons.OutOfMemory (registered self.old encoded) self.old self.new result }
     {
-        let Keyed { bytes, program } = keyed;
+        let EncodedProgram { bytes, program } = encoded;
         if let Some(id) = self.by_text.get_index_of(&bytes) {
             return Ok(ProgramId::new(id as u32));
         }

@@ -17,7 +17,7 @@ use Rattle.sc_operations.specs.declared.progress.Ended.{Ended}
 use Rattle.sc_node.specs.Sessions.{back_of, is_reached, count_sender, ended_with, ended_at, ended_by}
 use Rattle.sc_node.specs.State.{NodeState}
 use Rattle.sc_node.specs.Nodes.{beta_threshold, progress_of, ended_session}
-use Rattle.sc_world.specs.declared.act.Opened.{Opened}
+use Rattle.sc_world.specs.declared.act.BegunOp.{BegunOp}
 use Rattle.sc_world.specs.declared.event.WorldEvent.{WorldEvent}
 use Rattle.sc_world.specs.declared.event.WorldEvent.TheVariants as event
 use Rattle.sc_world.specs.declared.event.WorldStep.{WorldStep}
@@ -104,7 +104,7 @@ module _ (w : WorldState) (records : AreRecords w) where
     none_told : (p : Option Progress) (ended : Option Ended) → p ≡ None → AreToldOf p ended
     none_told p ended none o in' now = absurd (not_now w records o in' (ap (λ (x : Option Progress). (advanced q (clock w) x o).end) (sym none) ∙ now))
 
-    begun_open : (b : Option Opened) (o : Op) → Among o (op_begun q (clock w) b) → o.end ≡ Some (clock w) → ⊥
+    begun_open : (b : Option BegunOp) (o : Op) → Among o (op_begun q (clock w) b) → o.end ≡ Some (clock w) → ⊥
     begun_open None o in' ended = absurd in'
     begun_open (Some b) o (inr none) ended = absurd none
     begun_open (Some b) o (inl same) ended = let k : None ≡ Some (clock w) = ap (λ (y : Op). y.end) (sym same) ∙ ended in absurd (cc)

@@ -19,7 +19,7 @@ use Rattle.sc_operations.specs.declared.session.Session.TheVariants as session
 use Rattle.sc_operations.specs.declared.progress.Advance.{Advance}
 use Rattle.sc_operations.specs.declared.progress.Advance.TheVariants as advance
 use Rattle.sc_operations.specs.declared.progress.Progress.{Progress}
-use Rattle.sc_world.specs.declared.act.Opened.{Opened}
+use Rattle.sc_world.specs.declared.act.BegunOp.{BegunOp}
 use Rattle.sc_node.specs.Sessions.{back_of, stored, view_in, open_phase, counted, advanced_by, apply, ends, is_reached, count_sender, querying, storing}
 use Rattle.sc_node.specs.State.{NodeState}
 use Rattle.sc_node.specs.Nodes as node
@@ -205,7 +205,7 @@ module _ (w : WorldState) (e : WorldEvent) (q : ℕ) (n : NodeState) (at : fin.g
         let all : Among o (map (advanced q (clock w) (Some p)) w.ops) =
         elim (among-append o (map (advanced q (clock w) r.progress) w.ops) (op_begun q (clock w) r.begun) in') [
           | inl h ↦ subst (λ (x : Option Progress). Among o (map (advanced q (clock w) x) w.ops)) moves h
-          | inr h ↦ absurd (subst (λ (x : Option Opened). Among o (op_begun q (clock w) x)) begins h)
+          | inr h ↦ absurd (subst (λ (x : Option BegunOp). Among o (op_begun q (clock w) x)) begins h)
         ]
         in let k = among-map (advanced q (clock w) (Some p)) o w.ops all in
         advance_op q (clock w) p k.0 (λ (y : Op). o ≡ y → stored o.session ≡ Some v)

@@ -9,7 +9,7 @@ use Rattle.sc_view.specs.declared.view.Stored.{Stored}
 use Rattle.sc_operations.specs.declared.progress.Progress.{Progress}
 use Rattle.sc_operations.specs.declared.session.OperationKind.{OperationKind}
 use Rattle.sc_operations.specs.declared.session.OperationKind.TheVariants as kind
-use Rattle.sc_world.specs.declared.act.Opened.{Opened}
+use Rattle.sc_world.specs.declared.act.BegunOp.{BegunOp}
 use Rattle.sc_node.specs.State.{NodeState}
 use Rattle.sc_node.specs.Nodes.{progress_of, next_stored, store_session, collect_session}
 use Rattle.sc_world.specs.declared.event.WorldEvent.{WorldEvent}
@@ -42,18 +42,18 @@ get_map f [] i a h = absurd (cc)
 get_map f (x ∷ xs) zero a h = (x, refl, (let e : f x ≡ a = cc in sym e))
 get_map f (x ∷ xs) (suc i) a h = get_map f xs i a h
 
-begun_tag : (b y : Opened) → Some b ≡ Some y → b.tag ≡ y.tag
-begun_tag b y is = let same : b ≡ y = cc in ap (λ (z : Opened). z.tag) same
+begun_tag : (b y : BegunOp) → Some b ≡ Some y → b.tag ≡ y.tag
+begun_tag b y is = let same : b ≡ y = cc in ap (λ (z : BegunOp). z.tag) same
 
 -- a list of records, some of them moved, and at most one new
-module _ (q place : ℕ) (p : Option Progress) (ops : List Op) (b : Option Opened) (distinct : AreDistinct ops)
-    (fresh : (y : Opened) → b ≡ Some y → (o : Op) → Among o ops → o.node ≡ q → o.tag ≡ y.tag → ⊥) where
+module _ (q place : ℕ) (p : Option Progress) (ops : List Op) (b : Option BegunOp) (distinct : AreDistinct ops)
+    (fresh : (y : BegunOp) → b ≡ Some y → (o : Op) → Among o ops → o.node ≡ q → o.tag ≡ y.tag → ⊥) where
   -- where a record comes from
   data From (i : ℕ) (a : Op) : Type 0 where
     Old : (o : Op) → slice_get ops i ≡ Some o → a.node ≡ o.node → a.tag ≡ o.tag → From i a
-    New : (y : Opened) → b ≡ Some y → i ≡ length (map (advanced q place p) ops) → a.node ≡ q → a.tag ≡ y.tag → From i a
+    New : (y : BegunOp) → b ≡ Some y → i ≡ length (map (advanced q place p) ops) → a.node ≡ q → a.tag ≡ y.tag → From i a
 
-  begun_from : (i j : ℕ) (a : Op) (y : Option Opened) → b ≡ y → i ≡ length (map (advanced q place p) ops) + j → slice_get (op_begun q place y) j ≡ Some a → From i a
+  begun_from : (i j : ℕ) (a : Op) (y : Option BegunOp) → b ≡ y → i ≡ length (map (advanced q place p) ops) + j → slice_get (op_begun q place y) j ≡ Some a → From i a
   begun_from i j a None is at h = absurd (cc)
   begun_from i zero a (Some y) is at h =
       let e : (let o : Op = record { node = q; tag = y.tag; begin = place; end = None; session = y.session } in o) ≡ a = cc in
@@ -129,7 +129,7 @@ module _ (w : WorldState) (history : IsHistory w) (linked : IsLinked w) (sound :
           subst (IsRecord next) (sym (h.2 ∙ same)) (kept e next k h.0 h.1)
 
       -- an operation may begin
-      pub begun_records : ((y : Opened) → r.begun ≡ Some y → (o : Op) → Among o w.ops → o.node ≡ q → o.tag ≡ y.tag → ⊥)
+      pub begun_records : ((y : BegunOp) → r.begun ≡ Some y → (o : Op) → Among o w.ops → o.node ≡ q → o.tag ≡ y.tag → ⊥)
           → ((o : Op) → Among o (op_begun q (clock w) r.begun) → IsRecord next o) → ((node : ℕ) (d : OperationKind) → e ≡ beginning_of node d → HasBegun next (clock w)) → AreRecords next
       begun_records fresh new begins_now = record {
         distinct = distinct_next q (clock w) r.progress w.ops r.begun records.distinct fresh;
@@ -156,7 +156,7 @@ module _ (w : WorldState) (history : IsHistory w) (linked : IsLinked w) (sound :
     stores_now = sym (ap stored_at at) ∙ tallied.stores q ∙ ap (stores_of q) (sym (take-append_seam w.events (e ∷ [])))
 
   -- the record of the operation that begins is there
-  begun_here : (e : WorldEvent) (q : ℕ) (r : Outcome) (b : Opened) → r.begun ≡ Some b → HasBegun (after w e q r) (clock w)
+  begun_here : (e : WorldEvent) (q : ℕ) (r : Outcome) (b : BegunOp) → r.begun ≡ Some b → HasBegun (after w e q r) (clock w)
   begun_here e q r b is =
       record { op = record { node = q; tag = b.tag; begin = clock w; end = None; session = b.session }; among = begun_among w e q r b is; at = refl }
 

@@ -16,7 +16,7 @@ use Rattle.sc_operations.specs.declared.session.Session.{Session}
 use Rattle.sc_operations.specs.declared.session.Session.TheVariants as session
 use Rattle.sc_operations.specs.declared.progress.Advance.TheVariants as advance
 use Rattle.sc_operations.specs.declared.progress.Progress.{Progress}
-use Rattle.sc_world.specs.declared.act.Opened.{Opened}
+use Rattle.sc_world.specs.declared.act.BegunOp.{BegunOp}
 use Rattle.sc_node.specs.Sessions.{kind_of, back_of, open_phase, stored, repliers, ackers, apply, ends, is_reached, count_sender}
 use Rattle.sc_node.specs.State.{NodeState}
 use Rattle.sc_node.specs.Nodes.{message_from, view_after, beta_threshold}
@@ -50,7 +50,7 @@ abbrev pub session_after : Option Progress → ℕ → Option Session → Option
 session_after None t s = s
 session_after (Some p) t s = cond (t == p.tag) (session_moved p s) s
 
-abbrev pub IsBegunAt : NodeState → NodeState → Option Opened → Type 0
+abbrev pub IsBegunAt : NodeState → NodeState → Option BegunOp → Type 0
 IsBegunAt n n' None = Unit {0}
 IsBegunAt n n' (Some b) = (b.tag ≡ n.operations) × (fin.get n'.sessions b.tag ≡ Some b.session) × (b.tag < n'.operations)
 
@@ -144,7 +144,7 @@ pub record IsFreshSession (q : ℕ) (s : Session) : Type 0 where
   pub acked : ackers s ≡ set.empty
   pub number : (e : Stored) → kind_of s ≡ kind.Store e → (v : ViewMap) × (stored s ≡ Some v) × (e.number ≤ number_at v q)
 
-abbrev pub IsFresh : ℕ → Option Opened → Type 0
+abbrev pub IsFresh : ℕ → Option BegunOp → Type 0
 IsFresh q None = Unit {0}
 IsFresh q (Some b) = IsFreshSession q b.session
 

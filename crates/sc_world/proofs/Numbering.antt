@@ -5,7 +5,7 @@ use Rattle.sc_view.specs.declared.view.Stored.{Stored}
 use Rattle.sc_view.specs.Views.{ViewMap, number_of, number_at, IsBelow, IsCoveredBy}
 use Rattle.sc_operations.specs.declared.session.OperationKind.TheVariants as kind
 use Rattle.sc_node.specs.Sessions.{kind_of}
-use Rattle.sc_world.specs.declared.act.Opened.{Opened}
+use Rattle.sc_world.specs.declared.act.BegunOp.{BegunOp}
 use Rattle.sc_node.specs.State.{NodeState}
 use Rattle.sc_world.specs.declared.event.WorldEvent.{WorldEvent}
 use Rattle.sc_world.specs.declared.op.Op.{Op}
@@ -43,15 +43,15 @@ covered w k s t u v gu gv le id e is = go (fin.get v id) refl
 -- where the number of an operation comes from
 data Start (w : WorldState) (q : ℕ) (r : Outcome) (o : Op) : Type 0 where
   Old : (p : Op) → Among p w.ops → o.node ≡ p.node → kind_of o.session ≡ kind_of p.session → Start w q r o
-  New : (y : Opened) → r.begun ≡ Some y → o.node ≡ q → kind_of o.session ≡ kind_of y.session → Start w q r o
+  New : (y : BegunOp) → r.begun ≡ Some y → o.node ≡ q → kind_of o.session ≡ kind_of y.session → Start w q r o
 
 module _ (w : WorldState) (e : WorldEvent) (q : ℕ) (n : NodeState) (r : Outcome) (at : fin.get w.nodes q ≡ Some n) (linked : IsLinked w) (x : IsTransition n r)
     (k : IsNumbered w) (more : n.stores ≤ r.node.stores)
-    (next_number : (y : Opened) (s : Stored) → r.begun ≡ Some y → kind_of y.session ≡ kind.Store s → (s.number ≡ n.stores + 1) × (s.number ≤ r.node.stores)) where
+    (next_number : (y : BegunOp) (s : Stored) → r.begun ≡ Some y → kind_of y.session ≡ kind.Store s → (s.number ≡ n.stores + 1) × (s.number ≤ r.node.stores)) where
   abbrev next : WorldState
   next = after w e q r
 
-  begun_start : (y : Option Opened) → r.begun ≡ y → (o : Op) → Among o (op_begun q (clock w) y) → Start w q r o
+  begun_start : (y : Option BegunOp) → r.begun ≡ y → (o : Op) → Among o (op_begun q (clock w) y) → Start w q r o
   begun_start None is o in' = absurd in'
   begun_start (Some y) is o (inr none) = absurd none
   begun_start (Some y) is o (inl e) = New y is (ap (λ (z : Op). z.node) e) (ap (λ (z : Op). kind_of z.session) e)
@@ -90,7 +90,7 @@ module _ (w : WorldState) (e : WorldEvent) (q : ℕ) (n : NodeState) (r : Outcom
       let c = next_number y e b (sym kq ∙ is) in absurd (omega (arith, c.0, number, k.counted p in' e' (sym kq' ∙ is') n (ap (fin.get w.nodes) (sym nq' ∙ sym same ∙ nq) ∙ at)))
   one' o o' (New y b nq kq) (New y' b' nq' kq') e e' is is' same number =
       let one : y ≡ y' = (let h : Some y ≡ Some y' = sym b ∙ b' in cc) in
-      let h : kind.Store e ≡ kind.Store e' = sym (sym kq ∙ is) ∙ ap (λ (z : Opened). kind_of z.session) one ∙ sym kq' ∙ is' in cc
+      let h : kind.Store e ≡ kind.Store e' = sym (sym kq ∙ is) ∙ ap (λ (z : BegunOp). kind_of z.session) one ∙ sym kq' ∙ is' in cc
 
   pub numbered_next : IsNumbered next
   numbered_next = record {

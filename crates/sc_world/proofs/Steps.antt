@@ -12,7 +12,7 @@ use Rattle.sc_operations.specs.declared.session.Session.{Session}
 use Rattle.sc_operations.specs.declared.progress.Advance.{Advance}
 use Rattle.sc_operations.specs.declared.progress.Advance.TheVariants as advance
 use Rattle.sc_operations.specs.declared.progress.Progress.{Progress}
-use Rattle.sc_world.specs.declared.act.Opened.{Opened}
+use Rattle.sc_world.specs.declared.act.BegunOp.{BegunOp}
 use Rattle.sc_node.specs.Sessions.{stored, apply, ends}
 use Rattle.sc_node.specs.State.{NodeState}
 use Rattle.sc_node.specs.Nodes.{message_from}
@@ -56,11 +56,11 @@ kept_among w e q r o in' =
     among-left (advanced q (clock w) r.progress o) (map (advanced q (clock w) r.progress) w.ops) (op_begun q (clock w) r.begun) (among-image (advanced q (clock w) r.progress) o w.ops in')
 
 -- the record of the operation that begins at an event
-pub begun_among : (w : WorldState) (e : WorldEvent) (q : ℕ) (r : Outcome) (b : Opened) → r.begun ≡ Some b
+pub begun_among : (w : WorldState) (e : WorldEvent) (q : ℕ) (r : Outcome) (b : BegunOp) → r.begun ≡ Some b
     → Among (record { node = q; tag = b.tag; begin = clock w; end = None; session = b.session }) (after w e q r).ops
 begun_among w e q r b is =
     let o : Op = record { node = q; tag = b.tag; begin = clock w; end = None; session = b.session } in
-    among-right o (map (advanced q (clock w) r.progress) w.ops) (op_begun q (clock w) r.begun) (subst (λ (x : Option Opened). Among o (op_begun q (clock w) x)) (sym is) (inl refl))
+    among-right o (map (advanced q (clock w) r.progress) w.ops) (op_begun q (clock w) r.begun) (subst (λ (x : Option BegunOp). Among o (op_begun q (clock w) x)) (sym is) (inl refl))
 
 pub each-among : {X : Type 0} (P : X → Type 0) (x : X) (xs : List X) → Each P xs → Among x xs → P x
 each-among P x [] h k = absurd k
@@ -167,7 +167,7 @@ module _ (w : WorldState) (e : WorldEvent) (q : ℕ) (n : NodeState) (r : Outcom
     from_old (Some p) (inl k) o in' = advance_op q (clock w) p o (OpFrom w next) (from_ack p k o in') (λ _. Kept in')
     from_old (Some p) (inr k) o in' = advance_op q (clock w) p o (OpFrom w next) (from_reply p k o in') (λ _. Kept in')
 
-    from_begun : (b : Option Opened) → IsFresh q b → IsBegunAt n r.node b → (o : Op) → Among o (op_begun q (clock w) b) → OpFrom w next o
+    from_begun : (b : Option BegunOp) → IsFresh q b → IsBegunAt n r.node b → (o : Op) → Among o (op_begun q (clock w) b) → OpFrom w next o
     from_begun None f t o in' = absurd in'
     from_begun (Some b) f t o (inr none) = absurd none
     from_begun (Some b) f t o (inl e) =
@@ -281,7 +281,7 @@ module _ (w : WorldState) (e : WorldEvent) (q : ℕ) (n : NodeState) (r : Outcom
         (λ there is. subst (HasOwner next) (sym (f.elsewhere there)) (record { node = h.node; at = is ∙ h.at; tag = h.tag; session = h.session }))
         refl
 
-    owned_begun : (b : Option Opened) → IsBegunAt n r.node b → (o : Op) → Among o (op_begun q (clock w) b) → HasOwner next o
+    owned_begun : (b : Option BegunOp) → IsBegunAt n r.node b → (o : Op) → Among o (op_begun q (clock w) b) → HasOwner next o
     owned_begun None b o in' = absurd in'
     owned_begun (Some s) b o (inr none) = absurd none
     owned_begun (Some s) b o (inl e) = subst (HasOwner next) (sym e) (record { node = r.node; at = get-insert_same w.nodes q r.node; tag = b.2; session = b.1 })

@@ -12,7 +12,7 @@ use Rattle.sc_operations.specs.declared.session.Session.TheVariants as session
 use Rattle.sc_operations.specs.declared.progress.Advance.{Advance}
 use Rattle.sc_operations.specs.declared.progress.Advance.TheVariants as advance
 use Rattle.sc_operations.specs.declared.progress.Progress.{Progress}
-use Rattle.sc_world.specs.declared.act.Opened.{Opened}
+use Rattle.sc_world.specs.declared.act.BegunOp.{BegunOp}
 use Rattle.sc_node.specs.Sessions.{kind_of, stored, open_phase, with_phase, advanced_by, is_reached, count_sender, querying}
 use Rattle.sc_node.specs.State.{NodeState}
 use Rattle.sc_node.specs.Nodes.{message_from, is_reply, view_after, progress_of, reply_progress, beta_threshold, joins, ack_for, reply_for, store_under, answers, store_back, store_of, store_session, collect_session, stored_view, next_stored}
@@ -39,8 +39,8 @@ kind_kept (session.Querying p) from (advance.Turned t v) = refl
 kind_kept s from (advance.Turned t v) = refl
 kind_kept s from a = kind_with s (count_sender (open_phase s) from)
 
-pub begun_session : (b y : Opened) → Some b ≡ Some y → b.session ≡ y.session
-begun_session b y is = let same : b ≡ y = cc in ap (λ (z : Opened). z.session) same
+pub begun_session : (b y : BegunOp) → Some b ≡ Some y → b.session ≡ y.session
+begun_session b y is = let same : b ≡ y = cc in ap (λ (z : BegunOp). z.session) same
 
 -- what stays of an operation
 pub record SameStart (o y : Op) : Type 0 where
@@ -77,7 +77,7 @@ module _ (w : WorldState) (e : WorldEvent) (q : ℕ) (n : NodeState) (r : Outcom
   module _ (progress : IsProgress w q n r r.progress) (fresh : IsFresh q r.begun) where
     module _ (bodies : List Body) (names : r.outs ≡ map (message_from q) bodies) (view : IsTrue next (clock next) r.node.view)
         (outs : Each (λ (b : Body). (v : ViewMap) → body_view b ≡ Some v → IsTrue next (clock next) v) bodies)
-        (opens : (y : Opened) (v : ViewMap) → r.begun ≡ Some y → stored y.session ≡ Some v → IsTrue next (clock next) v) where
+        (opens : (y : BegunOp) (v : ViewMap) → r.begun ≡ Some y → stored y.session ≡ Some v → IsTrue next (clock next) v) where
       views' : (id : ℕ) → IsTrue next (clock next) (view_at next id)
       views' id = node_next w e q n r at linked x (λ (o : Option NodeState). IsTrue next (clock next) (view_of o)) id (λ _. view) (λ _. lifted (view_at w id) (t.views id))
 
@@ -90,7 +90,7 @@ module _ (w : WorldState) (e : WorldEvent) (q : ℕ) (n : NodeState) (r : Outcom
                 inr (λ v is. each-among (λ (b : Body). (v : ViewMap) → body_view b ≡ Some v → IsTrue next (clock next) v) k.0 bodies outs k.1 v (sym (ap (λ (y : Message). body_view y.body) k.2) ∙ is))
           ]
 
-      new_begun : (y : Option Opened) → r.begun ≡ y → (o : Op) → Among o (op_begun q (clock w) y) → (v : ViewMap) → stored o.session ≡ Some v → IsTrue next (clock next) v
+      new_begun : (y : Option BegunOp) → r.begun ≡ y → (o : Op) → Among o (op_begun q (clock w) y) → (v : ViewMap) → stored o.session ≡ Some v → IsTrue next (clock next) v
       new_begun None is o in' v held = absurd in'
       new_begun (Some y) is o (inr none) v held = absurd none
       new_begun (Some y) is o (inl e) v held = opens y v is (sym (ap (λ (z : Op). stored z.session) e) ∙ held)

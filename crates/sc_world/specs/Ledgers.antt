@@ -4,7 +4,7 @@ use Rattle.std.specs.FinSet as set
 use Rattle.sc_members.specs.Members.{Config}
 use Rattle.sc_msg.specs.declared.message.Message.{Message}
 use Rattle.sc_operations.specs.declared.progress.Progress.{Progress}
-use Rattle.sc_world.specs.declared.act.Opened.{Opened}
+use Rattle.sc_world.specs.declared.act.BegunOp.{BegunOp}
 use Rattle.sc_world.specs.declared.counting.Counting.{Counting}
 use Rattle.sc_world.specs.declared.event.WorldEvent.{WorldEvent}
 use Rattle.sc_world.specs.declared.event.WorldEvent.TheVariants as event
@@ -19,7 +19,7 @@ abbrev pub first : Config → List ℕ → Past
 first config ids = record { config = config; founders = ids; crashed = set.empty; events = []; sent = []; ops = [] }
 
 -- after an event at which this node sends, and may move or begin an operation
-abbrev pub recorded : Past → WorldEvent → ℕ → List Message → Option Progress → Option Opened → Past
+abbrev pub recorded : Past → WorldEvent → ℕ → List Message → Option Progress → Option BegunOp → Past
 recorded p e node outs progress begun =
     record {
       config = p.config;

@@ -18,7 +18,7 @@ use Rattle.sc_node.specs.State.{NodeState}
 use Rattle.sc_node.specs.Nodes.{delivered, store_begun, collect_begun, left, entered, founder, are_founders}
 use Rattle.sc_world.specs.declared.act.Act.{Act}
 use Rattle.sc_world.specs.declared.act.Act.TheVariants as act
-use Rattle.sc_world.specs.declared.act.Opened.{Opened}
+use Rattle.sc_world.specs.declared.act.BegunOp.{BegunOp}
 use Rattle.sc_world.specs.declared.event.WorldEvent.{WorldEvent}
 use Rattle.sc_world.specs.declared.event.WorldEvent.TheVariants as event
 use Rattle.sc_world.specs.declared.event.WorldStep.{WorldStep}
@@ -34,7 +34,7 @@ pub record Outcome : Type 0 where
   pub node : NodeState
   pub outs : List Message
   pub progress : Option Progress
-  pub begun : Option Opened
+  pub begun : Option BegunOp
   pub ended : Option Ended
 
 abbrev pub of_entered : NodeState × List Message → Outcome
@@ -68,11 +68,11 @@ advanced node place None o = o
 advanced node place (Some p) o = if o.node == node && o.tag == p.tag then moved place p o else o
 
 -- the record of an operation that begins at a place
-abbrev pub op_begun : ℕ → ℕ → Option Opened → List Op
+abbrev pub op_begun : ℕ → ℕ → Option BegunOp → List Op
 op_begun node place None = []
 op_begun node place (Some b) = record { node = node; tag = b.tag; begin = place; end = None; session = b.session } ∷ []
 
-abbrev pub tag_of : Option Opened → Option ℕ
+abbrev pub tag_of : Option BegunOp → Option ℕ
 tag_of None = None
 tag_of (Some b) = Some b.tag
 

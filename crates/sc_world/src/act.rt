@@ -21,7 +21,7 @@ pub(crate) enum Act {
 
 /// An operation that began.
 #[derive(Drop)]
-pub struct Opened {
+pub struct BegunOp {
     /// The operation's tag.
     pub tag: u64,
     /// The operation as the node keeps it.
@@ -33,7 +33,7 @@ pub struct Opened {
 pub(crate) struct Report {
     pub(crate) outs: Outs,
     pub(crate) progress: Option<Progress>,
-    pub(crate) begun: Option<Opened>,
+    pub(crate) begun: Option<BegunOp>,
     pub(crate) ended: Option<Ended>,
 }
 
@@ -102,7 +102,7 @@ impl Report {
         Report {
             outs,
             progress: None,
-            begun: Some(Opened { tag, session }),
+            begun: Some(BegunOp { tag, session }),
             ended: None,
         }
     }

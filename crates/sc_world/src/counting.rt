@@ -5,7 +5,7 @@ ghost use Rattle.sc_world.specs.declared.op.Op.{Op as OpValue};
 ghost use Rattle.sc_world.specs.Acts.{answered, is_op, IsReady, Fits, moved_at};
 
 use crate::op::Op;
-use crate::places::Places;
+use crate::op_index::OpIndex;
 use sc_members::IdSet;
 use sc_msg::{Body, Message};
 use sc_node::Progress;
@@ -21,7 +21,7 @@ pub struct Counting {
 /// Makes ready what the record of an operation needs, should this message move it as it reaches the node.
 pub(crate) fn make_ready(
     ops: &[Op],
-    places: &Places,
+    places: &OpIndex,
     node: u64,
     message: &Message,
 ) -> Result<Option<Counting>, AllocError>
@@ -36,7 +36,7 @@ pub(crate) fn make_ready(
 /// The same for an answer of this sender to the operation of that tag.
 fn ready_for(
     ops: &[Op],
-    places: &Places,
+    places: &OpIndex,
     node: u64,
     tag: u64,
     sender: u64,
@@ -62,7 +62,7 @@ fn answered(node: u64, message: &Message) -> Option<(u64, u64)>
 }
 
 /// Where the record of this operation stands.
-fn place_of(ops: &[Op], places: &Places, node: u64, tag: u64) -> Option<usize>
+fn place_of(ops: &[Op], places: &OpIndex, node: u64, tag: u64) -> Option<usize>
     ensures found { IfSome result (λ at. (o : OpValue) × IsTrue (is_op node tag o) × (slice_get ops.now at ≡ Some o)) }
     ensures absent { IfNone result (position (is_op node tag) ops.now ≡ None) }
 {

@@ -7,11 +7,11 @@ ghost use Rattle.sc_world.specs.Acts.{answered, IsReady};
 ghost use Rattle.sc_world.specs.Ledgers.{first, recorded, numbered, stopped, IsRight};
 ghost use Rattle.sc_world.specs.Worlds.{op_begun};
 
-use crate::act::Opened;
+use crate::act::BegunOp;
 use crate::counting::{Counting, make_ready, move_op};
 use crate::event::{Sent, WorldEvent};
 use crate::op::Op;
-use crate::places::Places;
+use crate::op_index::OpIndex;
 use sc_members::{Config, IdSet};
 use sc_msg::Message;
 use sc_node::{Outs, Progress};
@@ -27,7 +27,7 @@ pub struct Ledger {
     events: Vec<WorldEvent>,
     sent: Vec<Message>,
     ops: Vec<Op>,
-    places: Places,
+    places: OpIndex,
 }
 
 impl Drop for Ledger {
@@ -77,7 +77,7 @@ impl Ledger {
             events: Vec::new(alloc),
             sent: Vec::new(alloc),
             ops: Vec::new(alloc),
-            places: Places::new(alloc),
+            places: OpIndex::new(alloc),
         })
     }
 
@@ -108,7 +108,7 @@ impl Ledger {
         node: u64,
         outs: Outs,
         progress: Option<Progress>,
-        begun: Option<Opened>,
+        begun: Option<BegunOp>,
         counting: Option<Counting>,
     ) -> Sent
         requires room { self.old.room ≡ true }
@@ -196,11 +196,11 @@ impl Ledger {
 }
 
 /// Puts the record of an operation that began at this place, for which there is room.
-fn record_begun(ops: &mut Vec<Op>, node: u64, place: usize, begun: Option<Opened>)
+fn record_begun(ops: &mut Vec<Op>, node: u64, place: usize, begun: Option<BegunOp>)
     requires { vec_len ops.old < vec_capacity ops.old }
     ensures { ops.new.items ≡ ops.old.items ++ op_begun node place begun }
 {
-    if let Some(Opened { tag, session }) = begun {
+    if let Some(BegunOp { tag, session }) = begun {
         ops.push_reserved(Op {
             node,
             tag,

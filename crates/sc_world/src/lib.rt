@@ -18,11 +18,11 @@ pub mod laws;
 mod ledger;
 mod nodes;
 mod op;
-mod places;
+mod op_index;
 pub mod worked;
 mod world;
 
-pub use act::Opened;
+pub use act::BegunOp;
 pub use counting::Counting;
 pub use event::{Sent, WorldEvent, WorldStep};
 pub use ledger::Ledger;

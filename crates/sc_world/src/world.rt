@@ -9,7 +9,7 @@ ghost use Rattle.sc_world.specs.Worlds.{enters, crashes, live_at, event_of, step
 ghost use Rattle.sc_world.specs.Records.{AreRecords};
 ghost use Rattle.sc_world.specs.Regular.{IsRegular};
 
-use crate::act::{Act, Opened, Report};
+use crate::act::{Act, BegunOp, Report};
 use crate::counting::Counting;
 use crate::event::{Sent, WorldEvent, WorldStep};
 use crate::ledger::Ledger;
@@ -213,7 +213,7 @@ fn find(ledger: &Ledger, id: u64, act: &Act) -> Result<Option<Counting>, AllocEr
 }
 
 /// The tag of the operation that began.
-fn tag_of(begun: &Option<Opened>) -> Option<u64>
+fn tag_of(begun: &Option<BegunOp>) -> Option<u64>
     ensures { result ≡ tag_of begun.now }
 {
     match begun {

@@ -13,20 +13,20 @@ use std::alloc::{AllocError, Global};
 /// The place of the record of each operation in their list, by its node and its tag. So each is found at once, however
 /// many there are.
 #[derive(Drop)]
-pub(crate) struct Places {
+pub(crate) struct OpsByTag {
     by_tag: IndexMap<(u64, u64), usize>,
 }
 
-impl Places {
+impl OpsByTag {
     /// The places of these records. The one error is that memory ran out.
-    pub(crate) fn of(alloc: Global, ops: &[Op]) -> Result<Places, AllocError>
+    pub(crate) fn of(alloc: Global, ops: &[Op]) -> Result<OpsByTag, AllocError>
         ensures { AreDistinct ops.now → IfOk result (λ p. AreFiled ops.now (get (λ a b. nat_eq a.0 b.0 && nat_eq a.1 b.1) p.by_tag)) }
     {
         let mut by_tag = IndexMap::new(alloc);
         for (place, op) in ops.iter().enumerate() {
             by_tag.insert((op.node, op.tag), place)?;
         }
-        Ok(Places { by_tag })
+        Ok(OpsByTag { by_tag })
     }
 
     /// The operation of this node with this tag, among these records.

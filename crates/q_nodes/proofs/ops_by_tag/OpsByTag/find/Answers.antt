@@ -1,4 +1,4 @@
--- Places::find: the operation of this node with this tag, among these records.
+-- OpsByTag::find: the operation of this node with this tag, among these records.
 use Rattle.std.proofs.Common.{◌∙◌, refl, sym, ap}
 use Rattle.std.specs.Prelude.{◌&&◌, nat_eq}
 use Rattle.indexmap.specs.IndexMap.{get}
@@ -6,8 +6,8 @@ use Rattle.sc_world.specs.declared.op.Op.{Op}
 use Rattle.std.proofs.lemmas.Option.{slice_get_past, slice_get_read}
 use Rattle.sc_world.proofs.Runs.{among_get}
 use Rattle.q_nodes.proofs.Filing.{is_that, not_filed, past_all}
-use Rattle.q_nodes.proofs.places.Places.find.Goals.{else-op-node-via-then-op-node+else-op-tag, else-op-node-via-else-op-node}
-use Rattle.q_nodes.proofs.places.Places.find.Goals as goal
+use Rattle.q_nodes.proofs.ops_by_tag.OpsByTag.find.Goals.{else-op-node-via-then-op-node+else-op-tag, else-op-node-via-else-op-node}
+use Rattle.q_nodes.proofs.ops_by_tag.OpsByTag.find.Goals as goal
 
 pub returns-in_default : goal.returns-in_default
 returns-in_default c = not_filed c.args.ops.now (get (λ a b. nat_eq a.0 b.0 && nat_eq a.1 b.1) c.args.self.now.by_tag) c.args.node c.args.tag c.requires c.in_default.ensures.value

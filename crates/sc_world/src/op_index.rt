@@ -6,14 +6,14 @@ use std::collections::BTreeMap;
 
 /// For each node the places of its operations' records, in the order in which they began: by their tags.
 #[derive(Drop)]
-pub(crate) struct Places {
+pub(crate) struct OpIndex {
     alloc: Global,
     of_nodes: BTreeMap<u64, Vec<usize>>,
 }
 
-impl Places {
-    pub(crate) fn new(alloc: Global) -> Places {
-        Places {
+impl OpIndex {
+    pub(crate) fn new(alloc: Global) -> OpIndex {
+        OpIndex {
             alloc,
             of_nodes: BTreeMap::new(alloc),
         }

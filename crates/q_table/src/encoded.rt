@@ -10,12 +10,12 @@ use std::marker::Model;
 /// A program with the bytes of its text, by which a table finds it: they are written once, however many calls then ask
 /// for the program. Contracts see it as the certificate.
 #[derive(Drop)]
-pub struct Keyed {
+pub struct EncodedProgram {
     pub(crate) bytes: Vec<u8>,
     pub(crate) program: Program,
 }
 
-impl Model for Keyed {
+impl Model for EncodedProgram {
     ghost use Rattle.std.specs.Prelude.{◌≡◌};
     ghost use Rattle.bq_check.specs.Certificate.{Certificate};
     ghost use Rattle.bq_insn.specs.Slots.{spelling};
@@ -27,12 +27,12 @@ impl Model for Keyed {
     ghost invariant = { λ k. k.bytes.items ≡ spelling k.program.text };
 }
 
-impl Keyed {
+impl EncodedProgram {
     /// A program, with the bytes of its text. The one error is that memory ran out (99 OutOfMemory).
-    pub fn of(alloc: Global, program: &Program) -> Result<Keyed, AllocError>
+    pub fn of(alloc: Global, program: &Program) -> Result<EncodedProgram, AllocError>
         ensures { IfOk result (λ k. k ≡ program.now) }
     {
-        Ok(Keyed {
+        Ok(EncodedProgram {
             bytes: encode(alloc, program.certified().text())?,
             program: program.clone()?,
         })

@@ -1,10 +1,10 @@
--- Places::of: the places of these records.
+-- OpsByTag::of: the places of these records.
 use Rattle.std.proofs.Common.{refl}
 use Rattle.std.specs.Prelude.{◌&&◌, nat_eq}
 use Rattle.std.proofs.lemmas.Option.{slice_get_read}
 use Rattle.indexmap.specs.IndexMap.{get}
 use Rattle.q_nodes.proofs.Filing.{all_filed, filed_next}
-use Rattle.q_nodes.proofs.places.Places.of.Goals as goal
+use Rattle.q_nodes.proofs.ops_by_tag.OpsByTag.of.Goals as goal
 
 pub loop-place-preserved : goal.loop-place-preserved
 loop-place-preserved c = λ distinct.

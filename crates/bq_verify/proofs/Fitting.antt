@@ -1,4 +1,4 @@
--- The states of a text are suited: where records have one length, what arrives at a unit tells it by its number, as the
+-- The states of a text fit their lengths: where records have one length, what arrives at a unit tells it by its number, as the
 -- entry does. By induction over the units, by the law that what comes of such states is one.
 use Rattle.std.proofs.Common.{◌≡◌, ℕ, zero, suc, ◌<◌, List, [], ◌∷◌, Option, Some, None, ap, sym, subst, ◌∙◌, refl, arith, inl, inr}
 use Rattle.std.specs.Prelude.{◌==◌, Result, Ok, Err}
@@ -14,7 +14,7 @@ use Rattle.bq_state.specs.Kinds.{StateKinds, join_states, entry_state}
 use Rattle.bq_state.specs.Rules.{transfer}
 use Rattle.bq_state.specs.Edges.{edges}
 use Rattle.bq_state.specs.Plain.{IsPlain, StaysPlain}
-use Rattle.bq_sound.specs.Passes.{note_at, AreSuited}
+use Rattle.bq_sound.specs.Passes.{note_at, AllFitLengths}
 use Rattle.bq_sound.proofs.Among.{among_either}
 use Rattle.bq_sound.proofs.Along.{note_within}
 use Rattle.bq_verify.specs.States.{joined, edges_after, edges_from, leading_to, arriving, AreStates}
@@ -77,8 +77,8 @@ module _ (len : ℕ) (law : StaysPlain len) where
         joined_plain s (arriving (single len) text notes unit end) (sym (are.each unit within) ∙ noted)
         (arrived_plain unit end (λ v t k e. states_plain end fuel are v t (omega (arith, k, l)) e))
 
-pub are_suited : ((len : ℕ) → StaysPlain len) → (bounds : Interval) (text : List Insn) (notes : Notes) → IsText text → IsLegalFlow text → AreStates bounds text notes (units text) → AreSuited bounds notes
-are_suited law bounds text notes text_is legal are = record { each = λ unit state noted one. each unit state noted one }
+pub all_fit_lengths : ((len : ℕ) → StaysPlain len) → (bounds : Interval) (text : List Insn) (notes : Notes) → IsText text → IsLegalFlow text → AreStates bounds text notes (units text) → AllFitLengths bounds notes
+all_fit_lengths law bounds text notes text_is legal are = record { each = λ unit state noted one. each unit state noted one }
   where
     each : (unit : ℕ) (state : StateKinds) → note_at notes unit ≡ Some state → bounds.lo ≡ bounds.hi → IsPlain bounds.lo state
     each unit state noted one =
