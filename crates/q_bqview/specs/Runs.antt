@@ -10,8 +10,8 @@ use Rattle.q_outside.specs.Counts.{one_more}
 use Rattle.q_outside.specs.declared.counted.Counted.{Counted}
 use Rattle.q_command.specs.Words.{Reads, TellsUngiven, exit_status}
 use Rattle.q_command.specs.declared.words.FileCommand.{FileCommand}
-use Rattle.q_command.specs.declared.words.Wanted.{Wanted}
-use Rattle.q_command.specs.declared.words.Wanted.TheVariants as wanted
+use Rattle.q_command.specs.declared.words.Invocation.{Invocation}
+use Rattle.q_command.specs.declared.words.Invocation.TheVariants as invocation
 use Rattle.q_command.specs.declared.words.WordsFault.{WordsFault}
 use Rattle.q_command.specs.declared.words.WordsFault.TheVariants.{Help, OutOfMemory}
 use Rattle.q_asker.specs.Runs as asker
@@ -88,17 +88,17 @@ module _ {F : Type 0} (reads : Reading F) (writes : Writing F) where
       × (status ≡ node.status_of ending) × (after.failures ≡ node.failures_after ending before.failures)
 
   -- what is wanted is done
-  abbrev pub Does : Wanted → F → Output → ℕ → F → Output → Type 0
-  Does (wanted.FileCommand line) = CarriesOut line
-  Does (wanted.Cluster script strict) = RunsNodes script.now strict
-  Does (wanted.Gather journals pairs) = Gathers (map (λ name. name.now) journals.items) pairs
-  Does (wanted.Node line) = RunsApart line.file.now line.id
-  Does (wanted.Client place script strict) = RunsClient script.now strict
+  abbrev pub Does : Invocation → F → Output → ℕ → F → Output → Type 0
+  Does (invocation.FileCommand line) = CarriesOut line
+  Does (invocation.Cluster script strict) = RunsNodes script.now strict
+  Does (invocation.Gather journals pairs) = Gathers (map (λ name. name.now) journals.items) pairs
+  Does (invocation.Node line) = RunsApart line.file.now line.id
+  Does (invocation.Client place script strict) = RunsClient script.now strict
 
   -- The words ask for a command, and it is done; or they ask for none, and that is explained, and no file is touched.
   abbrev pub Runs : List (List ℕ) → F → Output → ℕ → F → Output → Type 0
   Runs words old before status new after =
-      ((asked : Wanted) × Reads words (Ok asked) × Does asked old before status new after)
+      ((asked : Invocation) × Reads words (Ok asked) × Does asked old before status new after)
       ⊎ ((fault : WordsFault) × Reads words (Err fault) × Explains fault before status after × (new ≡ old))
 
 -- the system gives no words for this error: that is explained, and no file is touched

@@ -8,7 +8,7 @@ ghost use Rattle.q_bqview.specs.Runs.{CarriesOut, Does, Explains, Gathers, IsUng
 use crate::client::client_advice;
 use q_asker::ClientEnding;
 use q_command::{
-    Denied, FileCommand, Wanted, WordsFault, carry_out, gather_files, given_words, nodes_advice,
+    RefusedCommand, FileCommand, Invocation, WordsFault, carry_out, gather_files, given_words, nodes_advice,
     read_words,
 };
 use q_nodes::{ClusterEnding, ClusterRunFault, FileRun, run_file};
@@ -138,7 +138,7 @@ fn script_advice(
     match fault {
         ClusterRunFault::Script(refusal) => nodes_advice(
             alloc,
-            &Denied {
+            &RefusedCommand {
                 refusal,
                 file: script,
                 bytes: source,
@@ -277,48 +277,48 @@ where
     }
 
     /// Does what is wanted: the exit status.
-    fn do_wanted<F: Files, W: Write, N: Write>(
+    fn do_invocation<F: Files, W: Write, N: Write>(
         &self,
-        wanted: &Wanted<'_>,
+        invocation: \&Invocation<'_>,
         files: &mut F,
         out: &mut Counted<W>,
         notes: &mut N,
     ) -> u8
-        ensures { Does F.read_gives F.write_gives wanted.now files.old
+        ensures { Does F.read_gives F.write_gives invocation.now files.old
             (output_of W.contents out.old) result files.new (output_of W.contents out.new) }
     {
-        match wanted {
-            Wanted::FileCommand(line) => run_line(self.alloc, line, files, out, notes),
-            Wanted::Cluster { script, strict } => {
+        match invocation {
+            Invocation::FileCommand(line) => run_line(self.alloc, line, files, out, notes),
+            Invocation::Cluster { script, strict } => {
                 run_nodes(self.rt, self.alloc, script, *strict, files, out, notes)
             }
-            Wanted::Gather { journals, pairs } => {
+            Invocation::Gather { journals, pairs } => {
                 run_gather(self.alloc, journals.as_slice(), *pairs, files, out, notes)
             }
-            Wanted::Client {
+            Invocation::Client {
                 place,
                 script,
                 strict,
             } => run_client(
                 self.rt, self.alloc, place, script, *strict, files, out, notes,
             ),
-            Wanted::Node(command) => self.run_node(command, files, out, notes),
+            Invocation::Node(command) => self.run_node(command, files, out, notes),
         }
     }
 
     /// Does what is wanted, and says in the notes where the output fails: the exit status.
-    fn run_wanted<F: Files, W: Write, N: Write>(
+    fn run_invocation<F: Files, W: Write, N: Write>(
         &self,
-        wanted: &Wanted<'_>,
+        invocation: \&Invocation<'_>,
         files: &mut F,
         out: &mut Counted<W>,
         notes: &mut N,
     ) -> u8
-        ensures { Does F.read_gives F.write_gives wanted.now files.old
+        ensures { Does F.read_gives F.write_gives invocation.now files.old
             (output_of W.contents out.old) result files.new (output_of W.contents out.new) }
     {
         let before = out.failures;
-        let status = self.do_wanted(wanted, files, out, notes);
+        let status = self.do_invocation(invocation, files, out, notes);
         note_failure(out, before, notes);
         status
     }
@@ -349,7 +349,7 @@ where
         (record { taken = W.contents out.new.inner; failures = out.new.failures }) }
 {
     match read_words(alloc, words) {
-        Ok(wanted) => Machine { rt, alloc }.run_wanted(&wanted, files, out, notes),
+        Ok(invocation) => Machine { rt, alloc }.run_invocation(\&invocation, files, out, notes),
         Err(fault) => explain(alloc, &fault, out, notes),
     }
 }

@@ -1,7 +1,7 @@
 //! The files of cases, and what their commands print.
 
 use crate::line::CaseLine;
-use q_command::{FileCommand, Wanted, WordsFault, carry_out, gather_files, read_words};
+use q_command::{FileCommand, Invocation, WordsFault, carry_out, gather_files, read_words};
 use q_outside::{Counted, Files, LONGEST_TEXT, MemoryFiles};
 use std::alloc::{AllocError, Global};
 use std::io;
@@ -16,21 +16,21 @@ pub fn tell_fault<W: Write>(fault: &WordsFault<'_>, out: &mut W) -> io::Result<u
 /// Does what is wanted over files: the exit status.
 fn carry<F: Files, W: Write>(
     alloc: Global,
-    wanted: &Wanted<'_>,
+    invocation: \&Invocation<'_>,
     files: &mut F,
     out: &mut Counted<W>,
 ) -> io::Result<u8> {
-    match wanted {
-        Wanted::FileCommand(line) => {
+    match invocation {
+        Invocation::FileCommand(line) => {
             let mut unseen = Vec::new(alloc);
             Ok(carry_out(alloc, line, files, out, &mut unseen).status())
         }
-        Wanted::Gather { journals, pairs } => {
+        Invocation::Gather { journals, pairs } => {
             let mut unseen = Vec::new(alloc);
             let names = journals.as_slice();
             Ok(gather_files(alloc, names, *pairs, files, out, &mut unseen).status())
         }
-        Wanted::Cluster { .. } | Wanted::Node(_) | Wanted::Client { .. } => {
+        Invocation::Cluster { .. } | Invocation::Node(_) | Invocation::Client { .. } => {
             writeln!(out, "no command over files")?;
             Ok(0)
         }
@@ -45,7 +45,7 @@ fn perform<F: Files, W: Write>(
     out: &mut Counted<W>,
 ) -> io::Result<u8> {
     match read_words(alloc, words) {
-        Ok(wanted) => carry(alloc, &wanted, files, out),
+        Ok(invocation) => carry(alloc, \&invocation, files, out),
         Err(fault) => tell_fault(&fault, out),
     }
 }
@@ -84,24 +84,24 @@ fn write_told<W: Write>(told: &[u8], out: &mut Counted<W>) -> io::Result<()> {
 }
 
 /// Writes what explains the refusal of what is wanted or of its lines, and that nothing does.
-fn explain_wanted<F: Files, W: Write>(
+fn explain_invocation<F: Files, W: Write>(
     alloc: Global,
-    wanted: &Wanted<'_>,
+    invocation: \&Invocation<'_>,
     files: &mut F,
     out: &mut Counted<W>,
 ) -> io::Result<()> {
     let mut unseen = Counted::new(Vec::new(alloc));
-    match wanted {
-        Wanted::FileCommand(line) => {
+    match invocation {
+        Invocation::FileCommand(line) => {
             let told = explained(alloc, line, files, &mut unseen);
             write_told(told.as_slice(), out)
         }
-        Wanted::Gather { journals, pairs } => {
+        Invocation::Gather { journals, pairs } => {
             let names = journals.as_slice();
             let told = gathered_notes(alloc, names, *pairs, files, &mut unseen);
             write_told(told.as_slice(), out)
         }
-        Wanted::Cluster { .. } | Wanted::Node(_) | Wanted::Client { .. } => writeln!(
+        Invocation::Cluster { .. } | Invocation::Node(_) | Invocation::Client { .. } => writeln!(
             out,
             "no command"
         ),
@@ -116,7 +116,7 @@ fn explain_words<F: Files, W: Write>(
     out: &mut Counted<W>,
 ) -> io::Result<()> {
     match read_words(alloc, words) {
-        Ok(wanted) => explain_wanted(alloc, &wanted, files, out),
+        Ok(invocation) => explain_invocation(alloc, \&invocation, files, out),
         Err(_fault) => writeln!(out, "no command"),
     }
 }

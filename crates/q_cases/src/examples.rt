@@ -5,7 +5,7 @@
 //! and then what explains its refusal. Each command is printed, with whether it prints just that.
 
 use crate::commands::{explained, gathered_notes};
-use q_command::{FileCommand, Wanted, read_words};
+use q_command::{FileCommand, Invocation, read_words};
 use q_outside::{Counted, Files, Folder, LONGEST_TEXT};
 use std::alloc::Global;
 use std::io::{ErrorKind, Write};
@@ -53,11 +53,11 @@ fn print_words<F: Files>(
     out: &mut Counted<Vec<u8>>,
 ) -> io::Result<()> {
     match read_words(alloc, words) {
-        Ok(Wanted::FileCommand(line)) => print_line(alloc, &line, files, out),
-        Ok(Wanted::Gather { journals, pairs }) => {
+        Ok(Invocation::FileCommand(line)) => print_line(alloc, &line, files, out),
+        Ok(Invocation::Gather { journals, pairs }) => {
             print_gathered(alloc, journals.as_slice(), pairs, files, out)
         }
-        Ok(Wanted::Cluster { .. } | Wanted::Node(_) | Wanted::Client { .. }) => Ok(()),
+        Ok(Invocation::Cluster { .. } | Invocation::Node(_) | Invocation::Client { .. }) => Ok(()),
         Err(fault) => write!(out, "{fault}"),
     }
 }

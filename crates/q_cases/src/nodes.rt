@@ -4,7 +4,7 @@ use crate::commands::tell_fault;
 use crate::deaf::Deaf;
 use crate::forged::{Forged, datagrams};
 use crate::noise::{Flooding, Noisy};
-use q_command::{Wanted, read_words};
+use q_command::{Invocation, read_words};
 use q_nodes::{
     ClusterEnding, ClusterRunFault, ClusterScript, open_sockets, run_cluster, run_file,
     run_over_sockets,
@@ -342,12 +342,12 @@ impl<'a, R: Net + Wait + Threads + Clock + Sync, W: Write> Nodes<'a, R, W> {
     fn run_command(&mut self, words: &str, notes: &mut Vec<u8>) -> io::Result<u8> {
         let words: Vec<&str> = words.split(' ').collect(self.alloc)?;
         match read_words(self.alloc, words.as_slice()) {
-            Ok(Wanted::Cluster { script, strict }) => Ok(self.run_file(script, strict, notes)),
+            Ok(Invocation::Cluster { script, strict }) => Ok(self.run_file(script, strict, notes)),
             Ok(
-                Wanted::FileCommand(_)
-                | Wanted::Gather { .. }
-                | Wanted::Node(_)
-                | Wanted::Client { .. },
+                Invocation::FileCommand(_)
+                | Invocation::Gather { .. }
+                | Invocation::Node(_)
+                | Invocation::Client { .. },
             ) => {
                 writeln!(self.out, "another command")?;
                 Ok(0)

@@ -20,7 +20,7 @@ use Rattle.clap.specs.declared.parser.matches.SubCommand.{SubCommand}
 use Rattle.clap.specs.declared.parser.matches.ArgMatches.{ArgMatches}
 use Rattle.clap.specs.declared.parser.matches.ArgMatches.TheViews.{out-ArgMatches, out-SubCommand}
 use Rattle.clap.proofs.OnLiterals.{clap_on_literals}
-use Rattle.q_command.specs.declared.words.Wanted.{Wanted}
+use Rattle.q_command.specs.declared.words.Invocation.{Invocation}
 use Rattle.q_command.specs.declared.words.WordsFault.{WordsFault}
 use Rattle.q_command.specs.declared.words.WordsFault.TheVariants.{Help, Wrong, BadStart, BadLengths, NotesOverProgram, BadId, BadRunners, NotUtf8, OutOfMemory}
 use Rattle.q_command.specs.Words.{Has, bqview, commands, operand_of, AreBad, AreGiven, AreGivenFor, IsAskedFor, IsMet, IsOneOf, HasFault, HasLineFault, IsRunners, Reads, Tells}
@@ -126,7 +126,7 @@ below_one_more old below (Ok c) app under h has low = (
 below_one_more old below (Err e) app under h has low = tt
 
 -- what is read where this command was met
-pub read_so : (words : List Text) (r : Result Wanted WordsFault) (met : Text × List Row) → fault_of bqview words ≡ [] → subcommand_of bqview words ≡ Some met
+pub read_so : (words : List Text) (r : Result Invocation WordsFault) (met : Text × List Row) → fault_of bqview words ≡ [] → subcommand_of bqview words ≡ Some met
     → MatchResult r (λ asked. IsMet asked met) (λ e. HasLineFault e met) → Reads words r
 read_so words (Ok asked) met n s h = (n, said_so (IsMet asked) _ met s h)
 read_so words (Err (BadStart start)) met n s h = (n, said_so (HasLineFault (BadStart start)) _ met s h)
@@ -162,7 +162,7 @@ pub no_fault : {a : App} (words : List Text) → a ≡ bqview → (is_simple_and
 no_fault words is kinds = subst (λ (x : App). fault_of x words ≡ []) is (kinds (ap is_simple_and_free is ∙ free))
 
 -- the parser fails
-pub failed_so : {a : App} (words : List Text) (error : Error) (r : Result Wanted WordsFault) → a ≡ bqview → (is_simple_and_free a ≡ true → HasKind (fault_of a words) error) → IsErrAnd r (Tells error) → Reads words r
+pub failed_so : {a : App} (words : List Text) (error : Error) (r : Result Invocation WordsFault) → a ≡ bqview → (is_simple_and_free a ≡ true → HasKind (fault_of a words) error) → IsErrAnd r (Tells error) → Reads words r
 failed_so words error (Ok asked) is kinds h = absurd h
 failed_so words error (Err e) is kinds h =
     faulty_so words error e (subst (λ (x : App). HasKind (fault_of x words) error) is (kinds (ap is_simple_and_free is ∙ free))) h

@@ -7,7 +7,7 @@ use Rattle.q_sim.specs.Simulates.{IsSimulationFault}
 use Rattle.q_sim.specs.declared.refusal.Refusal.{Refusal}
 use Rattle.q_sim.specs.declared.refusal.Refusal.TheVariants.{FileFailed, Script}
 use Rattle.q_command.specs.Perform.{IsUnsimulated, Refuses}
-use Rattle.q_command.specs.declared.denied.Denied.{Denied}
+use Rattle.q_command.specs.declared.refused_command.RefusedCommand.{RefusedCommand}
 use Rattle.q_outside.specs.Files.{Reading}
 use Rattle.q_command.specs.declared.words.FileCommand.{FileCommand}
 
@@ -19,6 +19,6 @@ unsimulated_script bytes script (Script f) utf8 spelled h = absurd h
 unsimulated_script bytes script r utf8 spelled h = (utf8, (script, spelled, h))
 
 -- a command that is refused, whichever the refusal
-pub some_refusal : {F : Type 0} (reads : Reading F) (line : FileCommand) (old new : F) (denied : Denied)
-    → Refuses reads line old denied new → (d : Denied) × Refuses reads line old d new
-some_refusal reads line old new denied refused = (denied, refused)
+pub some_refusal : {F : Type 0} (reads : Reading F) (line : FileCommand) (old new : F) (command_refused : RefusedCommand)
+    → Refuses reads line old command_refused new → (d : RefusedCommand) × Refuses reads line old d new
+some_refusal reads line old new command_refused refused = (command_refused, refused)

@@ -34,7 +34,7 @@ use Rattle.q_outside.specs.Files.{Reading}
 use Rattle.q_outside.specs.declared.files.FileFault.{FileFault}
 use Rattle.q_outside.specs.declared.files.FileFault.TheVariants.{Failed}
 use Rattle.q_command.specs.declared.check.Check.{Check as Checking}
-use Rattle.q_command.specs.declared.denied.Denied.{Denied}
+use Rattle.q_command.specs.declared.refused_command.RefusedCommand.{RefusedCommand}
 use Rattle.q_command.specs.declared.perform.CommandEnding.{CommandEnding}
 use Rattle.q_command.specs.declared.perform.CommandEnding.TheVariants.{Answered, Unsaved, LineRefused, Refused, Unwritten}
 use Rattle.q_command.specs.declared.perform.Work.{Work}
@@ -121,19 +121,19 @@ acceptance states text notes longest =
 -- This is told. Where the notes are to be written, they are written under this name; or the file fails, and that is told
 -- after it.
 abbrev pub SavesNotes : {F : Type 0} → Writing F → Option (Bor (List ℕ)) → List (Option StateKinds) → List ℕ → F → List ℕ → Bool → F → Type 0
-SavesNotes writes None notes told before lines unwritten after = (lines ≡ told) × (unwritten ≡ false) × (after ≡ before)
-SavesNotes writes (Some name) notes told before lines unwritten after =
-    (writes before name.now (notes_bytes Second notes) (Ok tt) after × (lines ≡ told) × (unwritten ≡ false))
-    ⊎ (writes before name.now (notes_bytes Second notes) (Err Failed) after × (lines ≡ told ++ refusal_line refusal.FileFailed) × (unwritten ≡ true))
+SavesNotes writes None notes told before lines unsaved after = (lines ≡ told) × (unsaved ≡ false) × (after ≡ before)
+SavesNotes writes (Some name) notes told before lines unsaved after =
+    (writes before name.now (notes_bytes Second notes) (Ok tt) after × (lines ≡ told) × (unsaved ≡ false))
+    ⊎ (writes before name.now (notes_bytes Second notes) (Err Failed) after × (lines ≡ told ++ refusal_line refusal.FileFailed) × (unsaved ≡ true))
 
 -- what `check` tells of a program, over files that stand thus before and after
-pub record Accepts {F : Type 0} (writes : Writing F) (asked : Checking) (source : List ℕ) (before : F) (lines : List ℕ) (unwritten : Bool) (after : F) : Type 0 where
+pub record Accepts {F : Type 0} (writes : Writing F) (asked : Checking) (source : List ℕ) (before : F) (lines : List ℕ) (unsaved : Bool) (after : F) : Type 0 where
   pub text : List Insn
   pub notes : List (Option StateKinds)
   pub longest : ℕ
   pub verified : IsVerified asked.form asked.lengths source text notes
   pub is_longest : IsLongest text longest
-  pub told : SavesNotes writes asked.notes notes (acceptance asked.states text notes longest) before lines unwritten after
+  pub told : SavesNotes writes asked.notes notes (acceptance asked.states text notes longest) before lines unsaved after
 
 -- the lines say what the program comes to over the records that are listed, each of one of the lengths, from the start
 -- value
@@ -149,32 +149,32 @@ pub record Computes (held : ProgramForm) (lengths : Interval) (source : List ℕ
   pub told : lines ≡ codes "acc " ++ (decimal acc ++ (codes " steps " ++ (decimal steps ++ 10 ∷ [])))
 
 -- the lines are what the script prints that the text spells, over files that stand thus before and after
-pub record IsSimulated {F : Type 0} (writes : Writing F) (source : List ℕ) (old : F) (lines : List ℕ) (unwritten refused : Bool) (new : F) : Type 0 where
+pub record IsSimulated {F : Type 0} (writes : Writing F) (source : List ℕ) (old : F) (lines : List ℕ) (unsaved refused : Bool) (new : F) : Type 0 where
   pub script : Script
   pub utf8 : IsUtf8 source
   pub spelled : IsScript source script
-  pub simulates : Simulates writes script old lines unwritten refused new
+  pub simulates : Simulates writes script old lines unsaved refused new
 
 -- The file is read, and its bytes give these lines. Behind the lines it is told whether a journal was not written, and
 -- whether a line was refused.
 abbrev pub AnswersFile : {F : Type 0} → ReadingOf F → (List ℕ → List ℕ → Type 0) → List ℕ → F → List ℕ → Bool → Bool → F → Type 0
-AnswersFile reads gives name old lines unwritten refused new =
-    (bytes : List ℕ) × reads old name (Ok bytes) new × gives bytes lines × (unwritten ≡ false) × (refused ≡ false)
+AnswersFile reads gives name old lines unsaved refused new =
+    (bytes : List ℕ) × reads old name (Ok bytes) new × gives bytes lines × (unsaved ≡ false) × (refused ≡ false)
 
 -- a program is read, and then records, and what it computes over them is these lines
 abbrev pub AnswersRun : {F : Type 0} → ReadingOf F → ProgramForm → Interval → List ℕ → ℕ → List ℕ → F → List ℕ → Bool → Bool → F → Type 0
-AnswersRun {F} reads held lengths name start records old lines unwritten refused new =
-    (source : List ℕ) × (between : F) × reads old name (Ok source) between × AnswersFile reads (Computes held lengths source start) records between lines unwritten refused new
+AnswersRun {F} reads held lengths name start records old lines unsaved refused new =
+    (source : List ℕ) × (between : F) × reads old name (Ok source) between × AnswersFile reads (Computes held lengths source start) records between lines unsaved refused new
 
 -- a program is read, and accepted with these lines: no line is refused
 abbrev pub AnswersCheck : {F : Type 0} → ReadingOf F → Writing F → Checking → List ℕ → F → List ℕ → Bool → Bool → F → Type 0
-AnswersCheck {F} reads writes asked name old lines unwritten refused new =
-    (source : List ℕ) × (between : F) × reads old name (Ok source) between × Accepts writes asked source between lines unwritten new × (refused ≡ false)
+AnswersCheck {F} reads writes asked name old lines unsaved refused new =
+    (source : List ℕ) × (between : F) × reads old name (Ok source) between × Accepts writes asked source between lines unsaved new × (refused ≡ false)
 
 -- a script is read, and prints these lines
 abbrev pub AnswersScript : {F : Type 0} → ReadingOf F → Writing F → List ℕ → F → List ℕ → Bool → Bool → F → Type 0
-AnswersScript {F} reads writes name old lines unwritten refused new =
-    (source : List ℕ) × (between : F) × reads old name (Ok source) between × IsSimulated writes source between lines unwritten refused new
+AnswersScript {F} reads writes name old lines unsaved refused new =
+    (source : List ℕ) × (between : F) × reads old name (Ok source) between × IsSimulated writes source between lines unsaved refused new
 
 -- the command answers these lines, over files that stand thus before and after
 abbrev pub Answers : {F : Type 0} → Reading F → Writing F → FileCommand → F → List ℕ → Bool → Bool → F → Type 0
@@ -202,32 +202,32 @@ IsUnsimulated source (refusal.Script f) = IsUtf8 source × scripts.IsFault sourc
 IsUnsimulated source r = IsUtf8 source × ((script : Script) × IsScript source script × IsSimulationFault script.founding r)
 
 -- The file is not read, and nothing was read of it.
-abbrev pub IsUnread : {F : Type 0} → ReadingOf F → List ℕ → F → Denied → F → Type 0
-IsUnread reads name old denied new =
-    (denied.file.now ≡ name) × (denied.bytes.items ≡ []) × ((fault : FileFault) × reads old name (Err fault) new × (denied.refusal ≡ refusal_of fault))
+abbrev pub IsUnread : {F : Type 0} → ReadingOf F → List ℕ → F → RefusedCommand → F → Type 0
+IsUnread reads name old refused new =
+    (refused.file.now ≡ name) × (refused.bytes.items ≡ []) × ((fault : FileFault) × reads old name (Err fault) new × (refused.refusal ≡ refusal_of fault))
 
 -- The file is not read; or its bytes, which are handed out, are refused for this reason.
-abbrev pub RefusesFile : {F : Type 0} → ReadingOf F → (List ℕ → Refusal → Type 0) → List ℕ → F → Denied → F → Type 0
-RefusesFile reads refuses name old denied new =
-    IsUnread reads name old denied new
-    ⊎ ((denied.file.now ≡ name) × reads old name (Ok denied.bytes.items) new × refuses denied.bytes.items denied.refusal)
+abbrev pub RefusesFile : {F : Type 0} → ReadingOf F → (List ℕ → Refusal → Type 0) → List ℕ → F → RefusedCommand → F → Type 0
+RefusesFile reads refuses name old refused new =
+    IsUnread reads name old refused new
+    ⊎ ((refused.file.now ≡ name) × reads old name (Ok refused.bytes.items) new × refuses refused.bytes.items refused.refusal)
 
 -- The program is refused, or it is accepted and the records are refused.
-abbrev pub RefusesRun : {F : Type 0} → ReadingOf F → ProgramForm → Interval → List ℕ → List ℕ → F → Denied → F → Type 0
-RefusesRun {F} reads held lengths name records old denied new =
-    RefusesFile reads (IsUnaccepted held lengths) name old denied new
-    ⊎ ((source : List ℕ) × (between : F) × reads old name (Ok source) between × IsAccepted held lengths source × RefusesFile reads (IsUnlisted lengths) records between denied new)
+abbrev pub RefusesRun : {F : Type 0} → ReadingOf F → ProgramForm → Interval → List ℕ → List ℕ → F → RefusedCommand → F → Type 0
+RefusesRun {F} reads held lengths name records old refused new =
+    RefusesFile reads (IsUnaccepted held lengths) name old refused new
+    ⊎ ((source : List ℕ) × (between : F) × reads old name (Ok source) between × IsAccepted held lengths source × RefusesFile reads (IsUnlisted lengths) records between refused new)
 
 -- The file is not read; or its bytes, which are handed out, are refused for this reason. Unless memory ran out, nothing is
 -- written.
-abbrev pub RefusesBeforeWrites : {F : Type 0} → ReadingOf F → (List ℕ → Refusal → Type 0) → List ℕ → F → Denied → F → Type 0
-RefusesBeforeWrites {F} reads refuses name old denied new =
-    IsUnread reads name old denied new
-    ⊎ ((between : F) × (denied.file.now ≡ name) × reads old name (Ok denied.bytes.items) between × refuses denied.bytes.items denied.refusal
-    × (denied.refusal ≢ refusal.OutOfMemory → new ≡ between))
+abbrev pub RefusesBeforeWrites : {F : Type 0} → ReadingOf F → (List ℕ → Refusal → Type 0) → List ℕ → F → RefusedCommand → F → Type 0
+RefusesBeforeWrites {F} reads refuses name old refused new =
+    IsUnread reads name old refused new
+    ⊎ ((between : F) × (refused.file.now ≡ name) × reads old name (Ok refused.bytes.items) between × refuses refused.bytes.items refused.refusal
+    × (refused.refusal ≢ refusal.OutOfMemory → new ≡ between))
 
 -- the command is refused for this reason, over files that stand thus before and after
-abbrev pub Refuses : {F : Type 0} → Reading F → FileCommand → F → Denied → F → Type 0
+abbrev pub Refuses : {F : Type 0} → Reading F → FileCommand → F → RefusedCommand → F → Type 0
 Refuses reads (Asm file) = RefusesFile (reads longest_text) (IsUnspelled Text) file.now
 Refuses reads (Dis file) = RefusesFile (reads longest_text) (IsUnspelled Bytes) file.now
 Refuses reads (Check file held lengths states notes) = RefusesBeforeWrites (reads longest_text) (IsUnaccepted held lengths) file.now
@@ -254,18 +254,18 @@ IsUnmade work.Audit = IsUnaudited
 -- How a command ends whose answer was written, which is strict or not: first, a journal was not written; then, a line was
 -- refused, where the command is strict.
 abbrev pub end_of : Bool → Bool → Bool → CommandEnding
-end_of strict unwritten refused = if unwritten then Unsaved else (if strict && refused then LineRefused else Answered)
+end_of strict unsaved refused = if unsaved then Unsaved else (if strict && refused then LineRefused else Answered)
 
 -- The command ends so, over files and a writer that stand thus before and after: the writer took exactly the lines of the
 -- answer, or exactly the line of the refusal. Where the writer failed, it was given one of the two, and may have taken a part.
 abbrev pub Ends : {F : Type 0} → Reading F → Writing F → FileCommand → F → Option (List ℕ) → CommandEnding → F → Option (List ℕ) → Type 0
-Ends reads writes line old before (Refused denied) new after = Refuses reads line old denied new × Appends before after (refusal_line denied.refusal)
+Ends reads writes line old before (Refused refused) new after = Refuses reads line old refused new × Appends before after (refusal_line refused.refusal)
 Ends reads writes line old before Unwritten new after =
-    ((lines : List ℕ) × (unwritten refused : Bool) × Answers reads writes line old lines unwritten refused new)
-    ⊎ ((denied : Denied) × Refuses reads line old denied new)
+    ((lines : List ℕ) × (unsaved refused : Bool) × Answers reads writes line old lines unsaved refused new)
+    ⊎ ((refused : RefusedCommand) × Refuses reads line old refused new)
 Ends reads writes line old before ending new after =
-    (lines : List ℕ) × (unwritten refused : Bool) × Answers reads writes line old lines unwritten refused new
-    × Appends before after lines × (ending ≡ end_of (is_strict line) unwritten refused)
+    (lines : List ℕ) × (unsaved refused : Bool) × Answers reads writes line old lines unsaved refused new
+    × Appends before after lines × (ending ≡ end_of (is_strict line) unsaved refused)
 
 -- How many calls of the writer failed so far, of which this many failed before the command: one more where it gave up,
 -- and else as many.
@@ -278,5 +278,5 @@ abbrev pub status_of : CommandEnding → ℕ
 status_of Answered = 0
 status_of Unsaved = 1
 status_of LineRefused = 1
-status_of (Refused denied) = 1
+status_of (Refused refused) = 1
 status_of Unwritten = 1

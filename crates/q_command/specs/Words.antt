@@ -21,8 +21,8 @@ use Rattle.q_command.specs.declared.words.FileCommand.TheVariants.{Asm, Dis, Che
 use Rattle.q_command.specs.declared.words.ProgramForm.{ProgramForm}
 use Rattle.q_command.specs.declared.words.ProgramForm.TheVariants as form
 use Rattle.q_script.specs.declared.node_words.NodeWords.{NodeWords}
-use Rattle.q_command.specs.declared.words.Wanted.{Wanted}
-use Rattle.q_command.specs.declared.words.Wanted.TheVariants as wanted
+use Rattle.q_command.specs.declared.words.Invocation.{Invocation}
+use Rattle.q_command.specs.declared.words.Invocation.TheVariants as invocation
 use Rattle.q_command.specs.declared.words.WordsFault.{WordsFault}
 use Rattle.q_command.specs.declared.words.WordsFault.TheVariants.{Help, Wrong, BadStart, BadLengths, NotesOverProgram, BadId, BadRunners, NotUtf8, OutOfMemory}
 use Rattle.q_script.specs.Words.{IsNumeral}
@@ -216,14 +216,14 @@ pub record HasNode (line : NodeWords) (rows : List Row) : Type 0 where
   pub sync : line.sync ≡ is_given (codes "sync") rows
 
 -- what was met asks for this
-abbrev pub IsMet : Wanted → Text × List Row → Type 0
-IsMet (wanted.FileCommand line) met = HasCommand line met
-IsMet (wanted.Cluster script strict) met =
+abbrev pub IsMet : Invocation → Text × List Row → Type 0
+IsMet (invocation.FileCommand line) met = HasCommand line met
+IsMet (invocation.Cluster script strict) met =
     (met.0 ≡ codes "cluster") × (script.now ≡ operand_of (codes "SCRIPT") met.1) × (strict ≡ is_given (codes "strict") met.1)
-IsMet (wanted.Gather journals pairs) met =
+IsMet (invocation.Gather journals pairs) met =
     (met.0 ≡ codes "gather") × (map (λ name. name.now) journals.items ≡ operands_of (codes "JOURNAL") met.1) × (pairs ≡ is_given (codes "pairs") met.1)
-IsMet (wanted.Node line) met = (met.0 ≡ codes "node") × HasNode line met.1
-IsMet (wanted.Client place script strict) met =
+IsMet (invocation.Node line) met = (met.0 ≡ codes "node") × HasNode line met.1
+IsMet (invocation.Client place script strict) met =
     (met.0 ≡ codes "client") × (place.now ≡ operand_of (codes "ADDR") met.1) × (script.now ≡ operand_of (codes "SCRIPT") met.1)
     × (strict ≡ is_given (codes "strict") met.1)
 
@@ -283,7 +283,7 @@ HasFault words e = (fault_of bqview words ≡ []) × IsSomeAnd (subcommand_of bq
 
 -- a command is read exactly where the words have no fault by the rules of `clap`, START and ID are numbers, the lengths
 -- are in order and within bounds, and so is the count of runners, and notes do not go over their own program
-abbrev pub Reads : List Text → Result Wanted WordsFault → Type 0
+abbrev pub Reads : List Text → Result Invocation WordsFault → Type 0
 Reads words (Ok asked) = (fault_of bqview words ≡ []) × IsSomeAnd (subcommand_of bqview words) (IsMet asked)
 Reads words (Err e) = HasFault words e
 

@@ -3,7 +3,7 @@
 ghost use Rattle.std.specs.Prelude.{◌≡◌, ◌≢◌, true, false, None, IfOk, IsUtf8};
 ghost use Rattle.q_command.specs.Advice.{IsToldOf, Meets, IsExplained, is_of_nodes};
 
-use crate::denied::Denied;
+use crate::refused_command::RefusedCommand;
 use crate::line::{line_of, text_of, write_form};
 use crate::sources::program;
 use crate::words::{FileCommand, ProgramForm};
@@ -48,13 +48,13 @@ fn of_assembler(fault: AsmFault, source: &str, number: usize, line: &str) -> &'s
 /// What is told of assembler text.
 fn write_assembler(
     out: &mut String,
-    denied: &Denied<'_>,
+    refused: &RefusedCommand<'_>,
     fault: AsmFault,
 ) -> Result<(), AllocError> {
     match fault {
         AsmFault::Syntax { line } | AsmFault::Label { line } => {
-            let source = text_of(denied.bytes.as_slice());
-            let line = line_of(denied.file, source, line);
+            let source = text_of(refused.bytes.as_slice());
+            let line = line_of(refused.file, source, line);
             write_form(
                 out,
                 line,
@@ -62,7 +62,7 @@ fn write_assembler(
             )
         }
         _ => {
-            let file = denied.file;
+            let file = refused.file;
             let words = of_assembler(fault, "", 0, "");
             writeln!(out, "{file}: {words}")
         }
@@ -73,12 +73,12 @@ fn write_assembler(
 fn write_no_text(
     out: &mut String,
     line: &FileCommand<'_>,
-    denied: &Denied<'_>,
+    refused: &RefusedCommand<'_>,
 ) -> Result<(), AllocError> {
-    let file = denied.file;
+    let file = refused.file;
     let words = match line {
         FileCommand::Asm { .. } | FileCommand::Check { .. } | FileCommand::Run { .. }
-            if is_object_file(denied.bytes.as_slice()) => { OBJECT_FILE }
+            if is_object_file(refused.bytes.as_slice()) => { OBJECT_FILE }
         FileCommand::Run { records, .. } if file == *records =>
             "It is not UTF-8, which lists of records are.",
         FileCommand::Check { .. } | FileCommand::Run { .. } =>
@@ -92,14 +92,14 @@ fn write_no_text(
 fn write_bytes(
     alloc: Global,
     out: &mut String,
-    denied: &Denied<'_>,
+    refused: &RefusedCommand<'_>,
     fault: DecodeFault,
 ) -> Result<(), AllocError> {
-    let file = denied.file;
-    if is_object_file(denied.bytes.as_slice()) {
+    let file = refused.file;
+    if is_object_file(refused.bytes.as_slice()) {
         return writeln!(out, "{file}: {OBJECT_FILE}");
     }
-    let Some(told) = explain_bytes(alloc, denied.bytes.as_slice(), fault)? else {
+    let Some(told) = explain_bytes(alloc, refused.bytes.as_slice(), fault)? else {
         return Ok(());
     };
     match fault {
@@ -129,13 +129,13 @@ fn nodes_line(number: usize, text: &str) -> &'static str {
 }
 
 /// What is told of a script's fault.
-fn write_script(out: &mut String, denied: &Denied<'_>, kind: ScriptKind) -> Result<(), AllocError> {
-    let file = denied.file;
-    match denied.refusal {
+fn write_script(out: &mut String, refused: &RefusedCommand<'_>, kind: ScriptKind) -> Result<(), AllocError> {
+    let file = refused.file;
+    match refused.refusal {
         Refusal::FileFailed => writeln!(out, "{file}: It is not UTF-8, which text files are."),
         Refusal::Script(ScriptFault::Syntax { line }) => {
-            let source = text_of(denied.bytes.as_slice());
-            let line = line_of(denied.file, source, line);
+            let source = text_of(refused.bytes.as_slice());
+            let line = line_of(refused.file, source, line);
             let form = match kind {
                 ScriptKind::Events => script_line(line.number, line.text),
                 ScriptKind::Nodes => nodes_line(line.number, line.text),
@@ -196,12 +196,12 @@ fn write_program(
     alloc: Global,
     out: &mut String,
     line: &FileCommand<'_>,
-    denied: &Denied<'_>,
+    refused: &RefusedCommand<'_>,
     fault: CheckFault,
 ) -> Result<(), AllocError> {
-    let file = denied.file;
+    let file = refused.file;
     let form = form_of(line);
-    let source = denied.bytes.as_slice();
+    let source = refused.bytes.as_slice();
     let Ok(text) = program(alloc, form, source) else {
         return Err(AllocError);
     };
@@ -229,21 +229,21 @@ fn write_reason(
     alloc: Global,
     out: &mut String,
     line: &FileCommand<'_>,
-    denied: &Denied<'_>,
+    refused: &RefusedCommand<'_>,
 ) -> Result<(), AllocError> {
-    let file = denied.file;
-    match denied.refusal {
-        Refusal::FileFailed => write_no_text(out, line, denied),
+    let file = refused.file;
+    match refused.refusal {
+        Refusal::FileFailed => write_no_text(out, line, refused),
         Refusal::Script(_) | Refusal::Fraction(_) | Refusal::Cluster(_) => write_script(
             out,
-            denied,
+            refused,
             ScriptKind::Events,
         ),
-        Refusal::Assembler(fault) => write_assembler(out, denied, fault),
-        Refusal::Bytes(fault) => write_bytes(alloc, out, denied, fault),
-        Refusal::Program(fault) => write_program(alloc, out, line, denied, fault),
+        Refusal::Assembler(fault) => write_assembler(out, refused, fault),
+        Refusal::Bytes(fault) => write_bytes(alloc, out, refused, fault),
+        Refusal::Program(fault) => write_program(alloc, out, line, refused, fault),
         Refusal::Records(RecordsFault::Line { line, fault }) => {
-            let source = text_of(denied.bytes.as_slice());
+            let source = text_of(refused.bytes.as_slice());
             write_form(out, line_of(file, source, line), of_record(fault))
         }
         Refusal::Journal(fault) => {
@@ -255,11 +255,11 @@ fn write_reason(
 }
 
 /// Whether something is told of a refusal.
-fn is_explained(denied: &Denied<'_>) -> bool
-    ensures { Meets result (IsExplained denied.now.refusal denied.now.bytes.items) }
+fn is_explained(refused: &RefusedCommand<'_>) -> bool
+    ensures { Meets result (IsExplained refused.now.refusal refused.now.bytes.items) }
 {
-    match denied.refusal {
-        Refusal::FileFailed => str::from_utf8(denied.bytes.as_slice()).is_err(),
+    match refused.refusal {
+        Refusal::FileFailed => str::from_utf8(refused.bytes.as_slice()).is_err(),
         refusal => refusal.reason().number() != 99,
     }
 }
@@ -273,15 +273,15 @@ fn is_explained(denied: &Denied<'_>) -> bool
 pub fn advice(
     alloc: Global,
     line: &FileCommand<'_>,
-    denied: &Denied<'_>,
+    refused: &RefusedCommand<'_>,
 ) -> Result<Option<String>, AllocError>
-    ensures told { IfOk result (IsToldOf denied.now.refusal denied.now.bytes.items) }
+    ensures told { IfOk result (IsToldOf refused.now.refusal refused.now.bytes.items) }
 {
-    if !is_explained(denied) {
+    if !is_explained(refused) {
         return Ok(None);
     }
     let mut out = String::new(alloc);
-    write_reason(alloc, &mut out, line, denied)?;
+    write_reason(alloc, &mut out, line, refused)?;
     Ok(Some(out))
 }
 
@@ -300,17 +300,17 @@ fn is_of_nodes(refusal: Refusal) -> bool
 /// come to.
 ///
 /// The one error is that memory ran out (99 OutOfMemory).
-pub fn nodes_advice(alloc: Global, denied: &Denied<'_>) -> Result<Option<String>, AllocError>
-    ensures told { is_of_nodes denied.now.refusal ≡ true → IfOk result (IsToldOf denied.now.refusal denied.now.bytes.items) }
-    ensures none { is_of_nodes denied.now.refusal ≡ false → IfOk result (λ told. told ≡ None) }
+pub fn nodes_advice(alloc: Global, refused: &RefusedCommand<'_>) -> Result<Option<String>, AllocError>
+    ensures told { is_of_nodes refused.now.refusal ≡ true → IfOk result (IsToldOf refused.now.refusal refused.now.bytes.items) }
+    ensures none { is_of_nodes refused.now.refusal ≡ false → IfOk result (λ told. told ≡ None) }
 {
-    if !is_of_nodes(denied.refusal) {
+    if !is_of_nodes(refused.refusal) {
         return Ok(None);
     }
-    if !is_explained(denied) {
+    if !is_explained(refused) {
         return Ok(None);
     }
     let mut out = String::new(alloc);
-    write_script(&mut out, denied, ScriptKind::Nodes)?;
+    write_script(&mut out, refused, ScriptKind::Nodes)?;
     Ok(Some(out))
 }

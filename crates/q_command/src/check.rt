@@ -60,7 +60,7 @@ fn save_as<F: Files>(
     lines: &mut String,
     files: &mut F,
 ) -> Result<bool, AllocError>
-    ensures saved { IfOk result (λ unwritten. SavesNotes F.write_gives (Some name.entry) notes.now (string_bytes lines.old) files.old (string_bytes lines.new) unwritten files.new) }
+    ensures saved { IfOk result (λ unsaved. SavesNotes F.write_gives (Some name.entry) notes.now (string_bytes lines.old) files.old (string_bytes lines.new) unsaved files.new) }
 {
     let bytes = notes.bytes(alloc)?;
     match files.write(name, bytes.as_slice()) {
@@ -82,7 +82,7 @@ fn save<F: Files>(
     lines: &mut String,
     files: &mut F,
 ) -> Result<bool, AllocError>
-    ensures saved { IfOk result (λ unwritten. SavesNotes F.write_gives name.entry notes.now (string_bytes lines.old) files.old (string_bytes lines.new) unwritten files.new) }
+    ensures saved { IfOk result (λ unsaved. SavesNotes F.write_gives name.entry notes.now (string_bytes lines.old) files.old (string_bytes lines.new) unsaved files.new) }
 {
     match name {
         Some(name) => save_as(alloc, name, notes, lines, files),
@@ -99,17 +99,17 @@ pub fn checked<F: Files>(
     source: &[u8],
     files: &mut F,
 ) -> Result<Printed, Refusal>
-    ensures accepted { IfOk result (λ p. Accepts F.write_gives check.now source.now files.old (string_bytes p.lines) p.unwritten files.new) }
+    ensures accepted { IfOk result (λ p. Accepts F.write_gives check.now source.now files.old (string_bytes p.lines) p.unsaved files.new) }
     ensures lines { IfOk result (λ p. p.refused ≡ false) }
     ensures refused { IfErr result (IsUnaccepted check.now.form check.now.lengths source.now) }
     ensures unbegun { IfErr result (λ r. r ≢ Refusal.OutOfMemory → files.new ≡ files.old) }
 {
     let certified = certified(alloc, check.form, source, check.lengths)?;
     let mut lines = told(alloc, &certified, check.states)?;
-    let unwritten = save(alloc, check.notes, certified.notes(), &mut lines, files)?;
+    let unsaved = save(alloc, check.notes, certified.notes(), &mut lines, files)?;
     Ok(Printed {
         lines,
-        unwritten,
+        unsaved,
         refused: false,
         faults: Vec::new(alloc),
     })

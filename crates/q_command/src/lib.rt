@@ -10,7 +10,7 @@
 //!   the file OUT; what that program means over the records that RECORDS lists, from START; what the script prints that
 //!   SCRIPT spells; the answers that the journal JOURNAL recorded. It says whether a file was not written, or else
 //!   whether a line was refused of a script that is strict. Where it was refused, the writer took exactly the line of
-//!   the refusal, whose reason holds of the files, and what was read and refused is handed out ([`Denied`]). It gives
+//!   the refusal, whose reason holds of the files, and what was read and refused is handed out ([`RefusedCommand`]). It gives
 //!   up only where a write failed, which the writer counted.
 //! - [`certified`] makes programs from assembler text and from bytes, with their certificates. [`listing`] is the text
 //!   that `asm` prints, [`checked`] what `check` prints and writes, and [`audit`] what `audit` prints: the answers of a
@@ -44,7 +44,6 @@ mod answer;
 mod auditor;
 mod beginnings;
 mod check;
-mod denied;
 mod gathered_answers;
 mod gathered_ending;
 mod gathered_teller;
@@ -56,6 +55,7 @@ pub mod laws;
 mod line;
 mod lister;
 mod perform;
+mod refused_command;
 mod sources;
 mod told;
 mod words;
@@ -67,11 +67,11 @@ pub use advising::{advice, nodes_advice};
 pub use auditor::audit;
 pub use beginnings::{Journal, beginning};
 pub use check::{Check, checked};
-pub use denied::Denied;
 pub use gathered_ending::GatherEnding;
 pub use gathered_teller::gathered;
 pub use journal_files::gather_files;
 pub use lister::listing;
 pub use perform::{CommandEnding, LONGEST_JOURNAL, carry_out};
+pub use refused_command::RefusedCommand;
 pub use sources::{certified, program, utf8};
-pub use words::{FileCommand, ProgramForm, VERSION, Wanted, WordsFault, given_words, read_words};
+pub use words::{FileCommand, ProgramForm, VERSION, Invocation, WordsFault, given_words, read_words};

@@ -8,7 +8,7 @@ ghost use Rattle.q_command.specs.Perform.{Answers, AnswersCheck, AnswersFile, An
 use crate::answer::Answer;
 use crate::auditor::audit;
 use crate::check::{Check, checked};
-use crate::denied::Denied;
+use crate::refused_command::RefusedCommand;
 use crate::lister::listing;
 use crate::sources::{certified, program, utf8};
 use crate::told::{tell_lines, tell_refusal};
@@ -37,7 +37,7 @@ pub enum CommandEnding<'a> {
     /// It wrote its answer and each file, but is strict, and a line was refused.
     LineRefused,
     /// It wrote its refusal.
-    Refused(Denied<'a>),
+    Refused(RefusedCommand<'a>),
     /// The writer failed.
     Unwritten,
 }
@@ -98,7 +98,7 @@ fn computed(
 /// What `sim` prints of a script, whose journals are written. Refused are 87 FileFailed, where the bytes are not UTF-8,
 /// 9 Syntax with the least line of another form, and what [`simulate`] refuses, in this order.
 fn simulated<F: Files>(alloc: Global, source: &[u8], files: &mut F) -> Result<Printed, Refusal>
-    ensures simulated { IfOk result (λ p. IsSimulated F.write_gives source.now files.old (string_bytes p.lines) p.unwritten p.refused files.new) }
+    ensures simulated { IfOk result (λ p. IsSimulated F.write_gives source.now files.old (string_bytes p.lines) p.unsaved p.refused files.new) }
     ensures refused { IfErr result (IsUnsimulated source.now) }
     ensures unbegun { IfErr result (λ r. r ≢ Refusal.OutOfMemory → files.new ≡ files.old) }
 {
@@ -113,13 +113,13 @@ fn read<'a, F: Files>(
     file: &'a str,
     most: usize,
     files: &mut F,
-) -> Result<Vec<u8>, Denied<'a>>
+) -> Result<Vec<u8>, RefusedCommand<'a>>
     ensures read { IfOk result (λ bytes. F.read_gives most files.old file.now (Ok bytes.items) files.new) }
-    ensures refused { IfErr result (λ denied. IsUnread (F.read_gives most) file.now files.old denied files.new) }
+    ensures refused { IfErr result (λ refused. IsUnread (F.read_gives most) file.now files.old refused files.new) }
 {
     match files.read(alloc, file, most) {
         Ok(bytes) => Ok(bytes),
-        Err(fault) => Err(Denied {
+        Err(fault) => Err(RefusedCommand {
             refusal: Refusal::from(fault),
             file,
             bytes: Vec::new(alloc),
@@ -128,17 +128,17 @@ fn read<'a, F: Files>(
 }
 
 /// What was made of the bytes of a file; or its refusal, with those bytes.
-fn or_denied<'a, T>(
+fn or_refused<'a, T>(
     made: Result<T, Refusal>,
     file: &'a str,
     bytes: Vec<u8>,
-) -> Result<T, Denied<'a>>
+) -> Result<T, RefusedCommand<'a>>
     ensures made { IfOk result (λ it. made ≡ Ok it) }
-    ensures refused { IfErr result (λ denied. (made ≡ Err denied.refusal) × (denied.file.now ≡ file.now) × (denied.bytes.items ≡ bytes.items)) }
+    ensures refused { IfErr result (λ refused. (made ≡ Err refused.refusal) × (refused.file.now ≡ file.now) × (refused.bytes.items ≡ bytes.items)) }
 {
     match made {
         Ok(it) => Ok(it),
-        Err(refusal) => Err(Denied {
+        Err(refusal) => Err(RefusedCommand {
             refusal,
             file,
             bytes,
@@ -148,12 +148,12 @@ fn or_denied<'a, T>(
 
 /// What a command prints that writes no file and of which no line is refused.
 fn told(alloc: Global, lines: String) -> Answer
-    ensures { (result.printed.lines ≡ lines) × (result.printed.unwritten ≡ false) × (result.printed.refused ≡ false) }
+    ensures { (result.printed.lines ≡ lines) × (result.printed.unsaved ≡ false) × (result.printed.refused ≡ false) }
 {
     Answer {
         printed: Printed {
             lines,
-            unwritten: false,
+            unsaved: false,
             refused: false,
             faults: Vec::new(alloc),
         },
@@ -191,13 +191,13 @@ fn file_answer<'a, F: Files>(
     file: &'a str,
     most: usize,
     files: &mut F,
-) -> Result<Answer, Denied<'a>>
-    ensures answered { IfOk result (λ p. AnswersFile (F.read_gives most) (Makes work) file.now files.old (string_bytes p.printed.lines) p.printed.unwritten p.printed.refused files.new) }
-    ensures refused { IfErr result (λ denied. RefusesFile (F.read_gives most) (IsUnmade work) file.now files.old denied files.new) }
+) -> Result<Answer, RefusedCommand<'a>>
+    ensures answered { IfOk result (λ p. AnswersFile (F.read_gives most) (Makes work) file.now files.old (string_bytes p.printed.lines) p.printed.unsaved p.printed.refused files.new) }
+    ensures refused { IfErr result (λ refused. RefusesFile (F.read_gives most) (IsUnmade work) file.now files.old refused files.new) }
 {
     let bytes = read(alloc, file, most, files)?;
     let lines = made(alloc, work, bytes.as_slice());
-    Ok(told(alloc, or_denied(lines, file, bytes)?))
+    Ok(told(alloc, or_refused(lines, file, bytes)?))
 }
 
 /// What `check` prints.
@@ -206,14 +206,14 @@ fn check_answer<'a, F: Files>(
     file: &'a str,
     check: &Check<'_>,
     files: &mut F,
-) -> Result<Answer, Denied<'a>>
-    ensures answered { IfOk result (λ p. AnswersCheck (F.read_gives longest_text) F.write_gives check.now file.now files.old (string_bytes p.printed.lines) p.printed.unwritten p.printed.refused files.new) }
-    ensures refused { IfErr result (λ denied. RefusesBeforeWrites (F.read_gives longest_text) (IsUnaccepted check.now.form check.now.lengths) file.now files.old denied files.new) }
+) -> Result<Answer, RefusedCommand<'a>>
+    ensures answered { IfOk result (λ p. AnswersCheck (F.read_gives longest_text) F.write_gives check.now file.now files.old (string_bytes p.printed.lines) p.printed.unsaved p.printed.refused files.new) }
+    ensures refused { IfErr result (λ refused. RefusesBeforeWrites (F.read_gives longest_text) (IsUnaccepted check.now.form check.now.lengths) file.now files.old refused files.new) }
 {
     let source = read(alloc, file, LONGEST_TEXT, files)?;
     let printed = checked(alloc, check, source.as_slice(), files);
     Ok(Answer {
-        printed: or_denied(printed, file, source)?,
+        printed: or_refused(printed, file, source)?,
         source: Vec::new(alloc),
     })
 }
@@ -225,16 +225,16 @@ fn certified_file<'a, F: Files>(
     form: ProgramForm,
     lengths: Bounds,
     files: &mut F,
-) -> Result<Certified, Denied<'a>>
+) -> Result<Certified, RefusedCommand<'a>>
     ensures certified { IfOk result (λ c. (source : List ℕ) × F.read_gives longest_text files.old file.now (Ok source) files.new × Spells form source c.text) }
     ensures lengths { IfOk result (λ c. c.lengths ≡ lengths) }
     ensures passes { IfOk result (λ c. Passes lengths c.text c.notes) }
     ensures least { IfOk result (λ c. AreLeast lengths c.text c.notes) }
-    ensures refused { IfErr result (λ denied. RefusesFile (F.read_gives longest_text) (IsUnaccepted form lengths) file.now files.old denied files.new) }
+    ensures refused { IfErr result (λ refused. RefusesFile (F.read_gives longest_text) (IsUnaccepted form lengths) file.now files.old refused files.new) }
 {
     let source = read(alloc, file, LONGEST_TEXT, files)?;
     let certified = certified(alloc, form, source.as_slice(), lengths);
-    or_denied(certified, file, source)
+    or_refused(certified, file, source)
 }
 
 /// What `run` prints of a program over the records of a file.
@@ -244,13 +244,13 @@ fn computed_file<'a, F: Files>(
     start: u64,
     records: &'a str,
     files: &mut F,
-) -> Result<Answer, Denied<'a>>
-    ensures answered { IfOk result (λ p. (held : _) (source : List ℕ) → Spells held source certified.now.text → AnswersFile (F.read_gives longest_text) (Computes held certified.now.lengths source start) records.now files.old (string_bytes p.printed.lines) p.printed.unwritten p.printed.refused files.new) }
-    ensures refused { IfErr result (λ denied. RefusesFile (F.read_gives longest_text) (IsUnlisted certified.now.lengths) records.now files.old denied files.new) }
+) -> Result<Answer, RefusedCommand<'a>>
+    ensures answered { IfOk result (λ p. (held : _) (source : List ℕ) → Spells held source certified.now.text → AnswersFile (F.read_gives longest_text) (Computes held certified.now.lengths source start) records.now files.old (string_bytes p.printed.lines) p.printed.unsaved p.printed.refused files.new) }
+    ensures refused { IfErr result (λ refused. RefusesFile (F.read_gives longest_text) (IsUnlisted certified.now.lengths) records.now files.old refused files.new) }
 {
     let listed = read(alloc, records, LONGEST_TEXT, files)?;
     let lines = computed(alloc, certified, start, listed.as_slice());
-    Ok(told(alloc, or_denied(lines, records, listed)?))
+    Ok(told(alloc, or_refused(lines, records, listed)?))
 }
 
 /// What `run` prints.
@@ -262,9 +262,9 @@ fn run_answer<'a, F: Files>(
     records: &'a str,
     lengths: Bounds,
     files: &mut F,
-) -> Result<Answer, Denied<'a>>
-    ensures answered { IfOk result (λ p. AnswersRun (F.read_gives longest_text) form lengths file.now start records.now files.old (string_bytes p.printed.lines) p.printed.unwritten p.printed.refused files.new) }
-    ensures refused { IfErr result (λ denied. RefusesRun (F.read_gives longest_text) form lengths file.now records.now files.old denied files.new) }
+) -> Result<Answer, RefusedCommand<'a>>
+    ensures answered { IfOk result (λ p. AnswersRun (F.read_gives longest_text) form lengths file.now start records.now files.old (string_bytes p.printed.lines) p.printed.unsaved p.printed.refused files.new) }
+    ensures refused { IfErr result (λ refused. RefusesRun (F.read_gives longest_text) form lengths file.now records.now files.old refused files.new) }
 {
     let certified = certified_file(alloc, file, form, lengths, files)?;
     computed_file(alloc, &certified, start, records, files)
@@ -275,14 +275,14 @@ fn sim_answer<'a, F: Files>(
     alloc: Global,
     script: &'a str,
     files: &mut F,
-) -> Result<Answer, Denied<'a>>
-    ensures answered { IfOk result (λ p. AnswersScript (F.read_gives longest_text) F.write_gives script.now files.old (string_bytes p.printed.lines) p.printed.unwritten p.printed.refused files.new) }
-    ensures refused { IfErr result (λ denied. RefusesBeforeWrites (F.read_gives longest_text) IsUnsimulated script.now files.old denied files.new) }
+) -> Result<Answer, RefusedCommand<'a>>
+    ensures answered { IfOk result (λ p. AnswersScript (F.read_gives longest_text) F.write_gives script.now files.old (string_bytes p.printed.lines) p.printed.unsaved p.printed.refused files.new) }
+    ensures refused { IfErr result (λ refused. RefusesBeforeWrites (F.read_gives longest_text) IsUnsimulated script.now files.old refused files.new) }
 {
     let source = read(alloc, script, LONGEST_TEXT, files)?;
     match simulated(alloc, source.as_slice(), files) {
         Ok(printed) => Ok(Answer { printed, source }),
-        Err(refusal) => Err(Denied {
+        Err(refusal) => Err(RefusedCommand {
             refusal,
             file: script,
             bytes: source,
@@ -295,9 +295,9 @@ fn answer<'a, F: Files>(
     alloc: Global,
     line: &FileCommand<'a>,
     files: &mut F,
-) -> Result<Answer, Denied<'a>>
-    ensures answered { IfOk result (λ p. Answers F.read_gives F.write_gives line.now files.old (string_bytes p.printed.lines) p.printed.unwritten p.printed.refused files.new) }
-    ensures refused { IfErr result (λ denied. Refuses F.read_gives line.now files.old denied files.new) }
+) -> Result<Answer, RefusedCommand<'a>>
+    ensures answered { IfOk result (λ p. Answers F.read_gives F.write_gives line.now files.old (string_bytes p.printed.lines) p.printed.unsaved p.printed.refused files.new) }
+    ensures refused { IfErr result (λ refused. Refuses F.read_gives line.now files.old refused files.new) }
 {
     match line {
         FileCommand::Asm { file } => file_answer(alloc, Work::Listing, file, LONGEST_TEXT, files),
@@ -334,10 +334,10 @@ fn answer<'a, F: Files>(
 }
 
 /// How a command ends that wrote its answer. That a file was not written comes before a line that was refused.
-fn end_of<'a>(is_strict: bool, unwritten: bool, refused: bool) -> CommandEnding<'a>
-    ensures { result ≡ end_of is_strict unwritten refused }
+fn end_of<'a>(is_strict: bool, unsaved: bool, refused: bool) -> CommandEnding<'a>
+    ensures { result ≡ end_of is_strict unsaved refused }
 {
-    if unwritten {
+    if unsaved {
         return CommandEnding::Unsaved;
     }
     if is_strict && refused {
@@ -365,20 +365,20 @@ pub fn carry_out<'a, F: Files, W: Write, N: Write>(
             let written = out.put(answer.printed.lines.as_bytes());
             tell_lines(alloc, line, &answer, notes);
             let Printed {
-                unwritten,
+                unsaved,
                 refused,
                 ..
             } = answer.printed;
             match written {
-                Ok(()) => end_of(line.is_strict(), unwritten, refused),
+                Ok(()) => end_of(line.is_strict(), unsaved, refused),
                 Err(_) => CommandEnding::Unwritten,
             }
         }
-        Err(denied) => {
-            let written = put_refusal(out, &denied.refusal);
-            tell_refusal(alloc, line, &denied, notes);
+        Err(refused) => {
+            let written = put_refusal(out, &refused.refusal);
+            tell_refusal(alloc, line, &refused, notes);
             match written {
-                Ok(()) => CommandEnding::Refused(denied),
+                Ok(()) => CommandEnding::Refused(refused),
                 Err(_) => CommandEnding::Unwritten,
             }
         }

@@ -2,7 +2,7 @@
 
 use crate::advising::advice;
 use crate::answer::Answer;
-use crate::denied::Denied;
+use crate::refused_command::RefusedCommand;
 use crate::line::text_of;
 use crate::words::FileCommand;
 use q_sim::{RefusedLine, write_refused_line};
@@ -20,10 +20,10 @@ fn tell<N: Write>(text: Result<String, AllocError>, notes: &mut N) {
 pub(crate) fn tell_refusal<N: Write>(
     alloc: Global,
     line: &FileCommand<'_>,
-    denied: &Denied<'_>,
+    refused: &RefusedCommand<'_>,
     notes: &mut N,
 ) {
-    if let Ok(Some(text)) = advice(alloc, line, denied) {
+    if let Ok(Some(text)) = advice(alloc, line, refused) {
         tell(Ok(text), notes);
     }
 }

@@ -101,7 +101,7 @@ impl FileCommand<'_> {
 
 /// What the words of a command line ask for.
 #[derive(Drop)]
-pub enum Wanted<'a> {
+pub enum Invocation<'a> {
     /// A command over files.
     FileCommand(FileCommand<'a>),
     /// `cluster SCRIPT`: run a script by a thread for each node.
@@ -547,8 +547,8 @@ fn over_program<'a>(notes: Option<&'a str>, file: &str) -> Option<&'a str>
 }
 
 /// The command `check` with what was found for its operands.
-fn check_line<'a>(found: &ArgMatches<'a>) -> Result<Wanted<'a>, WordsFault<'a>>
-    ensures { MatchResult result (λ wanted. IsMet wanted (codes "check", rows_of (found_of found.now))) (λ e. HasLineFault e (codes "check", rows_of (found_of found.now))) }
+fn check_line<'a>(found: &ArgMatches<'a>) -> Result<Invocation<'a>, WordsFault<'a>>
+    ensures { MatchResult result (λ invocation. IsMet invocation (codes "check", rows_of (found_of found.now))) (λ e. HasLineFault e (codes "check", rows_of (found_of found.now))) }
 {
     let Some(lengths) = lengths(found) else {
         return Err(bad_lengths(found, "check"));
@@ -558,7 +558,7 @@ fn check_line<'a>(found: &ArgMatches<'a>) -> Result<Wanted<'a>, WordsFault<'a>>
     if let Some(notes) = over_program(notes, file) {
         return Err(WordsFault::NotesOverProgram { notes });
     }
-    Ok(Wanted::FileCommand(FileCommand::Check {
+    Ok(Invocation::FileCommand(FileCommand::Check {
         file,
         form: program_form(found),
         lengths,
@@ -568,8 +568,8 @@ fn check_line<'a>(found: &ArgMatches<'a>) -> Result<Wanted<'a>, WordsFault<'a>>
 }
 
 /// The command `run` with what was found for its operands.
-fn run_line<'a>(found: &ArgMatches<'a>) -> Result<Wanted<'a>, WordsFault<'a>>
-    ensures { MatchResult result (λ wanted. IsMet wanted (codes "run", rows_of (found_of found.now))) (λ e. HasLineFault e (codes "run", rows_of (found_of found.now))) }
+fn run_line<'a>(found: &ArgMatches<'a>) -> Result<Invocation<'a>, WordsFault<'a>>
+    ensures { MatchResult result (λ invocation. IsMet invocation (codes "run", rows_of (found_of found.now))) (λ e. HasLineFault e (codes "run", rows_of (found_of found.now))) }
 {
     let text = operand_text(found, "START");
     let Some(start) = number(text) else {
@@ -578,7 +578,7 @@ fn run_line<'a>(found: &ArgMatches<'a>) -> Result<Wanted<'a>, WordsFault<'a>>
     let Some(lengths) = lengths(found) else {
         return Err(bad_lengths(found, "run"));
     };
-    Ok(Wanted::FileCommand(FileCommand::Run {
+    Ok(Invocation::FileCommand(FileCommand::Run {
         file: operand_text(found, "FILE"),
         form: program_form(found),
         start,
@@ -588,20 +588,20 @@ fn run_line<'a>(found: &ArgMatches<'a>) -> Result<Wanted<'a>, WordsFault<'a>>
 }
 
 /// The command `sim` with what was found for its operand and its flag.
-fn sim_line<'a>(found: &ArgMatches<'a>) -> Wanted<'a>
+fn sim_line<'a>(found: &ArgMatches<'a>) -> Invocation<'a>
     ensures { IsMet result (codes "sim", rows_of (found_of found.now)) }
 {
-    Wanted::FileCommand(FileCommand::Sim {
+    Invocation::FileCommand(FileCommand::Sim {
         script: operand_text(found, "SCRIPT"),
         strict: is_given(found, "strict"),
     })
 }
 
 /// The command `cluster` with what was found for its operand and its flag.
-fn cluster_line<'a>(found: &ArgMatches<'a>) -> Wanted<'a>
+fn cluster_line<'a>(found: &ArgMatches<'a>) -> Invocation<'a>
     ensures { IsMet result (codes "cluster", rows_of (found_of found.now)) }
 {
-    Wanted::Cluster {
+    Invocation::Cluster {
         script: operand_text(found, "SCRIPT"),
         strict: is_given(found, "strict"),
     }
@@ -623,11 +623,11 @@ fn operand_texts<'a>(
 }
 
 /// The command `gather` with what was found for its operand and its flag.
-fn gather_line<'a>(alloc: Global, found: &ArgMatches<'a>) -> Result<Wanted<'a>, WordsFault<'a>>
-    ensures { MatchResult result (λ wanted. IsMet wanted (codes "gather", rows_of (found_of found.now))) (λ e. HasLineFault e (codes "gather", rows_of (found_of found.now))) }
+fn gather_line<'a>(alloc: Global, found: &ArgMatches<'a>) -> Result<Invocation<'a>, WordsFault<'a>>
+    ensures { MatchResult result (λ invocation. IsMet invocation (codes "gather", rows_of (found_of found.now))) (λ e. HasLineFault e (codes "gather", rows_of (found_of found.now))) }
 {
     let journals = operand_texts(alloc, found, "JOURNAL")?;
-    Ok(Wanted::Gather {
+    Ok(Invocation::Gather {
         journals,
         pairs: is_given(found, "pairs"),
     })
@@ -645,8 +645,8 @@ fn runners(text: &str) -> Option<usize>
 }
 
 /// The command `node` with what was found for its operands and options.
-fn node_line<'a>(found: &ArgMatches<'a>) -> Result<Wanted<'a>, WordsFault<'a>>
-    ensures { MatchResult result (λ wanted. IsMet wanted (codes "node", rows_of (found_of found.now))) (λ e. HasLineFault e (codes "node", rows_of (found_of found.now))) }
+fn node_line<'a>(found: &ArgMatches<'a>) -> Result<Invocation<'a>, WordsFault<'a>>
+    ensures { MatchResult result (λ invocation. IsMet invocation (codes "node", rows_of (found_of found.now))) (λ e. HasLineFault e (codes "node", rows_of (found_of found.now))) }
 {
     let id_text = operand_text(found, "ID");
     let Some(id) = number(id_text) else {
@@ -658,7 +658,7 @@ fn node_line<'a>(found: &ArgMatches<'a>) -> Result<Wanted<'a>, WordsFault<'a>>
             runners: runners_text,
         });
     };
-    Ok(Wanted::Node(NodeWords {
+    Ok(Invocation::Node(NodeWords {
         file: operand_text(found, "FILE"),
         id,
         clients: operand_text(found, "clients"),
@@ -669,11 +669,11 @@ fn node_line<'a>(found: &ArgMatches<'a>) -> Result<Wanted<'a>, WordsFault<'a>>
 }
 
 /// The command `client` with what was found for its operands and its flag.
-fn client_line<'a>(found: &ArgMatches<'a>) -> Wanted<'a>
+fn client_line<'a>(found: &ArgMatches<'a>) -> Invocation<'a>
     ensures { IsMet result (codes "client", rows_of (found_of found.now)) }
 {
     let strict = is_given(found, "strict");
-    Wanted::Client {
+    Invocation::Client {
         place: operand_text(found, "ADDR"),
         script: operand_text(found, "SCRIPT"),
         strict,
@@ -696,22 +696,22 @@ fn wanted_of<'a>(
     alloc: Global,
     name: &str,
     found: &ArgMatches<'a>,
-) -> Result<Wanted<'a>, WordsFault<'a>>
+) -> Result<Invocation<'a>, WordsFault<'a>>
     requires { IsOneOf name.now commands }
-    ensures { MatchResult result (λ wanted. IsMet wanted (name.now, rows_of (found_of found.now))) (λ e. HasLineFault e (name.now, rows_of (found_of found.now))) }
+    ensures { MatchResult result (λ invocation. IsMet invocation (name.now, rows_of (found_of found.now))) (λ e. HasLineFault e (name.now, rows_of (found_of found.now))) }
 {
     match name {
-        "asm" => Ok(Wanted::FileCommand(FileCommand::Asm {
+        "asm" => Ok(Invocation::FileCommand(FileCommand::Asm {
             file: operand_text(found, "FILE"),
         })),
-        "dis" => Ok(Wanted::FileCommand(FileCommand::Dis {
+        "dis" => Ok(Invocation::FileCommand(FileCommand::Dis {
             file: operand_text(found, "FILE"),
         })),
         "check" => check_line(found),
         "run" => run_line(found),
         "sim" => Ok(sim_line(found)),
         "cluster" => Ok(cluster_line(found)),
-        "audit" => Ok(Wanted::FileCommand(FileCommand::Audit {
+        "audit" => Ok(Invocation::FileCommand(FileCommand::Audit {
             journal: operand_text(found, "JOURNAL"),
         })),
         "gather" => gather_line(alloc, found),
@@ -722,7 +722,7 @@ fn wanted_of<'a>(
 }
 
 /// Reads the words of the command line, of which the first is the program's name.
-pub fn read_words<'a, S: AsStr>(alloc: Global, words: &'a [S]) -> Result<Wanted<'a>, WordsFault<'a>>
+pub fn read_words<'a, S: AsStr>(alloc: Global, words: &'a [S]) -> Result<Invocation<'a>, WordsFault<'a>>
     ensures { Reads (map S.text words.entry.now) result }
 {
     let matches = program(alloc)?.try_get_matches_from(words)?;

@@ -22,7 +22,7 @@ ghost use Rattle.q_command.specs.Audit.{answer_lines};
 ghost use Rattle.q_command.specs.Listing.{listing_of};
 ghost use Rattle.q_command.specs.Perform.{Accepts, Answers, AnswersRun, Disassembles, Ends, IsProgram, IsUnaccepted, IsUnspelled, Refuses, RefusesFile, SavesNotes, Spells, acceptance, end_of, failures_after, status_of};
 ghost use Rattle.q_command.specs.declared.check.Check.{Check as Checking};
-ghost use Rattle.q_command.specs.declared.denied.Denied.{Denied};
+ghost use Rattle.q_command.specs.declared.refused_command.RefusedCommand.{RefusedCommand};
 ghost use Rattle.q_command.specs.declared.perform.CommandEnding.TheVariants as ending;
 
 /// What the definitions say of programs, journals, answers, refusals and ends, over files in memory.
@@ -36,13 +36,13 @@ pub fn worked()
 
     // `dis` writes the assembler text of a program of which it is given the bytes, and does not read these as text.
     ensures disassembled { (lines : List ℕ) → Disassembles (149 ∷ replicate 7 0) lines → lines ≡ codes "exit\n" }
-    ensures dis_is_of_bytes { (file denied : _) (old new : Memory) → file.now ≡ codes "a"
+    ensures dis_is_of_bytes { (file command_refused : _) (old new : Memory) → file.now ≡ codes "a"
         → fails_next old.passing ≡ false → bytes_of old.files (codes "a") ≡ Some (149 ∷ replicate 7 0)
-        → denied.refusal ≡ refused.FileFailed → Refuses Reads (command.Dis file) old denied new → ⊥ }
+        → command_refused.refusal ≡ refused.FileFailed → Refuses Reads (command.Dis file) old command_refused new → ⊥ }
 
     // `check` reads the form that is asked for: of bytes those of a program, which it does not refuse as no text.
-    ensures checked_as_bytes { (asked : Checking) (source lines : List ℕ) (unwritten : Bool) (old new : Memory)
-        → asked.form ≡ form.Bytes → Accepts (Writes {X = Unit {0}}) asked source old lines unwritten new
+    ensures checked_as_bytes { (asked : Checking) (source lines : List ℕ) (unsaved : Bool) (old new : Memory)
+        → asked.form ≡ form.Bytes → Accepts (Writes {X = Unit {0}}) asked source old lines unsaved new
         → (text : List Insn) × (source ≡ spelling text) }
     ensures not_checked_as_text { (lengths : Interval) (source : List ℕ)
         → IsUnaccepted form.Bytes lengths source refused.FileFailed → ⊥ }
@@ -52,9 +52,9 @@ pub fn worked()
         → acceptance false text notes 7 ≡ codes "accepted longest 7\n" }
     ensures accepted_with_states { acceptance true (insn.Exit ∷ []) (None ∷ []) 1
         ≡ codes "accepted longest 1\nunit 0: exit\n" }
-    ensures unasked { (asked : Checking) (source lines : List ℕ) (unwritten : Bool) (old new : Memory)
+    ensures unasked { (asked : Checking) (source lines : List ℕ) (unsaved : Bool) (old new : Memory)
         → asked.states ≡ false → asked.notes ≡ None
-        → (h : Accepts (Writes {X = Unit {0}}) asked source old lines unwritten new)
+        → (h : Accepts (Writes {X = Unit {0}}) asked source old lines unsaved new)
         → h.longest ≡ 1 → lines ≡ codes "accepted longest 1\n" }
     ensures failed_is_unsaved { (old new : Memory) (name notes told : _)
         → SavesNotes (Writes {X = Unit {0}}) (Some name) notes told old (told ++ codes "refused 87 FileFailed\n") false new
@@ -67,7 +67,7 @@ pub fn worked()
 
     // Answers and refusals.
     ensures records_of_their_file { (lengths : Interval) (program records lines : List ℕ) (start : ℕ) (old new : Memory) → AnswersRun (Reads 99) form.Text lengths program start records old lines false false new → (between : Memory) × (bytes : List ℕ) × Reads 99 between records (Ok bytes) new }
-    ensures refused_bytes { (denied : Denied) (old new : Memory) → fails_next old.passing ≡ false → bytes_of old.files (codes "a") ≡ Some (255 ∷ []) → denied.refusal ≡ refused.FileFailed → RefusesFile (Reads 99) (IsUnspelled form.Text) (codes "a") old denied new → denied.bytes.items ≡ 255 ∷ [] }
+    ensures refused_bytes { (command_refused : RefusedCommand) (old new : Memory) → fails_next old.passing ≡ false → bytes_of old.files (codes "a") ≡ Some (255 ∷ []) → command_refused.refusal ≡ refused.FileFailed → RefusesFile (Reads 99) (IsUnspelled form.Text) (codes "a") old command_refused new → command_refused.bytes.items ≡ 255 ∷ [] }
     ensures no_advice_of_text { (told text : List ℕ) → IsUtf8 text → IsToldOf refused.FileFailed text (Some told) → ⊥ }
 
     // Ends.
@@ -79,5 +79,5 @@ pub fn worked()
     ensures after_a_refused_line { status_of ending.LineRefused ≡ 1 }
     ensures given_up { failures_after ending.Unwritten 4 ≡ 5 }
     ensures went_well { failures_after ending.Answered 4 ≡ 4 }
-    ensures after_a_refusal { (denied : Denied) → status_of (ending.Refused denied) ≡ 1 }
+    ensures after_a_refusal { (command_refused : RefusedCommand) → status_of (ending.Refused command_refused) ≡ 1 }
 {}

@@ -10,7 +10,7 @@ ghost use Rattle.q_script.specs.Words.{IsNumeral};
 ghost use Rattle.q_command.specs.Words.{AreGiven, AreOverProgram, HasCommand, HasLineFault, HasNode, HasProgram, IsMet, IsRunners, Reads, TellsUngiven, bqview, exit_status, form_of, is_given, is_strict, operand_of, operands_of};
 ghost use Rattle.q_command.specs.declared.words.ProgramForm.TheVariants as form;
 ghost use Rattle.q_command.specs.declared.words.FileCommand.TheVariants as line;
-ghost use Rattle.q_command.specs.declared.words.Wanted.TheVariants as wanted;
+ghost use Rattle.q_command.specs.declared.words.Invocation.TheVariants as invocation;
 ghost use Rattle.q_command.specs.declared.words.WordsFault.TheVariants as fault;
 
 /// Which command each word names, with its operands and its flag, and which numbers are the lengths of records. No two
@@ -32,21 +32,21 @@ pub fn worked()
     ensures least { (rows : List Row) (lengths : Interval) → AreGiven rows lengths → IsNumeral (operand_of (codes "least") rows) lengths.lo }
     ensures most { (rows : List Row) (lengths : Interval) → AreGiven rows lengths → IsNumeral (operand_of (codes "most") rows) lengths.hi }
     ensures sim { (rows : List Row) (script : _) (strict : Bool) → script.now ≡ operand_of (codes "SCRIPT") rows → strict ≡ is_given (codes "strict") rows → HasCommand (line.Sim script strict) (codes "sim", rows) }
-    ensures cluster { (rows : List Row) (script : _) (strict : Bool) → script.now ≡ operand_of (codes "SCRIPT") rows → strict ≡ is_given (codes "strict") rows → IsMet (wanted.Cluster script strict) (codes "cluster", rows) }
-    ensures cluster_is_no_sim { (rows : List Row) (script : _) (strict : Bool) → IsMet (wanted.Cluster script strict) (codes "sim", rows) → ⊥ }
-    ensures sim_is_no_cluster { (rows : List Row) (script : _) (strict : Bool) → IsMet (wanted.FileCommand (line.Sim script strict)) (codes "cluster", rows) → ⊥ }
+    ensures cluster { (rows : List Row) (script : _) (strict : Bool) → script.now ≡ operand_of (codes "SCRIPT") rows → strict ≡ is_given (codes "strict") rows → IsMet (invocation.Cluster script strict) (codes "cluster", rows) }
+    ensures cluster_is_no_sim { (rows : List Row) (script : _) (strict : Bool) → IsMet (invocation.Cluster script strict) (codes "sim", rows) → ⊥ }
+    ensures sim_is_no_cluster { (rows : List Row) (script : _) (strict : Bool) → IsMet (invocation.FileCommand (line.Sim script strict)) (codes "cluster", rows) → ⊥ }
     ensures strict { option_map (λ met. is_given (codes "strict") met.1) (subcommand_of bqview (codes "bqview" ∷ codes "sim" ∷ codes "--strict" ∷ codes "a" ∷ [])) ≡ Some true }
     ensures not_strict { option_map (λ met. is_given (codes "strict") met.1) (subcommand_of bqview (codes "bqview" ∷ codes "cluster" ∷ codes "a" ∷ [])) ≡ Some false }
     ensures strict_sim { (script : _) (strict : Bool) → is_strict (line.Sim script strict) ≡ strict }
     ensures audits_are_not_strict { (journal : _) → is_strict (line.Audit journal) ≡ false }
     ensures audit { (rows : List Row) (journal : _) → journal.now ≡ operand_of (codes "JOURNAL") rows → HasCommand (line.Audit journal) (codes "audit", rows) }
-    ensures gather { (rows : List Row) (journals : _) (pairs : Bool) → map (λ name. name.now) journals.items ≡ operands_of (codes "JOURNAL") rows → pairs ≡ is_given (codes "pairs") rows → IsMet (wanted.Gather journals pairs) (codes "gather", rows) }
-    ensures gather_is_no_audit { (rows : List Row) (journals : _) (pairs : Bool) → IsMet (wanted.Gather journals pairs) (codes "audit", rows) → ⊥ }
+    ensures gather { (rows : List Row) (journals : _) (pairs : Bool) → map (λ name. name.now) journals.items ≡ operands_of (codes "JOURNAL") rows → pairs ≡ is_given (codes "pairs") rows → IsMet (invocation.Gather journals pairs) (codes "gather", rows) }
+    ensures gather_is_no_audit { (rows : List Row) (journals : _) (pairs : Bool) → IsMet (invocation.Gather journals pairs) (codes "audit", rows) → ⊥ }
     ensures journals { option_map (λ met. operands_of (codes "JOURNAL") met.1) (subcommand_of bqview (codes "bqview" ∷ codes "gather" ∷ codes "b" ∷ codes "a" ∷ codes "b" ∷ [])) ≡ Some (codes "b" ∷ codes "a" ∷ codes "b" ∷ []) }
     ensures pairs { option_map (λ met. is_given (codes "pairs") met.1) (subcommand_of bqview (codes "bqview" ∷ codes "gather" ∷ codes "a" ∷ codes "--pairs" ∷ [])) ≡ Some true }
     ensures no_pairs { option_map (λ met. is_given (codes "pairs") met.1) (subcommand_of bqview (codes "bqview" ∷ codes "gather" ∷ codes "a" ∷ [])) ≡ Some false }
-    ensures node { (rows : List Row) (line : _) → HasNode line rows → IsMet (wanted.Node line) (codes "node", rows) }
-    ensures node_is_no_client { (rows : List Row) (line : _) → IsMet (wanted.Node line) (codes "client", rows) → ⊥ }
+    ensures node { (rows : List Row) (line : _) → HasNode line rows → IsMet (invocation.Node line) (codes "node", rows) }
+    ensures node_is_no_client { (rows : List Row) (line : _) → IsMet (invocation.Node line) (codes "client", rows) → ⊥ }
     ensures id { option_map (λ met. operand_of (codes "ID") met.1) (subcommand_of bqview (codes "bqview" ∷ codes "node" ∷ codes "a" ∷ codes "7" ∷ codes "--clients" ∷ codes "b" ∷ codes "--journal" ∷ codes "c" ∷ [])) ≡ Some (codes "7") }
     ensures clients { option_map (λ met. operand_of (codes "clients") met.1) (subcommand_of bqview (codes "bqview" ∷ codes "node" ∷ codes "a" ∷ codes "7" ∷ codes "--clients" ∷ codes "b" ∷ codes "--journal" ∷ codes "c" ∷ [])) ≡ Some (codes "b") }
     ensures two_runners { option_map (λ met. operand_of (codes "runners") met.1) (subcommand_of bqview (codes "bqview" ∷ codes "node" ∷ codes "a" ∷ codes "7" ∷ codes "--clients" ∷ codes "b" ∷ codes "--journal" ∷ codes "c" ∷ [])) ≡ Some (codes "2") }
@@ -58,8 +58,8 @@ pub fn worked()
     ensures too_many_runners { IsRunners (codes "65") 65 → ⊥ }
     ensures bad_id { (rows : List Row) (id : _) → HasLineFault (fault.BadId id) (codes "node", rows) → id.now ≡ operand_of (codes "ID") rows }
     ensures bad_runners { (rows : List Row) (runners : _) → HasLineFault (fault.BadRunners runners) (codes "node", rows) → runners.now ≡ operand_of (codes "runners") rows }
-    ensures client { (rows : List Row) (place script : _) (strict : Bool) → place.now ≡ operand_of (codes "ADDR") rows → script.now ≡ operand_of (codes "SCRIPT") rows → strict ≡ is_given (codes "strict") rows → IsMet (wanted.Client place script strict) (codes "client", rows) }
-    ensures client_is_no_cluster { (rows : List Row) (place script : _) (strict : Bool) → IsMet (wanted.Client place script strict) (codes "cluster", rows) → ⊥ }
+    ensures client { (rows : List Row) (place script : _) (strict : Bool) → place.now ≡ operand_of (codes "ADDR") rows → script.now ≡ operand_of (codes "SCRIPT") rows → strict ≡ is_given (codes "strict") rows → IsMet (invocation.Client place script strict) (codes "client", rows) }
+    ensures client_is_no_cluster { (rows : List Row) (place script : _) (strict : Bool) → IsMet (invocation.Client place script strict) (codes "cluster", rows) → ⊥ }
     ensures place { option_map (λ met. operand_of (codes "ADDR") met.1) (subcommand_of bqview (codes "bqview" ∷ codes "client" ∷ codes "a" ∷ codes "b" ∷ [])) ≡ Some (codes "a") }
     ensures client_script { option_map (λ met. operand_of (codes "SCRIPT") met.1) (subcommand_of bqview (codes "bqview" ∷ codes "client" ∷ codes "--strict" ∷ codes "a" ∷ codes "b" ∷ [])) ≡ Some (codes "b") }
     ensures not_utf8 { (error : _) → error_kind error ≡ kind.InvalidData → TellsUngiven error fault.NotUtf8 }
@@ -73,25 +73,25 @@ pub fn worked()
 pub fn worked_lines()
     // A client finds its node at the first word, and not at that of its script; it is strict where that is asked.
     ensures place { (place script : _) (strict : Bool)
-        → Reads (codes "bqview" ∷ codes "client" ∷ codes "a" ∷ codes "b" ∷ []) (Ok (wanted.Client place script strict))
+        → Reads (codes "bqview" ∷ codes "client" ∷ codes "a" ∷ codes "b" ∷ []) (Ok (invocation.Client place script strict))
         → place.now ≡ codes "a" }
     ensures strict_client { (place script : _)
         → Reads (codes "bqview" ∷ codes "client" ∷ codes "--strict" ∷ codes "a" ∷ codes "b" ∷ [])
-        (Ok (wanted.Client place script false)) → ⊥ }
+        (Ok (invocation.Client place script false)) → ⊥ }
 
     // A node writes its journal to the file that `--journal` names, and not over the file of the cluster.
     ensures journal { (line : _)
         → Reads (codes "bqview" ∷ codes "node" ∷ codes "a" ∷ codes "7" ∷ codes "--clients" ∷ codes "b"
-        ∷ codes "--journal" ∷ codes "c" ∷ []) (Ok (wanted.Node line))
+        ∷ codes "--journal" ∷ codes "c" ∷ []) (Ok (invocation.Node line))
         → line.journal.now ≡ codes "c" }
 
     // It keeps its journal on the disk where that is asked, and runs programs by no more than 64 threads.
     ensures sync { (line : _)
         → Reads (codes "bqview" ∷ codes "node" ∷ codes "a" ∷ codes "7" ∷ codes "--clients" ∷ codes "b"
-        ∷ codes "--journal" ∷ codes "c" ∷ codes "--sync" ∷ []) (Ok (wanted.Node line))
+        ∷ codes "--journal" ∷ codes "c" ∷ codes "--sync" ∷ []) (Ok (invocation.Node line))
         → line.sync ≡ true }
     ensures sixty_four { IsRunners (codes "64") 64 }
     ensures sixty_five { (line : _)
         → Reads (codes "bqview" ∷ codes "node" ∷ codes "a" ∷ codes "7" ∷ codes "--clients" ∷ codes "b"
-        ∷ codes "--journal" ∷ codes "c" ∷ codes "--runners" ∷ codes "65" ∷ []) (Ok (wanted.Node line)) → ⊥ }
+        ∷ codes "--journal" ∷ codes "c" ∷ codes "--runners" ∷ codes "65" ∷ []) (Ok (invocation.Node line)) → ⊥ }
 {}

@@ -10,7 +10,7 @@ ghost use Rattle.q_gather.specs.Gathering.{Finds, IsNextOf, HasTaken, HaveTaken}
 
 use crate::jobs::Jobs;
 use crate::laws::numbers_are_least;
-use crate::numbers::Numbers;
+use crate::message_numbers::MessageNumbers;
 use q_book::Book;
 use q_cluster::Cluster;
 use q_desk::Entry;
@@ -21,7 +21,7 @@ use std::alloc::{AllocError, Global};
 #[derive(Drop)]
 pub(crate) struct Gathering {
     cluster: Cluster,
-    numbers: Numbers,
+    numbers: MessageNumbers,
     jobs: Jobs,
 }
 
@@ -33,7 +33,7 @@ impl Gathering {
     {
         Gathering {
             cluster,
-            numbers: Numbers::new(alloc),
+            numbers: MessageNumbers::new(alloc),
             jobs: Jobs::new(alloc),
         }
     }
@@ -180,7 +180,7 @@ fn keep_job(jobs: &mut Jobs, event: &ClusterEvent, told: EventAnswer) -> Result<
 }
 
 /// Gives the messages from this number on their numbers.
-fn number_from(cluster: &Cluster, numbers: &mut Numbers, first: usize) -> Result<(), AllocError>
+fn number_from(cluster: &Cluster, numbers: &mut MessageNumbers, first: usize) -> Result<(), AllocError>
     ensures { AreNumbers (take first cluster.now.past.sent) numbers.old → OnOk result (AreNumbers cluster.now.past.sent numbers.new) }
 {
     numbers_are_least();

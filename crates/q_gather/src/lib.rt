@@ -26,7 +26,7 @@
 //! what they deliver. All of this is said by [`beginnings`], over the definitions of `specs/Beginnings`.
 //!
 //! A message is known by its bytes in version 2, in which each has some, whatever the cluster's version is; and it is
-//! delivered by the least number at which it was sent: [`Numbers`].
+//! delivered by the least number at which it was sent: [`MessageNumbers`].
 #![tactic(auto)]
 
 pub mod beginnings;
@@ -36,10 +36,10 @@ mod gathering;
 mod heads;
 mod jobs;
 pub mod laws;
-mod numbers;
+mod message_numbers;
 mod rounds;
 pub mod worked;
 
 pub use fault::GatherFault;
 pub use gatherer::{gather, gather_books};
-pub use numbers::Numbers;
+pub use message_numbers::MessageNumbers;

@@ -1,3 +1,3 @@
 -- What is done under the lock of a node, and for whom a message is meant.
-pub mod Held
+pub mod LiveNodes
 pub mod Addressees

@@ -1,9 +1,9 @@
 //! What the lock of a node keeps, whose threads share it: its book, the messages that wait to be sent, its seat at the
 //! board of jobs, and counts of what was lost.
 //!
-//! Proved of what is done under a lock ([`Held`]): a datagram changes nothing, or the message that its bytes spell is
+//! Proved of what is done under a lock ([`LiveNode`]): a datagram changes nothing, or the message that its bytes spell is
 //! delivered and what the book gives waits to be sent; the datagrams that change nothing are counted, by why
-//! ([`Losses`]); each other call is one of the book, exact, and what the book gives waits too; the pump carries results
+//! ([`LossCounts`]); each other call is one of the book, exact, and what the book gives waits too; the pump carries results
 //! and jobs. The book is always the replay of its journal, since its type keeps that. [`addressee`] says for whom a
 //! message is meant, and that nobody else takes anything from it.
 //!
@@ -11,10 +11,10 @@
 #![tactic(auto)]
 
 mod addressees;
-mod held;
+mod live_node;
 mod losses;
 pub mod worked;
 
 pub use addressees::{addressee, asking_operation, others_take_nothing};
-pub use held::{Held, Lost};
-pub use losses::{Losses, Unsent};
+pub use live_node::{LiveNode, LossReason};
+pub use losses::{LossCounts, Unsent};

@@ -1,15 +1,15 @@
 //! Datagrams that changed nothing, and what was not sent.
 
 ghost use Rattle.std.specs.Prelude.{◌≡◌};
-ghost use Rattle.q_held.specs.Held.{both_unsent, is_all_sent, losses_text, no_losses, no_unsent, together, unsent_text, with_one};
+ghost use Rattle.q_held.specs.LiveNodes.{both_unsent, is_all_sent, losses_text, no_losses, no_unsent, together, unsent_text, with_one};
 
-use crate::held::Lost;
+use crate::live_node::LossReason;
 use std::fmt;
 
 /// How many datagrams changed nothing, by why. Each count stays at its greatest value. Its text is the line that tells
 /// them, without the line feed.
 #[derive(Clone, Copy)]
-pub struct Losses {
+pub struct LossCounts {
     /// Those whose bytes spell no message.
     pub bytes: u64,
     /// Those whose message the book refused.
@@ -18,12 +18,12 @@ pub struct Losses {
     pub memory: u64,
 }
 
-impl Losses {
+impl LossCounts {
     /// None.
-    pub fn none() -> Losses
+    pub fn none() -> LossCounts
         ensures { result ≡ no_losses }
     {
-        Losses {
+        LossCounts {
             bytes: 0,
             book: 0,
             memory: 0,
@@ -31,21 +31,21 @@ impl Losses {
     }
 
     /// One datagram more was lost.
-    pub fn count(&mut self, lost: Lost)
+    pub fn count(&mut self, lost: LossReason)
         ensures { self.new ≡ with_one self.old lost }
     {
         match lost {
-            Lost::Bytes(_) => self.bytes = self.bytes.saturating_add(1),
-            Lost::Book(_) => self.book = self.book.saturating_add(1),
-            Lost::OutOfMemory => self.memory = self.memory.saturating_add(1),
+            LossReason::Bytes(_) => self.bytes = self.bytes.saturating_add(1),
+            LossReason::Book(_) => self.book = self.book.saturating_add(1),
+            LossReason::OutOfMemory => self.memory = self.memory.saturating_add(1),
         }
     }
 
     /// These and others.
-    pub fn and(self, others: Losses) -> Losses
+    pub fn and(self, others: LossCounts) -> LossCounts
         ensures { result ≡ together self others }
     {
-        Losses {
+        LossCounts {
             bytes: self.bytes.saturating_add(others.bytes),
             book: self.book.saturating_add(others.book),
             memory: self.memory.saturating_add(others.memory),
@@ -53,7 +53,7 @@ impl Losses {
     }
 }
 
-impl fmt::Display for Losses {
+impl fmt::Display for LossCounts {
     ghost use Rattle.std.specs.Prelude.{Some};
 
     ghost output = { λ losses. Some (losses_text losses) };

@@ -18,11 +18,11 @@ ghost use Rattle.q_book.specs.declared.answer.Asked.{Asked};
 ghost use Rattle.q_book.specs.declared.answer.Delivery.{Delivery};
 ghost use Rattle.reasons.specs.declared.Reason.TheVariants as reasons;
 ghost use Rattle.q_board.specs.Pumped.{Pumped};
-ghost use Rattle.q_held.specs.Held.{Asks, Delivers, Hears, Receives, Stores, both_unsent, counted, losses_text, no_losses, sum_of, together, unsent_text, with_one};
+ghost use Rattle.q_held.specs.LiveNodes.{Asks, Delivers, Hears, Receives, Stores, both_unsent, counted, losses_text, no_losses, sum_of, together, unsent_text, with_one};
 ghost use Rattle.q_held.specs.Addressees.{addressee_of, asking_tag};
-ghost use Rattle.q_held.specs.declared.held.Lost.{Lost};
-ghost use Rattle.q_held.specs.declared.held.Lost.TheVariants as lost;
-ghost use Rattle.q_held.specs.declared.losses.Losses.{Losses as Counts};
+ghost use Rattle.q_held.specs.declared.live_node.LossReason.{LossReason};
+ghost use Rattle.q_held.specs.declared.live_node.LossReason.TheVariants as lost;
+ghost use Rattle.q_held.specs.declared.losses.LossCounts.{LossCounts as Counts};
 
 /// What counts as lost, and what as not sent.
 pub fn worked()
@@ -50,7 +50,7 @@ pub fn worked_texts()
 pub fn worked_calls()
     ensures delivered { (m : Sent) (b c d : BookState) (had has : List Sent) (o : Option Completed) (a : Delivery) → delivered b m ≡ Ok (a, d) → Delivers m b had (Ok o) c has → (c ≡ d) × (o ≡ a.completed) × (has ≡ had ++ a.outs) }
     ensures bell { (b c : BookState) (had has : List Sent) (l k : Counts) (o : Option Completed) → Receives [] b had l o c has k → (c ≡ b) × (has ≡ had) × (o ≡ None) × (k ≡ l) }
-    ensures no_bell { (b c : BookState) (had has : List Sent) (l k : Counts) (o : Option Completed) → Receives (1 ∷ []) b had l o c has k → (r : Result (Option Completed) Lost) × (k ≡ counted r l) × Hears (1 ∷ []) b had r c has }
+    ensures no_bell { (b c : BookState) (had has : List Sent) (l k : Counts) (o : Option Completed) → Receives (1 ∷ []) b had l o c has k → (r : Result (Option Completed) LossReason) × (k ≡ counted r l) × Hears (1 ∷ []) b had r c has }
     ensures not_spelled { (b c : BookState) (had has : List Sent) (f : MessageFault) → Hears [] b had (Err (lost.Bytes f)) c has → (c ≡ b) × (has ≡ had) }
     ensures stored { (value : List ℕ) (tag : ℕ) (b c d : BookState) (had has : List Sent) (a : Started) → stored b value ≡ Ok (a, d) → Stores value b had (Ok tag) c has → (tag ≡ a.tag) × (has ≡ had ++ a.outs) }
     ensures asked { (program start query : ℕ) (b c d : BookState) (had has : List Sent) (a : Asked) → asked b program start ≡ Ok (a, d) → Asks program start b had (Ok query) c has → (query ≡ a.query) × (has ≡ had ++ a.begun.outs) }

@@ -7,7 +7,7 @@ use Rattle.sc_msg.specs.Lengths.{fits}
 use Rattle.sc_msg.specs.declared.message.Message.{Message}
 use Rattle.sc_msg.specs.declared.version.Version.{Version}
 use Rattle.q_held.specs.Addressees.{addressee_of}
-use Rattle.q_held.specs.Held.{both_unsent, no_unsent}
+use Rattle.q_held.specs.LiveNodes.{both_unsent, no_unsent}
 use Rattle.q_held.specs.declared.losses.Unsent.{Unsent}
 use Rattle.q_kept.specs.Letters.{Addressed, Spells, SpellsAll, AddsAll, addressed, message_to}
 use Rattle.q_kept.specs.Questions.{goes_again, new_question}

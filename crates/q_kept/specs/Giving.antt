@@ -3,7 +3,7 @@ use Rattle.std.specs.Prelude.{◌≡◌, List, [], ◌∷◌, ◌++◌, map, fil
 use Rattle.sc_msg.specs.Lengths.{fits}
 use Rattle.sc_msg.specs.declared.message.Message.{Message}
 use Rattle.sc_msg.specs.declared.version.Version.{Version}
-use Rattle.q_held.specs.Held.{both_unsent, no_unsent}
+use Rattle.q_held.specs.LiveNodes.{both_unsent, no_unsent}
 use Rattle.q_held.specs.declared.losses.Unsent.{Unsent}
 use Rattle.q_kept.specs.Letters.{addressed, SpellsAll}
 use Rattle.q_kept.specs.Questions.{goes_again, new_question}

@@ -8,7 +8,7 @@ ghost use Rattle.q_kept.specs.Questions.{due, due_of, kept_questions, looked_at,
 
 use crate::letter::{Letter, push_letter};
 use crate::question::{Question, asking_phase, count_looks, drop_answered};
-use q_held::Held;
+use q_held::LiveNode;
 use sc_msg::{Body, Message, Version};
 use sc_node::Node;
 use sc_operations::Phase;
@@ -91,7 +91,7 @@ fn push_due(
 /// What goes again at this look, and one look more of each question. Questions that do not go again are dropped.
 pub(crate) fn ask_again(
     alloc: Global,
-    held: &Held<'_>,
+    held: &LiveNode<'_>,
     nodes: &[u64],
     questions: &mut Vec<Question>,
 ) -> Vec<Letter>

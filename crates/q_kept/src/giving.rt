@@ -7,7 +7,7 @@ ghost use Rattle.q_kept.specs.Questions.{goes_again, new_question};
 
 use crate::letter::{Letter, push_letter};
 use crate::question::{Question, goes_again};
-use q_held::{Held, Unsent, addressee};
+use q_held::{LiveNode, Unsent, addressee};
 use sc_msg::{Message, Version};
 use std::alloc::{AllocError, Global};
 
@@ -28,7 +28,7 @@ fn keep(questions: &mut Vec<Question>, message: Message)
 fn give_next(
     alloc: Global,
     version: Version,
-    held: &mut Held<'_>,
+    held: &mut LiveNode<'_>,
     questions: &mut Vec<Question>,
     letters: &mut Vec<Letter>,
 ) -> Result<(), AllocError>
@@ -55,7 +55,7 @@ fn give_next(
 /// Gives the messages that wait as letters, in turn, up to the first for which memory is short.
 pub(crate) fn give_waiting(
     alloc: Global,
-    held: &mut Held<'_>,
+    held: &mut LiveNode<'_>,
     questions: &mut Vec<Question>,
 ) -> Vec<Letter>
     ensures given { Gives held.old.book.version (outbox held.old.waiting.items questions.old.items held.old.unsent)

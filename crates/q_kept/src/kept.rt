@@ -18,14 +18,14 @@ use crate::giving::give_waiting;
 use crate::letter::Letter;
 use crate::question::Question;
 use crate::recorder::Recorder;
-use q_held::Held;
+use q_held::LiveNode;
 use std::alloc::Global;
 
 /// A node's book with the messages that wait, the recorder of its journal, and what goes again.
 #[derive(Drop)]
 pub struct Kept<'b, J: JournalFile> {
     /// The book, the messages that wait to be given, and the node's seat at the board.
-    pub held: Held<'b>,
+    pub held: LiveNode<'b>,
     /// The recorder of the book's journal.
     pub recorder: Recorder<J>,
     /// What was given and goes again.
@@ -34,7 +34,7 @@ pub struct Kept<'b, J: JournalFile> {
 
 impl<'b, J: JournalFile> Kept<'b, J> {
     /// Nothing was given yet.
-    pub fn new(alloc: Global, held: Held<'b>, recorder: Recorder<J>) -> Kept<'b, J>
+    pub fn new(alloc: Global, held: LiveNode<'b>, recorder: Recorder<J>) -> Kept<'b, J>
         ensures held { result.held ≡ held.entry }
         ensures recorder { result.recorder ≡ recorder }
         ensures questions { result.questions.items ≡ [] }
@@ -120,7 +120,7 @@ impl<'b, J: JournalFile> Kept<'b, J> {
 /// Writes what the file lacks of the journal of a node's book.
 fn record<J: JournalFile>(
     alloc: Global,
-    held: &Held<'_>,
+    held: &LiveNode<'_>,
     recorder: &mut Recorder<J>,
 ) -> Result<(), Unrecorded>
     ensures records { Records recorder.old held.now.book result recorder.new }

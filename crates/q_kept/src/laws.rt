@@ -7,9 +7,9 @@ ghost use Rattle.q_desk.specs.declared.completed.Completed.{Completed};
 ghost use Rattle.q_book.specs.State.{BookState};
 ghost use Rattle.reasons.specs.declared.Reason.{Reason as Fault};
 ghost use Rattle.q_board.specs.AskerModel.{AskerModel};
-ghost use Rattle.q_held.specs.Held.{Asks, Hears, Leaves, Receives, Stores};
-ghost use Rattle.q_held.specs.declared.held.Lost.{Lost};
-ghost use Rattle.q_held.specs.declared.losses.Losses.{Losses as Counts};
+ghost use Rattle.q_held.specs.LiveNodes.{Asks, Hears, Leaves, Receives, Stores};
+ghost use Rattle.q_held.specs.declared.live_node.LossReason.{LossReason};
+ghost use Rattle.q_held.specs.declared.losses.LossCounts.{LossCounts as Counts};
 ghost use Rattle.q_kept.specs.Recording.{Grows};
 ghost use Rattle.q_kept.specs.Settling.{Pumps};
 
@@ -19,7 +19,7 @@ use crate::laws_recorder::books_grow;
 pub fn held_books_grow()
     ensures received { (bytes : List ℕ) (b c : BookState) (had has : List Said) (l k : Counts) (ended : Option Completed) →
         Receives bytes b had l ended c has k → Grows b c }
-    ensures heard { (bytes : List ℕ) (b c : BookState) (had has : List Said) (r : Result (Option Completed) Lost) →
+    ensures heard { (bytes : List ℕ) (b c : BookState) (had has : List Said) (r : Result (Option Completed) LossReason) →
         Hears bytes b had r c has → Grows b c }
     ensures stored { (value : List ℕ) (b c : BookState) (had has : List Said) (r : Result ℕ Fault) →
         Stores value b had r c has → Grows b c }

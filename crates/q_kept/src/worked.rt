@@ -22,7 +22,7 @@ ghost use Rattle.q_replay.specs.Journal.{head_of, journal_of};
 ghost use Rattle.q_kept.specs.State.{RecorderState};
 ghost use Rattle.q_kept.specs.Recording.{IsRecorded, Records};
 ghost use Rattle.q_kept.specs.declared.fault.Unrecorded.TheVariants as fault;
-ghost use Rattle.q_held.specs.declared.losses.Unsent.{Unsent as Lost};
+ghost use Rattle.q_held.specs.declared.losses.Unsent.{Unsent as Counts};
 ghost use Rattle.q_kept.specs.Giving.{Gives, Outbox, outbox};
 ghost use Rattle.q_kept.specs.Letters.{Spells, addressed};
 ghost use Rattle.q_kept.specs.Questions.{IsFor, asking_phase, goes_again, is_due, is_kept, looked_at, new_question, targets, uncounted};
@@ -111,5 +111,5 @@ pub fn worked_settling()
 
     // Messages that are not given wait on, and where none waits none is given.
     ensures waits { (r : RecorderState) (c : BookState) (old : Outbox) (r' : RecorderState) (new : Outbox) → GivesNone r c old r' new → new.waiting ≡ old.waiting }
-    ensures nothing_waits { (v : Wire) (qs asks : List Asking) (u w : Lost) (letters : List Sent) (has : List Said) → Gives v (outbox [] qs u) letters (outbox has asks w) → (length letters ≡ 0) × (has ≡ []) }
+    ensures nothing_waits { (v : Wire) (qs asks : List Asking) (u w : Counts) (letters : List Sent) (has : List Said) → Gives v (outbox [] qs u) letters (outbox has asks w) → (length letters ≡ 0) × (has ≡ []) }
 {}

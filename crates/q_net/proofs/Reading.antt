@@ -7,9 +7,9 @@ use Rattle.std.proofs.Math.Seq.{take-append_seam}
 use Rattle.std.proofs.lemmas.List.{length-take}
 use Rattle.spelling.specs.Numbers.{number_bytes}
 use Rattle.sc_msg.specs.declared.version.Version.{Version}
-use Rattle.q_net.specs.declared.pieces.Piece.{Piece}
+use Rattle.q_net.specs.declared.pieces.ReadBlob.{ReadBlob}
 use Rattle.q_net.specs.declared.incoming.Incoming.{Incoming}
-use Rattle.q_net.specs.declared.pieces.Piece.TheVariants as piece
+use Rattle.q_net.specs.declared.pieces.ReadBlob.TheVariants as piece
 use Rattle.q_net.specs.declared.request.Request.TheVariants.{Register}
 use Rattle.q_net.specs.Requests.{GetsNext, GotBlob, spelling, IsRequest, most_text, most_notes, GetsBlob, Got, IsNext, IsCut, Place, IsPlace, before, wanted}
 
@@ -33,7 +33,7 @@ pub next_failed : {E : Type 0} (P : E → Type 0) (version : Version) (front : L
 next_failed P version front a b (Ok n) h p = absurd h
 next_failed P version front a b (Err e) h p = p
 
-pub blob_failed : {E : Type 0} (P : E → Type 0) (len : ℕ) (a b : Option (List ℕ)) (r : Result Piece E) → IsErrAnd r P → (part : List ℕ) × Consumes a b part → GetsBlob len a b r
+pub blob_failed : {E : Type 0} (P : E → Type 0) (len : ℕ) (a b : Option (List ℕ)) (r : Result ReadBlob E) → IsErrAnd r P → (part : List ℕ) × Consumes a b part → GetsBlob len a b r
 blob_failed P len a b (Ok n) h p = absurd h
 blob_failed P len a b (Err e) h p = p
 
@@ -100,13 +100,13 @@ next_behind version front more a b c (Err e) consumed h = (more ++ h.0, Consumes
 abbrev pub to_text : List ℕ → List ℕ
 to_text text = 1 ∷ number_bytes 4 (length text) ++ text
 
-pub blob_cut : (len : ℕ) (a b : Option (List ℕ)) (p : Piece) → p ≡ piece.Cut → GotBlob len a b p → (part : List ℕ) × Consumes a b part × (length part < len) × IsAtEnd b
+pub blob_cut : (len : ℕ) (a b : Option (List ℕ)) (p : ReadBlob) → p ≡ piece.Cut → GotBlob len a b p → (part : List ℕ) × Consumes a b part × (length part < len) × IsAtEnd b
 blob_cut len a b p is h = subst (GotBlob len a b) is h
 
-pub blob_lost : (len : ℕ) (a b : Option (List ℕ)) (p : Piece) → p ≡ piece.Lost → GotBlob len a b p → (bytes : List ℕ) × Consumes a b bytes × (length bytes ≡ len)
+pub blob_lost : (len : ℕ) (a b : Option (List ℕ)) (p : ReadBlob) → p ≡ piece.Lost → GotBlob len a b p → (bytes : List ℕ) × Consumes a b bytes × (length bytes ≡ len)
 blob_lost len a b p is h = subst (GotBlob len a b) is h
 
-pub blob_whole : (len : ℕ) (a b : Option (List ℕ)) (p : Piece) (bytes : List ℕ) → p ≡ piece.Whole bytes → GotBlob len a b p → Consumes a b bytes × (length bytes ≡ len)
+pub blob_whole : (len : ℕ) (a b : Option (List ℕ)) (p : ReadBlob) (bytes : List ℕ) → p ≡ piece.Whole bytes → GotBlob len a b p → Consumes a b bytes × (length bytes ≡ len)
 blob_whole len a b p bytes is h = subst (GotBlob len a b) is h
 
 -- the notes behind a text

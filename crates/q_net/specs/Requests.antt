@@ -9,8 +9,8 @@ use Rattle.q_net.specs.declared.request.Request.{Request}
 use Rattle.q_net.specs.declared.request.Request.TheVariants.{Register, Ask, Store, Answer, StoreOf}
 use Rattle.q_net.specs.declared.request.StreamEnd.{StreamEnd}
 use Rattle.q_net.specs.declared.request.StreamEnd.TheVariants.{Unknown, Cut, LongText, LongNotes}
-use Rattle.q_net.specs.declared.pieces.Piece.{Piece}
-use Rattle.q_net.specs.declared.pieces.Piece.TheVariants as piece
+use Rattle.q_net.specs.declared.pieces.ReadBlob.{ReadBlob}
+use Rattle.q_net.specs.declared.pieces.ReadBlob.TheVariants as piece
 use Rattle.q_net.specs.declared.incoming.Incoming.{Incoming}
 use Rattle.q_net.specs.declared.incoming.Incoming.TheVariants as next
 
@@ -151,11 +151,11 @@ Gets bytes_of len input left (Ok o) = Got bytes_of len input left o
 Gets bytes_of len input left (Err e) = (part : List ℕ) × Consumes input left part
 
 -- so many bytes, or there was no memory for them and they were passed over
-abbrev pub GotBlob : ℕ → Option (List ℕ) → Option (List ℕ) → Piece → Type 0
+abbrev pub GotBlob : ℕ → Option (List ℕ) → Option (List ℕ) → ReadBlob → Type 0
 GotBlob len input left (piece.Whole bytes) = Consumes input left bytes × (length bytes ≡ len)
 GotBlob len input left piece.Lost = (bytes : List ℕ) × Consumes input left bytes × (length bytes ≡ len)
 GotBlob len input left piece.Cut = (part : List ℕ) × Consumes input left part × (length part < len) × IsAtEnd left
 
-abbrev pub GetsBlob : {E : Type 0} → ℕ → Option (List ℕ) → Option (List ℕ) → Result Piece E → Type 0
+abbrev pub GetsBlob : {E : Type 0} → ℕ → Option (List ℕ) → Option (List ℕ) → Result ReadBlob E → Type 0
 GetsBlob len input left (Ok p) = GotBlob len input left p
 GetsBlob len input left (Err e) = (part : List ℕ) × Consumes input left part

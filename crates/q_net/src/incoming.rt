@@ -6,7 +6,7 @@ ghost use Rattle.sc_msg.specs.declared.version.Version.{Version as BookVersion};
 ghost use Rattle.q_outside.specs.Counts.{count_after};
 ghost use Rattle.q_net.specs.Requests.{GetsNext, most_text, most_notes};
 
-use crate::pieces::{Piece, read_blob, read_byte, read_long, read_short, read_some, read_value};
+use crate::pieces::{ReadBlob, read_blob, read_byte, read_long, read_short, read_some, read_value};
 use crate::request::{Blob, Request, StreamEnd};
 use q_outside::{Counted, TransportFailed};
 use sc_msg::Version;
@@ -50,9 +50,9 @@ macro_rules! blob {
             return Ok(Incoming::Ended($long));
         }
         match read_blob($alloc, $input, len as usize)? {
-            Piece::Cut => Ok(Incoming::Ended(StreamEnd::Cut)),
-            Piece::Lost => $lost,
-            Piece::Whole($whole) => $then,
+            ReadBlob::Cut => Ok(Incoming::Ended(StreamEnd::Cut)),
+            ReadBlob::Lost => $lost,
+            ReadBlob::Whole($whole) => $then,
         }
     }};
 }

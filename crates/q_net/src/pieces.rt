@@ -11,9 +11,9 @@ use sc_view::{VALUE_LENGTH, Value};
 use std::alloc::Global;
 use std::io::Read;
 
-/// So many bytes of a request.
+/// What came of reading so many bytes of a request.
 #[derive(Drop)]
-pub enum Piece {
+pub enum ReadBlob {
     /// These bytes.
     Whole(Blob),
     /// There was no memory for them.
@@ -96,16 +96,16 @@ pub fn read_some<R: Read>(input: &mut Counted<R>, len: u8) -> Result<Option<Shor
 }
 
 /// So many bytes, passed over.
-fn pass_over<R: Read>(input: &mut Counted<R>, len: usize) -> Result<Piece, TransportFailed>
+fn pass_over<R: Read>(input: &mut Counted<R>, len: usize) -> Result<ReadBlob, TransportFailed>
     ensures read { GetsBlob len (R.remaining input.old.inner) (R.remaining input.new.inner) result }
     ensures counted { input.new.failures ≡ count_after result input.old.failures }
 {
     for _at in 0..len {
         if read_byte(input)?.is_none() {
-            return Ok(Piece::Cut);
+            return Ok(ReadBlob::Cut);
         }
     }
-    Ok(Piece::Lost)
+    Ok(ReadBlob::Lost)
 }
 
 /// So many bytes. Where there is no memory for them they are passed over.
@@ -113,7 +113,7 @@ pub fn read_blob<R: Read>(
     alloc: Global,
     input: &mut Counted<R>,
     len: usize,
-) -> Result<Piece, TransportFailed>
+) -> Result<ReadBlob, TransportFailed>
     ensures read { GetsBlob len (R.remaining input.old.inner) (R.remaining input.new.inner) result }
     ensures counted { input.new.failures ≡ count_after result input.old.failures }
 {
@@ -121,7 +121,7 @@ pub fn read_blob<R: Read>(
         return pass_over(input, len);
     };
     if input.fill(bytes.as_mut_slice())? < len {
-        return Ok(Piece::Cut);
+        return Ok(ReadBlob::Cut);
     }
-    Ok(Piece::Whole(Blob::new(bytes)))
+    Ok(ReadBlob::Whole(Blob::new(bytes)))
 }

@@ -4,8 +4,8 @@ use Rattle.std.specs.Prelude.{IfNone, IfSome, IsNone, option_map}
 use Rattle.sc_msg.specs.declared.message.Message.{Message}
 use Rattle.q_board.specs.AskerModel.{AskerModel}
 use Rattle.q_book.specs.State.{BookState}
-use Rattle.q_held.specs.Held.{both_unsent}
-use Rattle.q_held.specs.declared.losses.Losses.{Losses}
+use Rattle.q_held.specs.LiveNodes.{both_unsent}
+use Rattle.q_held.specs.declared.losses.LossCounts.{LossCounts}
 use Rattle.q_held.specs.declared.losses.Unsent.{Unsent}
 use Rattle.q_net.specs.declared.replies.Reply.{Reply}
 use Rattle.q_net.specs.declared.request.Request.{Request}
@@ -38,7 +38,7 @@ some_mapped f (Some x) = refl
 
 -- ---- from an equal state
 
-abbrev pub own_of : BookState → List Message → Losses → Unsent → AskerModel → RecorderState → List Question → OwnState
+abbrev pub own_of : BookState → List Message → LossCounts → Unsent → AskerModel → RecorderState → List Question → OwnState
 own_of book waiting lost unsent asker recorder questions = record {
   book = book;
   waiting = waiting;
@@ -53,7 +53,7 @@ pub settles_at : (x y : OwnState) (letters : Option (List Letter)) (new : OwnSta
 settles_at x y letters new e = subst (λ (o : OwnState). Settles o letters new) e
 
 -- of what is not sent and the seat, which are as they were
-pub settles_from : (book : BookState) (waiting : List Message) (lost : Losses) (u v : Unsent) (a z : AskerModel) (r : RecorderState) (questions : List Question) (letters : Option (List Letter)) (new : OwnState)
+pub settles_from : (book : BookState) (waiting : List Message) (lost : LossCounts) (u v : Unsent) (a z : AskerModel) (r : RecorderState) (questions : List Question) (letters : Option (List Letter)) (new : OwnState)
     → u ≡ v → a ≡ z → Settles (own_of book waiting lost u a r questions) letters new → Settles (own_of book waiting lost v z r questions) letters new
 settles_from book waiting lost u v a z r questions letters new same seat =
     subst (λ (o : OwnState). Settles o letters new) (λ i. own_of book waiting lost (same i) (seat i) r questions)
@@ -71,7 +71,7 @@ leaves_at x y told letters new e = subst (λ (o : OwnState). LeavesAndSettles o 
 
 -- ---- what was not sent is counted
 
-pub counts : (x : OwnState) (book : BookState) (waiting : List Message) (lost : Losses) (unsent more : Unsent) (asker : AskerModel) → book ≡ x.book → waiting ≡ x.waiting → lost ≡ x.lost
+pub counts : (x : OwnState) (book : BookState) (waiting : List Message) (lost : LossCounts) (unsent more : Unsent) (asker : AskerModel) → book ≡ x.book → waiting ≡ x.waiting → lost ≡ x.lost
     → unsent ≡ both_unsent x.unsent more → asker ≡ x.asker
     → own_of book waiting lost unsent asker x.recorder x.questions ≡ record x { unsent = both_unsent x.unsent more }
 counts x book waiting lost unsent more asker books waits losses counted seat = λ i. own_of (books i) (waits i) (losses i) (counted i) (seat i) x.recorder x.questions

@@ -7,7 +7,7 @@ use Rattle.q_desk.specs.declared.journal.Entry.{Entry}
 use Rattle.q_book.specs.State.{BookState}
 use Rattle.q_book.specs.Books.{left}
 use Rattle.reasons.specs.declared.Reason.{Reason}
-use Rattle.q_held.specs.Held.{Leaves}
+use Rattle.q_held.specs.LiveNodes.{Leaves}
 use Rattle.q_kept.specs.State.{RecorderState}
 use Rattle.q_kept.specs.declared.fault.Unrecorded.{Unrecorded}
 use Rattle.q_kept.specs.declared.letter.Letter.{Letter}

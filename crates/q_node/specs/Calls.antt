@@ -6,9 +6,9 @@ use Rattle.sc_msg.specs.declared.message.Message.{Message}
 use Rattle.q_session.specs.declared.ran.Ran.{Ran}
 use Rattle.q_desk.specs.declared.completed.Completed.{Completed}
 use Rattle.q_book.specs.State.{BookState}
-use Rattle.q_held.specs.Held.{Hears, Leaves, counted, ended_by}
-use Rattle.q_held.specs.declared.held.Lost.{Lost}
-use Rattle.q_held.specs.declared.losses.Losses.{Losses}
+use Rattle.q_held.specs.LiveNodes.{Hears, Leaves, counted, ended_by}
+use Rattle.q_held.specs.declared.live_node.LossReason.{LossReason}
+use Rattle.q_held.specs.declared.losses.LossCounts.{LossCounts}
 use Rattle.q_net.specs.Replies.{Replies}
 use Rattle.q_net.specs.declared.replies.Reply.{Reply}
 use Rattle.q_net.specs.declared.request.Request.{Request}
@@ -42,27 +42,27 @@ pub record Settles (old : OwnState) (letters : Option (List Letter)) (new : OwnS
 
 -- Something happened to the book, to the messages that wait and to the count of what was lost, and to nothing else;
 -- these are what came of it, before all was settled.
-pub record SettlesAfter (Happened : BookState → List Message → Losses → Type 0) (old : OwnState)
+pub record SettlesAfter (Happened : BookState → List Message → LossCounts → Type 0) (old : OwnState)
     (letters : Option (List Letter)) (new : OwnState) : Type 0 where
   pub book : BookState
   pub waiting : List Message
-  pub lost : Losses
+  pub lost : LossCounts
   pub happened : Happened book waiting lost
   pub settled : Settles (record old { book = book; waiting = waiting; lost = lost }) letters new
 
 -- ---- what happens before
 
 -- bytes are heard, with this result; a datagram that changes nothing is counted
-abbrev pub HeardSo : List ℕ → Result (Option Completed) Lost → OwnState → BookState → List Message → Losses → Type 0
+abbrev pub HeardSo : List ℕ → Result (Option Completed) LossReason → OwnState → BookState → List Message → LossCounts → Type 0
 HeardSo bytes r old book waiting lost = Hears bytes old.book old.waiting r book waiting × (lost ≡ counted r old.lost)
 
 -- a request has this reply, and what the book gives waits behind what waited
-abbrev pub RepliedSo : Request → Reply → OwnState → BookState → List Message → Losses → Type 0
+abbrev pub RepliedSo : Request → Reply → OwnState → BookState → List Message → LossCounts → Type 0
 RepliedSo r said old book waiting lost =
     (outs : List Message) × Replies old.book r said outs book × (waiting ≡ old.waiting ++ outs) × (lost ≡ old.lost)
 
 -- the node leaves, with this result
-abbrev pub LeftSo : Result (Unit {0}) Reason → OwnState → BookState → List Message → Losses → Type 0
+abbrev pub LeftSo : Result (Unit {0}) Reason → OwnState → BookState → List Message → LossCounts → Type 0
 LeftSo r old book waiting lost = Leaves old.book old.waiting r book waiting × (lost ≡ old.lost)
 
 -- ---- the calls that settle
@@ -70,7 +70,7 @@ LeftSo r old book waiting lost = Leaves old.book old.waiting r book waiting × (
 -- bytes are heard, and then all is settled; it is told whether an operation ended
 pub record HearsAndSettles (bytes : List ℕ) (old : OwnState) (has_ended : Bool) (letters : Option (List Letter))
     (new : OwnState) : Type 0 where
-  pub heard : Result (Option Completed) Lost
+  pub heard : Result (Option Completed) LossReason
   pub ended : has_ended ≡ is_some (ended_by heard)
   pub settled : SettlesAfter (HeardSo bytes heard old) old letters new
 

@@ -3,7 +3,7 @@ use Rattle.std.specs.Prelude.{List}
 use Rattle.sc_msg.specs.declared.message.Message.{Message}
 use Rattle.q_board.specs.AskerModel.{AskerModel}
 use Rattle.q_book.specs.State.{BookState}
-use Rattle.q_held.specs.declared.losses.Losses.{Losses}
+use Rattle.q_held.specs.declared.losses.LossCounts.{LossCounts}
 use Rattle.q_held.specs.declared.losses.Unsent.{Unsent}
 use Rattle.q_kept.specs.State.{RecorderState}
 use Rattle.q_kept.specs.Giving.{Outbox, outbox}
@@ -13,7 +13,7 @@ use Rattle.q_kept.specs.declared.question.Question.{Question}
 pub record OwnState : Type 0 where
   pub book : BookState
   pub waiting : List Message  -- what the book gave and is still to be given to be sent
-  pub lost : Losses  -- the datagrams that changed nothing
+  pub lost : LossCounts  -- the datagrams that changed nothing
   pub unsent : Unsent  -- what was not sent
   pub asker : AskerModel  -- the node's seat at the board
   pub recorder : RecorderState

@@ -6,7 +6,7 @@ ghost use Rattle.std.specs.List.{AllByRecursion};
 ghost use Rattle.sc_msg.specs.declared.message.Message.{Message as Sent};
 ghost use Rattle.q_desk.specs.Desks.{answer_of};
 ghost use Rattle.q_book.specs.State.{BookState};
-ghost use Rattle.q_held.specs.Held.{both_unsent, ended_by};
+ghost use Rattle.q_held.specs.LiveNodes.{both_unsent, ended_by};
 ghost use Rattle.q_net.specs.Replies.{Replies};
 ghost use Rattle.q_net.specs.declared.replies.Reply.{Reply as Told};
 ghost use Rattle.q_net.specs.declared.request.Request.{Request as Asked};
@@ -28,7 +28,7 @@ use crate::status::Status;
 use q_book::{Book, BookFault};
 use q_desk::Completed;
 use q_doors::has_ended;
-use q_held::{Losses, Lost, Unsent};
+use q_held::{LossCounts, LossReason, Unsent};
 use q_kept::laws::held_books_grow;
 use q_kept::laws_recorder::{books_grow, recorded_stays};
 use q_kept::{JournalFile, Kept, Letter, Recorder, Unrecorded};
@@ -101,7 +101,7 @@ pub struct Ended<J: JournalFile> {
     /// The recorder, with the file.
     pub recorder: Recorder<J>,
     /// The datagrams that changed nothing.
-    pub lost: Losses,
+    pub lost: LossCounts,
     /// What was not sent.
     pub unsent: Unsent,
 }
@@ -145,7 +145,7 @@ fn record_all<J: JournalFile>(
 }
 
 /// Whether an operation ended.
-fn is_end(heard: Result<Option<Completed>, Lost>) -> bool
+fn is_end(heard: Result<Option<Completed>, LossReason>) -> bool
     ensures { result ≡ is_some (ended_by heard) }
 {
     matches!(heard, Ok(Some(_)))

@@ -23,7 +23,7 @@ use crate::threads::Crew;
 use q_board::{AskerSeat, Board, OpenFault, RunnerSeat};
 use q_book::Book;
 use q_doors::{Door, Post};
-use q_held::Held;
+use q_held::LiveNode;
 use q_kept::{JournalFile, Kept, Recorder};
 use q_outside::Counted;
 use q_script::ClusterFile;
@@ -130,7 +130,7 @@ fn enter<'b>(
     setup: &Setup<'_>,
     board: &'b Board,
     asker: AskerSeat,
-) -> Result<Held<'b>, StartFault>
+) -> Result<LiveNode<'b>, StartFault>
     requires { asker.table ≡ board_id board.now }
     ensures own { IfOk result (λ held. held.book.id ≡ setup.now.id) }
     ensures fault { IfErr result (λ fault. fault ≡ StartFault.OutOfMemory) }
@@ -138,7 +138,7 @@ fn enter<'b>(
     let Ok((book, outs)) = Book::entering(alloc, setup.file.config, setup.id) else {
         return Err(StartFault::OutOfMemory);
     };
-    let mut held = Held::new(alloc, book, board, asker);
+    let mut held = LiveNode::new(alloc, book, board, asker);
     held.waiting.reserve(2)?;
     outs.append_to(&mut held.waiting);
     Ok(held)
@@ -150,14 +150,14 @@ fn found<'b>(
     setup: &Setup<'_>,
     board: &'b Board,
     asker: AskerSeat,
-) -> Result<Held<'b>, StartFault>
+) -> Result<LiveNode<'b>, StartFault>
     requires { asker.table ≡ board_id board.now }
     ensures own { IfOk result (λ held. held.book.id ≡ setup.now.id) }
     ensures fault { IfErr result (IsUnbegun setup.now.file.now setup.now.id setup.now.runners) }
 {
     let founders = setup.file.founders(alloc)?;
     match Book::founder(alloc, setup.file.config, setup.id, founders.as_slice()) {
-        Ok(book) => Ok(Held::new(alloc, book, board, asker)),
+        Ok(book) => Ok(LiveNode::new(alloc, book, board, asker)),
         Err(fault) => Err(StartFault::Book(fault)),
     }
 }
@@ -168,7 +168,7 @@ fn begin<'b>(
     setup: &Setup<'_>,
     board: &'b Board,
     mut askers: Vec<AskerSeat>,
-) -> Result<Held<'b>, StartFault>
+) -> Result<LiveNode<'b>, StartFault>
     requires { All (λ s. s.table ≡ board_id board.now) askers.items }
     ensures own { IfOk result (λ held. held.book.id ≡ setup.now.id) }
     ensures fault { IfErr result (IsUnbegun setup.now.file.now setup.now.id setup.now.runners) }

@@ -15,7 +15,7 @@ use crate::outcome::Outcome;
 use crate::script::{ClusterLine, ClusterScript};
 use q_board::{AskerSeat, Board, RunnerSeat, with_runners};
 use q_book::Book;
-use q_held::{Held, Losses, Unsent};
+use q_held::{LiveNode, LossCounts, Unsent};
 use q_outside::Transport;
 use sc_members::Config;
 use std::alloc::{AllocError, Global};
@@ -38,7 +38,7 @@ pub struct Calls {
     /// The book of each node.
     pub books: Vec<Book>,
     /// The datagrams that any of them lost.
-    pub lost: Losses,
+    pub lost: LossCounts,
     /// What any of them did not send.
     pub unsent: Unsent,
 }
@@ -70,14 +70,14 @@ fn found_one<'b>(
     config: Config,
     ids: &[u64],
     id: u64,
-) -> Result<Mutex<Held<'b>>, AllocError>
+) -> Result<Mutex<LiveNode<'b>>, AllocError>
     requires { asker.table ≡ board_id board.now }
 {
     // The ids are those of founders, so this is refused where memory runs out alone.
     let Ok(book) = Book::founder(alloc, config, id, ids) else {
         return Err(AllocError);
     };
-    Ok(Mutex::new(Held::new(alloc, book, board, asker)))
+    Ok(Mutex::new(LiveNode::new(alloc, book, board, asker)))
 }
 
 /// The same of each founder.
@@ -87,7 +87,7 @@ fn found<'b>(
     askers: Vec<AskerSeat>,
     config: Config,
     ids: &[u64],
-) -> Result<Vec<Mutex<Held<'b>>>, AllocError>
+) -> Result<Vec<Mutex<LiveNode<'b>>>, AllocError>
     requires seated { All (λ s. s.table ≡ board_id board.now) askers.items }
     requires many { length askers.items ≡ length ids.now }
     ensures { IfOk result (λ seats. length seats.items ≡ length ids.now) }
@@ -110,7 +110,7 @@ fn start<'s, 'b, E, R: Wait + Threads + Clock + Sync, T: Transport + Send + Drop
     rt: &'s R,
     alloc: Global,
     nodes: u64,
-    held: &'s Mutex<Held<'b>>,
+    held: &'s Mutex<LiveNode<'b>>,
     bell: &'s Bell,
     over: &'s AtomicBool,
     wire: Wire<T>,
@@ -126,7 +126,7 @@ fn start_all<'s, 'b, E, R: Wait + Threads + Clock + Sync, T: Transport + Send + 
     rt: &'s R,
     alloc: Global,
     nodes: u64,
-    seats: &'s [Mutex<Held<'b>>],
+    seats: &'s [Mutex<LiveNode<'b>>],
     bell: &'s Bell,
     over: &'s AtomicBool,
     wires: Vec<Wire<T>>,
@@ -146,7 +146,7 @@ fn start_all<'s, 'b, E, R: Wait + Threads + Clock + Sync, T: Transport + Send + 
 fn time_lines<R: Wait + Clock, T: Transport + Drop>(
     rt: &R,
     alloc: Global,
-    seats: &[Mutex<Held<'_>>],
+    seats: &[Mutex<LiveNode<'_>>],
     nodes: u64,
     lines: &[ClusterLine],
     flight: &mut Flight<'_, T>,
@@ -171,7 +171,7 @@ fn run_threads<R: Wait + Threads + Clock + Sync, T: Transport + Send + Drop>(
     rt: &R,
     alloc: Global,
     nodes: u64,
-    seats: &[Mutex<Held<'_>>],
+    seats: &[Mutex<LiveNode<'_>>],
     bell: &Bell,
     over: &AtomicBool,
     lines: &[ClusterLine],
@@ -216,7 +216,7 @@ fn run_with_runners<R: Wait + Threads + Clock + Sync, T: Transport + Send + Drop
     alloc: Global,
     board: &Board,
     runners: Vec<RunnerSeat>,
-    seats: &[Mutex<Held<'_>>],
+    seats: &[Mutex<LiveNode<'_>>],
     bell: &Bell,
     script: &ClusterScript,
     in_flight: usize,
@@ -250,17 +250,17 @@ fn run_with_runners<R: Wait + Threads + Clock + Sync, T: Transport + Send + Drop
 #[derive(Drop)]
 struct Nodes {
     books: Vec<Book>,
-    lost: Losses,
+    lost: LossCounts,
     unsent: Unsent,
 }
 
 /// What the locks kept.
-fn unlock(alloc: Global, seats: Vec<Mutex<Held<'_>>>) -> Result<Nodes, AllocError>
+fn unlock(alloc: Global, seats: Vec<Mutex<LiveNode<'_>>>) -> Result<Nodes, AllocError>
     ensures { IfOk result (λ kept. length kept.books.items ≡ length seats.entry.items) }
 {
     let mut nodes = Nodes {
         books: Vec::new(alloc),
-        lost: Losses::none(),
+        lost: LossCounts::none(),
         unsent: Unsent::none(),
     };
     for seat in seats {

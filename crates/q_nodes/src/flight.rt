@@ -4,7 +4,7 @@ use crate::bell::Bell;
 use crate::clock::has_passed;
 use crate::outcome::Outcome;
 use crate::seat;
-use q_held::Held;
+use q_held::LiveNode;
 use q_outside::Transport;
 use std::alloc::Global;
 use std::sync::{Mutex, Wait};
@@ -77,7 +77,7 @@ impl<'a, T: Transport + Drop> Flight<'a, T> {
     pub(crate) fn join<R: Wait + Clock>(
         &mut self,
         rt: &R,
-        seats: &[Mutex<Held<'_>>],
+        seats: &[Mutex<LiveNode<'_>>],
         node: u64,
         outcome: &Outcome,
     ) {
@@ -100,7 +100,7 @@ impl<'a, T: Transport + Drop> Flight<'a, T> {
     pub(crate) fn await_fewer<R: Wait + Clock>(
         &mut self,
         rt: &R,
-        seats: &[Mutex<Held<'_>>],
+        seats: &[Mutex<LiveNode<'_>>],
         many: usize,
     ) {
         for _ in 0..MOST_LOOKS {
@@ -117,7 +117,7 @@ impl<'a, T: Transport + Drop> Flight<'a, T> {
 }
 
 /// Whether the operation has ended, or the answer stands. The results that wait for the node of a query are taken.
-fn is_settled<R: Wait>(rt: &R, seats: &[Mutex<Held<'_>>], begun: &Begun) -> bool {
+fn is_settled<R: Wait>(rt: &R, seats: &[Mutex<LiveNode<'_>>], begun: &Begun) -> bool {
     let Some(held) = seat::seat(seats, begun.node) else {
         return true;
     };

@@ -11,7 +11,7 @@ use crate::halt::Halt;
 use crate::outcome::Outcome;
 use crate::script::{ClusterLine, is_node, node_of, program_id};
 use crate::seat;
-use q_held::Held;
+use q_held::LiveNode;
 use q_outside::Transport;
 use q_sim::certified_code;
 use q_table::{Program, ProgramId};
@@ -22,7 +22,7 @@ use std::time::Clock;
 /// Registers a program at a node.
 fn register<R: Wait>(
     rt: &R,
-    seats: &[Mutex<Held<'_>>],
+    seats: &[Mutex<LiveNode<'_>>],
     nodes: u64,
     node: u64,
     program: &Program,
@@ -47,7 +47,7 @@ fn register<R: Wait>(
 fn run_program<R: Wait>(
     rt: &R,
     alloc: Global,
-    seats: &[Mutex<Held<'_>>],
+    seats: &[Mutex<LiveNode<'_>>],
     nodes: u64,
     node: u64,
     code: &[u8],
@@ -64,7 +64,7 @@ fn run_program<R: Wait>(
 /// `store NODE VALUE`.
 fn run_store<R: Wait>(
     rt: &R,
-    seats: &[Mutex<Held<'_>>],
+    seats: &[Mutex<LiveNode<'_>>],
     nodes: u64,
     node: u64,
     value: &[u8],
@@ -88,7 +88,7 @@ fn run_store<R: Wait>(
 /// `ask NODE PROGRAM START`.
 fn run_ask<R: Wait>(
     rt: &R,
-    seats: &[Mutex<Held<'_>>],
+    seats: &[Mutex<LiveNode<'_>>],
     nodes: u64,
     node: u64,
     program: ProgramId,
@@ -114,7 +114,7 @@ fn run_ask<R: Wait>(
 fn run_line<R: Wait>(
     rt: &R,
     alloc: Global,
-    seats: &[Mutex<Held<'_>>],
+    seats: &[Mutex<LiveNode<'_>>],
     nodes: u64,
     line: &ClusterLine,
 ) -> Result<Outcome, Halt>
@@ -139,7 +139,7 @@ fn run_line<R: Wait>(
 pub(crate) fn run_lines<R: Wait + Clock, T: Transport + Drop>(
     rt: &R,
     alloc: Global,
-    seats: &[Mutex<Held<'_>>],
+    seats: &[Mutex<LiveNode<'_>>],
     nodes: u64,
     lines: &[ClusterLine],
     flight: &mut Flight<'_, T>,

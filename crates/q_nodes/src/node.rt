@@ -7,7 +7,7 @@ use crate::bell::Bell;
 use crate::clock::has_passed;
 use crate::script::is_node;
 use q_desk::Completed;
-use q_held::{Held, Unsent, addressee};
+use q_held::{LiveNode, Unsent, addressee};
 use q_outside::Transport;
 use sc_msg::{MOST_MESSAGE_BYTES, Message, Version, encode_fitting};
 use std::alloc::{AllocError, Global};
@@ -140,7 +140,7 @@ struct Heard {
 fn hear<R: Wait>(
     rt: &R,
     alloc: Global,
-    held: &Mutex<Held<'_>>,
+    held: &Mutex<LiveNode<'_>>,
     asked: &mut Asked,
     datagram: &[u8],
 ) -> Heard {
@@ -159,12 +159,12 @@ fn hear<R: Wait>(
 }
 
 /// The version of the book, read under the lock.
-fn version<R: Wait>(rt: &R, held: &Mutex<Held<'_>>) -> Version {
+fn version<R: Wait>(rt: &R, held: &Mutex<LiveNode<'_>>) -> Version {
     held.lock(rt).book.version()
 }
 
 /// Counts what was not sent, under the lock.
-fn count_unsent<R: Wait>(rt: &R, held: &Mutex<Held<'_>>, unsent: Unsent) {
+fn count_unsent<R: Wait>(rt: &R, held: &Mutex<LiveNode<'_>>, unsent: Unsent) {
     if !unsent.is_none() {
         held.lock(rt).count_unsent(unsent);
     }
@@ -194,7 +194,7 @@ fn take_turn<R: Wait + Clock, T: Transport>(
     alloc: Global,
     nodes: u64,
     version: Version,
-    held: &Mutex<Held<'_>>,
+    held: &Mutex<LiveNode<'_>>,
     bell: &Bell,
     asked: &mut Asked,
     wire: &mut Wire<T>,
@@ -217,7 +217,7 @@ fn take_turn<R: Wait + Clock, T: Transport>(
 }
 
 /// Takes results and hands out jobs, and forgets what was asked by operations that have ended, under the lock.
-fn look_through<R: Wait>(rt: &R, held: &Mutex<Held<'_>>, asked: &mut Asked) {
+fn look_through<R: Wait>(rt: &R, held: &Mutex<LiveNode<'_>>, asked: &mut Asked) {
     let mut held = held.lock(rt);
     let _ = held.pump();
     asked.forget_ended(&held.book);
@@ -243,7 +243,7 @@ pub(crate) fn tend<R: Wait + Clock, T: Transport + Drop>(
     rt: &R,
     alloc: Global,
     nodes: u64,
-    held: &Mutex<Held<'_>>,
+    held: &Mutex<LiveNode<'_>>,
     bell: &Bell,
     over: &AtomicBool,
     mut wire: Wire<T>,

@@ -11,18 +11,18 @@ ghost use Rattle.q_nodes.specs.Books.{BeginsQuery, BeginsStore, IsOther, Registe
 use crate::fault::ClusterRunFault;
 use crate::outcome::Outcome;
 use crate::own::is_of;
-use q_held::Held;
+use q_held::LiveNode;
 use q_table::{Program, ProgramId};
 use std::sync::Mutex;
 
 /// The lock of this node, which is counted from 1.
-pub(crate) fn seat<'s, 'b>(seats: &'s [Mutex<Held<'b>>], node: u64) -> Option<&'s Mutex<Held<'b>>> {
+pub(crate) fn seat<'s, 'b>(seats: &'s [Mutex<LiveNode<'b>>], node: u64) -> Option<&'s Mutex<LiveNode<'b>>> {
     let place = node.checked_sub(1)?;
     seats.get(place as usize)
 }
 
 /// Registers a program in the book of the node.
-pub(crate) fn register(held: &mut Held<'_>, node: u64, program: &Program) -> Option<Outcome>
+pub(crate) fn register(held: &mut LiveNode<'_>, node: u64, program: &Program) -> Option<Outcome>
     ensures { MatchOption result ((b : BookState) × IsOther node b) (Registers node program.now) }
 {
     if !is_of(&held.book, node) {
@@ -35,7 +35,7 @@ pub(crate) fn register(held: &mut Held<'_>, node: u64, program: &Program) -> Opt
 }
 
 /// Begins to store a value of these bytes in the book of the node.
-pub(crate) fn store(held: &mut Held<'_>, node: u64, value: &[u8]) -> Option<Outcome>
+pub(crate) fn store(held: &mut LiveNode<'_>, node: u64, value: &[u8]) -> Option<Outcome>
     ensures { MatchOption result ((b : BookState) × IsOther node b) (BeginsStore node value.now) }
 {
     if !is_of(&held.book, node) {
@@ -48,7 +48,7 @@ pub(crate) fn store(held: &mut Held<'_>, node: u64, value: &[u8]) -> Option<Outc
 }
 
 /// Begins a query in the book of the node.
-pub(crate) fn ask(held: &mut Held<'_>, node: u64, program: ProgramId, start: u64) -> Option<Outcome>
+pub(crate) fn ask(held: &mut LiveNode<'_>, node: u64, program: ProgramId, start: u64) -> Option<Outcome>
     ensures { MatchOption result ((b : BookState) × IsOther node b) (BeginsQuery node program start) }
 {
     if !is_of(&held.book, node) {

@@ -79,9 +79,9 @@ module _ (first : ClusterState) (last : SimState) (stays : (c : ClusterState) �
 -- recorded answers stay in every history, so what a script printed is true
 pub printed_true : ((version : Version) (config : Config) (founders : List ℕ) (before after : List ClusterEvent) (c later : ClusterState) → Reaches (start version config founders) before c → Reaches c after later
     → AnswersStay c later)
-    → {F : Type 0} (writes : Writing F) (script : Script) (before : F) (text : List ℕ) (unwritten refused : Bool) (after : F) (s : Simulates writes script before text unwritten refused after)
+    → {F : Type 0} (writes : Writing F) (script : Script) (before : F) (text : List ℕ) (unsaved refused : Bool) (after : F) (s : Simulates writes script before text unsaved refused after)
     → AreTrueLines s.last.cluster refused script.lines.items text
-printed_true stay writes script before text unwritten refused after s =
+printed_true stay writes script before text unsaved refused after s =
     let config = config_of script.founding in
     let ids = founders_of script.founding in
     let first = start Second config ids in

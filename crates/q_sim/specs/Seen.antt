@@ -4,7 +4,7 @@ use Rattle.q_sim.specs.Simulates.{SimState}
 use Rattle.q_sim.specs.declared.simulation.Simulation.{Simulation}
 
 abbrev pub seen : Simulation → SimState
-seen s = record { cluster = s.cluster; nodes = s.nodes.items; delivered = s.delivered; unwritten = s.unwritten; line = s.line; faults = s.faults.items }
+seen s = record { cluster = s.cluster; nodes = s.nodes.items; delivered = s.delivered; unsaved = s.unsaved; line = s.line; faults = s.faults.items }
 
 -- it does that, and what it prints stands behind what was printed
 abbrev pub Prints : (SimState → List ℕ → SimState → Type 0) → Simulation → Simulation → Type 0

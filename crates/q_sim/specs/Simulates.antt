@@ -39,7 +39,7 @@ pub record SimState : Type 0 where
   pub cluster : ClusterState
   pub nodes : List ℕ  -- the ids that entered, in rising order
   pub delivered : Deliveries  -- what was delivered, or tried by `all`
-  pub unwritten : Bool  -- whether a journal was not written
+  pub unsaved : Bool  -- whether a journal was not written
   pub line : ℕ  -- the number of the line that is run, where the founding line is 1
   pub faults : List RefusedLine  -- the lines that were refused, in turn, each with its refusal
 
@@ -92,7 +92,7 @@ pub record Acts (e : ClusterEvent) (s : SimState) (text : List ℕ) (t : SimStat
   pub takes : Takes s.cluster e t.cluster result
   pub nodes : t.nodes ≡ joined e result s.nodes
   pub delivered : t.delivered ≡ noted e result s.delivered
-  pub unwritten : t.unwritten ≡ s.unwritten
+  pub unsaved : t.unsaved ≡ s.unsaved
   pub line : t.line ≡ s.line
   pub faults : t.faults ≡ or_refused s.line result s.faults
   pub says : text ≡ printed t.cluster result
@@ -125,7 +125,7 @@ pub record Tries (s : SimState) (message node : ℕ) (t : SimState) : Type 0 whe
   pub answered : result ≢ Err memory
   pub nodes : t.nodes ≡ s.nodes
   pub delivered : t.delivered ≡ set.insert s.delivered (message, node)
-  pub unwritten : t.unwritten ≡ s.unwritten
+  pub unsaved : t.unsaved ≡ s.unsaved
   pub line : t.line ≡ s.line
   pub faults : t.faults ≡ s.faults
 
@@ -170,7 +170,7 @@ module _ {F : Type 0} (writes : Writing F) where
   abbrev pub SavesBook : BookState → List ℕ → SimState → F → List ℕ → SimState → F → Type 0
   SavesBook b name s before text t after =
       (writes before name (journal_of b) (Ok tt) after × (t ≡ s) × (text ≡ journal_line (length b.desk.journal)))
-      ⊎ (writes before name (journal_of b) (Err Failed) after × (t ≡ record (refusing refusal.FileFailed s) { unwritten = true }) × (text ≡ refusal_line refusal.FileFailed))
+      ⊎ (writes before name (journal_of b) (Err Failed) after × (t ≡ record (refusing refusal.FileFailed s) { unsaved = true }) × (text ≡ refusal_line refusal.FileFailed))
 
   -- the same of a book that may be none: then the line is refused, that is printed, and nothing else is done
   abbrev pub SavesAny : Option BookState → List ℕ → SimState → F → List ℕ → SimState → F → Type 0
@@ -246,7 +246,7 @@ pub record Begins (f : Founding) (s : SimState) : Type 0 where
   pub started : started Second (config_of f) (founders_of f) ≡ Ok s.cluster
   pub nodes : s.nodes ≡ founders_of f
   pub delivered : s.delivered ≡ set.empty
-  pub unwritten : s.unwritten ≡ false
+  pub unsaved : s.unsaved ≡ false
   pub line : s.line ≡ 1
   pub faults : s.faults ≡ []
 
@@ -260,17 +260,17 @@ IsSimulationFault f r = ⊥
 -- The script's lines in turn make this cluster of its founders, over files that stand thus before and after, and print
 -- this text; and each answer that the cluster recorded is right, and each node's book is the replay of its journal. It
 -- is told whether a journal was not written, and whether a line was refused.
-pub record Simulates {F : Type 0} (writes : Writing F) (script : Script) (before : F) (text : List ℕ) (unwritten refused : Bool) (after : F) : Type 0 where
+pub record Simulates {F : Type 0} (writes : Writing F) (script : Script) (before : F) (text : List ℕ) (unsaved refused : Bool) (after : F) : Type 0 where
   pub first : SimState
   pub last : SimState
   pub begins : Begins script.founding first
   pub plays : Plays writes script.lines.items first before text last after
-  pub told : unwritten ≡ last.unwritten
+  pub told : unsaved ≡ last.unsaved
   pub shown : refused ≡ is_any last.faults
   pub answers : AnswersAreTrue last.cluster
   pub books : BooksAreReplays last.cluster
 
 -- the same, where it is told which lines were refused
 abbrev pub TellsFaults : {F : Type 0} → Writing F → Script → F → List ℕ → Bool → Bool → List RefusedLine → F → Type 0
-TellsFaults writes script before text unwritten refused faults after =
-    (s : Simulates writes script before text unwritten refused after) × (s.last.faults ≡ faults)
+TellsFaults writes script before text unsaved refused faults after =
+    (s : Simulates writes script before text unsaved refused after) × (s.last.faults ≡ faults)

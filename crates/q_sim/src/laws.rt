@@ -14,7 +14,7 @@ use q_outside::Files;
 /// the view that the query's own collect returned; and that view holds each store that ended before the collect began
 /// and that meets it.
 pub fn every_printed_answer_is_true<F: Files>()
-    ensures { (script : Script) (before after : F) (text : List ℕ) (unwritten refused : Bool) (s : Simulates F.write_gives script before text unwritten refused after) → AreTrueLines s.last.cluster refused script.lines.items text }
+    ensures { (script : Script) (before after : F) (text : List ℕ) (unsaved refused : Bool) (s : Simulates F.write_gives script before text unsaved refused after) → AreTrueLines s.last.cluster refused script.lines.items text }
 {
     answers_stay();
 }

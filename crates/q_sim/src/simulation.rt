@@ -33,7 +33,7 @@ struct Simulation {
     /// No message before this one awaits a delivery: `all` begins here.
     awaited_from: usize,
     /// Whether a journal was not written.
-    unwritten: bool,
+    unsaved: bool,
     /// The number of the line that is run.
     line: usize,
     /// The lines that were refused.
@@ -41,7 +41,7 @@ struct Simulation {
     lines: String,
     ghost rising: { Rises nodes.items },
     ghost sent: { awaited_from ≤ length cluster.past.sent },
-    ghost passed: { AwaitsFrom awaited_from (record { cluster = cluster; nodes = nodes.items; delivered = delivered; unwritten = unwritten; line = line; faults = faults.items }) },
+    ghost passed: { AwaitsFrom awaited_from (record { cluster = cluster; nodes = nodes.items; delivered = delivered; unsaved = unsaved; line = line; faults = faults.items }) },
 }
 
 /// How the deliveries of one message went.
@@ -61,7 +61,7 @@ pub struct Printed {
     /// The lines.
     pub lines: String,
     /// Whether a journal was not written, since its file failed.
-    pub unwritten: bool,
+    pub unsaved: bool,
     /// Whether a line was refused: its refusal stands among the lines. Deliveries that an `all` tries, and that are
     /// refused, print nothing and do not count, unless memory ran out.
     pub refused: bool,
@@ -76,8 +76,8 @@ pub struct Printed {
 /// with a journal whose file fails. It is told which lines were refused. After each line it is told how many of all are
 /// done.
 pub fn simulate<F: Files>(alloc: Global, script: Script, files: &mut F) -> Result<Printed, Refusal>
-    ensures printed { IfOk result (λ p. Simulates F.write_gives script files.old (string_bytes p.lines) p.unwritten p.refused files.new) }
-    ensures faults { IfOk result (λ p. TellsFaults F.write_gives script files.old (string_bytes p.lines) p.unwritten p.refused p.faults.items files.new) }
+    ensures printed { IfOk result (λ p. Simulates F.write_gives script files.old (string_bytes p.lines) p.unsaved p.refused files.new) }
+    ensures faults { IfOk result (λ p. TellsFaults F.write_gives script files.old (string_bytes p.lines) p.unsaved p.refused p.faults.items files.new) }
     ensures refused { IfErr result (IsSimulationFault script.founding) }
     ensures unbegun { IfErr result (λ r. r ≢ Refusal.OutOfMemory → files.new ≡ files.old) }
 {
@@ -94,14 +94,14 @@ pub fn simulate<F: Files>(alloc: Global, script: Script, files: &mut F) -> Resul
     simulation.cluster.answers_are_true();
     simulation.cluster.books_are_replays();
     let Simulation {
-        unwritten,
+        unsaved,
         faults,
         lines,
         ..
     } = simulation;
     Ok(Printed {
         lines,
-        unwritten,
+        unsaved,
         refused: !faults.is_empty(),
         faults,
     })
@@ -174,7 +174,7 @@ impl Simulation {
             nodes,
             delivered: Delivered::new(alloc),
             awaited_from: 0,
-            unwritten: false,
+            unsaved: false,
             line: 1,
             faults: Vec::new(alloc),
             lines: String::new(alloc),
@@ -393,7 +393,7 @@ impl Simulation {
         match files.write(name, bytes.as_slice()) {
             Ok(()) => writeln!(self.lines, "journal {events} events"),
             Err(FileFault::Failed) => {
-                self.unwritten = true;
+                self.unsaved = true;
                 self.refuse(&Refusal::FileFailed)
             }
             Err(FileFault::OutOfMemory) => Err(AllocError),

@@ -75,7 +75,7 @@ pub fn worked()
     ensures message_first { event_of (line.Deliver 7 3) ≡ Some (event.Deliver 7 3) }
     ensures event { (l : ScriptLine) (e : ClusterEvent) (s t : SimState) (before after : Memory) (text : List ℕ) → event_of l ≡ Some e → Plays (Writes {X = Unit {0}}) (l ∷ []) s before text t after → (result : _) × Takes s.cluster e t.cluster result }
     ensures no_such_node { (name text : List ℕ) (s t : SimState) (before after : Memory) → book_at s.cluster 3 ≡ None → Saves (Writes {X = Unit {0}}) 3 name s before text t after → after ≡ before }
-    ensures file_fails { (book : BookState) (name text : List ℕ) (s t : SimState) (before after : Memory) → fails_next before.passing ≡ true → SavesBook (Writes {X = Unit {0}}) book name s before text t after → t.unwritten ≡ true }
+    ensures file_fails { (book : BookState) (name text : List ℕ) (s t : SimState) (before after : Memory) → fails_next before.passing ≡ true → SavesBook (Writes {X = Unit {0}}) book name s before text t after → t.unsaved ≡ true }
 
     // Where no line was refused, a `run` prints an answer that the cluster has recorded.
     ensures unrefused_run { (c : ClusterState) (text : List ℕ) → AreTrueLines c false (line.Run 4 ∷ []) text → IsTrueAnswer c text }

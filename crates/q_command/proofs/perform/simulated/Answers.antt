@@ -11,7 +11,7 @@ use Rattle.q_command.proofs.Refused.{unsimulated_script}
 use Rattle.q_command.proofs.perform.simulated.Goals as goal
 
 printed : {F : Type 0} (writes : Writing F) (bytes : List ℕ) (script : Script) (old new : F) (r : Result Printed Refusal) → IsUtf8 bytes → IsScript bytes script
-    → IfOk r (λ p. Simulates writes script old (string_bytes p.lines) p.unwritten p.refused new) → IfOk r (λ p. IsSimulated writes bytes old (string_bytes p.lines) p.unwritten p.refused new)
+    → IfOk r (λ p. Simulates writes script old (string_bytes p.lines) p.unsaved p.refused new) → IfOk r (λ p. IsSimulated writes bytes old (string_bytes p.lines) p.unsaved p.refused new)
 printed writes bytes script old new (Ok p) utf8 spelled h = record { script = script; utf8 = utf8; spelled = spelled; simulates = h }
 printed writes bytes script old new (Err r) utf8 spelled h = tt
 

@@ -57,16 +57,16 @@ pub returns-clause-disassembled : goal.returns-clause-disassembled
 returns-clause-disassembled c = λ lines h. h.written ∙ ap disassembly (one_exit h.text h.program.0 h.program.1)
 
 pub returns-clause-dis_is_of_bytes : goal.returns-clause-dis_is_of_bytes
-returns-clause-dis_is_of_bytes c = λ file denied old new named goes there failed h.
-    elim (subst (λ (name : List ℕ). RefusesFile (Reads longest_text) (IsUnspelled Bytes) name old denied new) named h) [
+returns-clause-dis_is_of_bytes c = λ file command_refused old new named goes there failed h.
+    elim (subst (λ (name : List ℕ). RefusesFile (Reads longest_text) (IsUnspelled Bytes) name old command_refused new) named h) [
       | inl unread ↦ was_read longest_text (149 ∷ replicate 7 0) old new unread.2.0 (lit≤ tt) goes there unread.2.1 (sym failed ∙ unread.2.2)
-      | inr read ↦ subst (IsUnspelled Bytes denied.bytes.items) failed read.2
+      | inr read ↦ subst (IsUnspelled Bytes command_refused.bytes.items) failed read.2
     ]
 
 -- ---- what `check` reads, tells and writes
 
 pub returns-clause-checked_as_bytes : goal.returns-clause-checked_as_bytes
-returns-clause-checked_as_bytes c = λ asked source lines unwritten old new is h.
+returns-clause-checked_as_bytes c = λ asked source lines unsaved old new is h.
     (h.text, (subst (λ (held : ProgramForm). Spells held source h.text) is h.verified.program).1)
 
 pub returns-clause-accepted_alone : goal.returns-clause-accepted_alone
@@ -79,9 +79,9 @@ returns-clause-accepted_with_states c = refl
 
 pub returns-clause-unasked : goal.returns-clause-unasked
 unfolding digits
-returns-clause-unasked c = λ asked source lines unwritten old new states none h one.
+returns-clause-unasked c = λ asked source lines unsaved old new states none h one.
     let told : List ℕ = acceptance asked.states h.text h.notes h.longest in
-    (subst (λ (name : Option (Bor (List ℕ))). SavesNotes (Writes {X = Unit {0}}) name h.notes told old lines unwritten new) none h.told).0
+    (subst (λ (name : Option (Bor (List ℕ))). SavesNotes (Writes {X = Unit {0}}) name h.notes told old lines unsaved new) none h.told).0
     ∙ (λ j. acceptance (states j) h.text h.notes (one j))
 
 pub returns-clause-failed_is_unsaved : goal.returns-clause-failed_is_unsaved
@@ -118,9 +118,9 @@ some_is : (a b : List ℕ) → Some a ≡ Some b → a ≡ b
 some_is a b e = cc
 
 pub returns-clause-refused_bytes : goal.returns-clause-refused_bytes
-returns-clause-refused_bytes c = λ denied old new goes there failed h. elim h [
+returns-clause-refused_bytes c = λ command_refused old new goes there failed h. elim h [
   | inl unread ↦ absurd (was_read 99 (255 ∷ []) old new unread.2.0 (lit≤ tt) goes there unread.2.1 (sym failed ∙ unread.2.2))
-  | inr read ↦ some_is denied.bytes.items (255 ∷ []) (sym read.1.0.1 ∙ there)
+  | inr read ↦ some_is command_refused.bytes.items (255 ∷ []) (sym read.1.0.1 ∙ there)
 ]
 
 pub returns-clause-no_advice_of_text : goal.returns-clause-no_advice_of_text
@@ -129,7 +129,7 @@ returns-clause-no_advice_of_text c = λ told text is h. h is
 -- ---- ends
 
 -- a command that ended so wrote each journal
-was_saved : (strict unwritten refused : Bool) → Answered ≡ end_of strict unwritten refused → unwritten ≡ false
+was_saved : (strict unsaved refused : Bool) → Answered ≡ end_of strict unsaved refused → unsaved ≡ false
 was_saved strict true refused e = absurd cc
 was_saved strict false refused e = refl
 

@@ -4,7 +4,7 @@ use Rattle.std.specs.Prelude.{slice_get}
 use Rattle.sc_msg.specs.declared.message.Message.{Message}
 use Rattle.q_kept.specs.declared.question.Question.{Question}
 use Rattle.q_kept.specs.Questions.{goes_again, new_question}
-use Rattle.q_held.specs.Held.{both_unsent}
+use Rattle.q_held.specs.LiveNodes.{both_unsent}
 use Rattle.q_kept.proofs.Gifts.{next_fitting, next_none, next_unfit}
 use Rattle.q_kept.proofs.giving.give_next.Goals as goal
 

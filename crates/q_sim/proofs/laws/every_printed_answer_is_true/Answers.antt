@@ -5,4 +5,4 @@ use Rattle.q_sim.proofs.Truths.{printed_true}
 use Rattle.q_sim.proofs.laws.every_printed_answer_is_true.Goals as goal
 
 pub returns : goal.returns
-returns g c = λ script before after text unwritten refused s. printed_true c.answers_stay.ensures g.F.Files.write_gives script before text unwritten refused after s
+returns g c = λ script before after text unsaved refused s. printed_true c.answers_stay.ensures g.F.Files.write_gives script before text unsaved refused after s

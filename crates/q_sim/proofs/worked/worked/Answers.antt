@@ -108,7 +108,7 @@ returns-clause-no_such_node c = λ name text s t before after none h.
 pub returns-clause-file_fails : goal.returns-clause-file_fails
 returns-clause-file_fails c = λ book name text s t before after fails h. elim h [
   | inl written ↦ absurd (true≢false (sym fails ∙ written.0.0.0))
-  | inr failed ↦ ap (λ (x : SimState). x.unwritten) failed.1
+  | inr failed ↦ ap (λ (x : SimState). x.unsaved) failed.1
 ]
 
 pub returns-clause-unrefused_run : goal.returns-clause-unrefused_run

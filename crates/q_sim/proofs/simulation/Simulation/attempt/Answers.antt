@@ -14,7 +14,7 @@ invariant_of-self-2 c =
     let goes = takes_goes s.cluster cluster _ c.step-answer.result (λ id is. absurd (cc)) c.step-answer.ensures.takes in
     let low : s.awaited_from ≤ length s.cluster.past.sent = s.sent in
     let more : length s.cluster.past.sent ≤ length cluster.past.sent = goes.sent in
-    let after : SimState = record { cluster = cluster; nodes = s.nodes.items; delivered = delivered; unwritten = s.unwritten; line = s.line; faults = s.faults.items } in
+    let after : SimState = record { cluster = cluster; nodes = s.nodes.items; delivered = delivered; unsaved = s.unsaved; line = s.line; faults = s.faults.items } in
     record {
       rising = s.rising;
       sent = omega (arith, low, more);

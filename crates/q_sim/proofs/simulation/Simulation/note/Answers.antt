@@ -10,7 +10,7 @@ pub invariant_of-self : goal.invariant_of-self
 invariant_of-self c =
     let s = c.args.self.now in
     let delivered = c.insert.new.self in
-    let after : SimState = record { cluster = s.cluster; nodes = s.nodes.items; delivered = delivered; unwritten = s.unwritten; line = s.line; faults = s.faults.items } in
+    let after : SimState = record { cluster = s.cluster; nodes = s.nodes.items; delivered = delivered; unsaved = s.unsaved; line = s.line; faults = s.faults.items } in
     record {
       rising = s.rising;
       sent = s.sent;

@@ -13,7 +13,7 @@ invariant_of-self-in_default c =
     let goes = takes_goes s.cluster cluster c.args.event.now (Ok c.in_ok-stepped.stepped) c.in_default.not-Enter c.in_ok-stepped.ensures.takes in
     let low : s.awaited_from ≤ length s.cluster.past.sent = s.sent in
     let more : length s.cluster.past.sent ≤ length cluster.past.sent = goes.sent in
-    let after : SimState = record { cluster = cluster; nodes = s.nodes.items; delivered = s.delivered; unwritten = s.unwritten; line = s.line; faults = s.faults.items } in
+    let after : SimState = record { cluster = cluster; nodes = s.nodes.items; delivered = s.delivered; unsaved = s.unsaved; line = s.line; faults = s.faults.items } in
     record {
       rising = s.rising;
       sent = omega (arith, low, more);

@@ -1,7 +1,7 @@
 -- The bytes are looked up.
 use Rattle.std.proofs.Common.{◌∙◌}
 use Rattle.q_gather.proofs.Table.{found_number}
-use Rattle.q_gather.proofs.numbers.Numbers.find.Goals as goal
+use Rattle.q_gather.proofs.message_numbers.MessageNumbers.find.Goals as goal
 
 pub returns-clause-number : goal.returns-clause-number
 returns-clause-number c =

@@ -4,7 +4,7 @@ use q_sim::Refusal;
 
 /// Why a command was refused, and what was read of the file that it was refused for.
 #[derive(Drop)]
-pub struct Denied<'a> {
+pub struct RefusedCommand<'a> {
     /// Why.
     pub refusal: Refusal,
     /// The name of the file.

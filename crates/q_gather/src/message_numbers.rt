@@ -13,12 +13,12 @@ use std::marker::Model;
 /// The least number at which each message was sent, by its bytes in version 2, in which each message has some.
 /// Contracts see it as a list of bytes, each with a number.
 #[derive(Drop)]
-pub struct Numbers {
+pub struct MessageNumbers {
     alloc: Global,
     by_bytes: IndexMap<Vec<u8>, usize>,
 }
 
-impl Model for Numbers {
+impl Model for MessageNumbers {
     ghost use Rattle.std.specs.Prelude.{ℕ, List, map};
 
     ghost Value = { List (List ℕ × ℕ) };
@@ -26,12 +26,12 @@ impl Model for Numbers {
     ghost view = { λ n. map (λ e. (e.0.items, e.1)) n.by_bytes.entries };
 }
 
-impl Numbers {
+impl MessageNumbers {
     /// No message has a number.
-    pub fn new(alloc: Global) -> Numbers
+    pub fn new(alloc: Global) -> MessageNumbers
         ensures { result ≡ [] }
     {
-        Numbers {
+        MessageNumbers {
             alloc,
             by_bytes: IndexMap::new(alloc),
         }

@@ -3,9 +3,9 @@
 ghost use Rattle.std.specs.Prelude.{◌≡◌, ◌≤◌, ◌+◌, [], vec_len, vec_capacity, MatchResult};
 ghost use Rattle.q_board.specs.BoardId.{board_id};
 ghost use Rattle.q_board.specs.Pumped.{Pumped, Stopped};
-ghost use Rattle.q_held.specs.Held.{Asks, Delivers, Hears, Leaves, Receives, Stores, both_unsent, counted, no_losses, no_unsent};
+ghost use Rattle.q_held.specs.LiveNodes.{Asks, Delivers, Hears, Leaves, Receives, Stores, both_unsent, counted, no_losses, no_unsent};
 
-use crate::losses::{Losses, Unsent};
+use crate::losses::{LossCounts, Unsent};
 use q_board::{AskerSeat, Board, pump_once};
 use q_book::{Asked, Book, BookFault};
 use q_desk::Completed;
@@ -16,13 +16,13 @@ use std::alloc::Global;
 
 /// A node's book, the messages that its thread has still to send, and its seat at the board of jobs.
 #[derive(Drop)]
-pub struct Held<'b> {
+pub struct LiveNode<'b> {
     /// The book, which is the replay of its journal.
     pub book: Book,
     /// What the book gave and the node's thread did not send yet, in turn.
     pub waiting: Vec<Message>,
     /// The datagrams that changed nothing so far.
-    pub lost: Losses,
+    pub lost: LossCounts,
     /// What the node's thread did not send so far.
     pub unsent: Unsent,
     /// The board.
@@ -34,7 +34,7 @@ pub struct Held<'b> {
 
 /// Why a datagram changes nothing: it counts as lost.
 #[derive(Clone, Copy)]
-pub enum Lost {
+pub enum LossReason {
     /// Its bytes spell no message of the book's version.
     Bytes(MessageFault),
     /// The book refuses the message.
@@ -43,9 +43,9 @@ pub enum Lost {
     OutOfMemory,
 }
 
-impl<'b> Held<'b> {
+impl<'b> LiveNode<'b> {
     /// A book that gave nothing and heard nothing yet.
-    pub fn new(alloc: Global, book: Book, board: &'b Board, asker: AskerSeat) -> Held<'b>
+    pub fn new(alloc: Global, book: Book, board: &'b Board, asker: AskerSeat) -> LiveNode<'b>
         requires { asker.table ≡ board_id board.now }
         ensures book { result.book ≡ book }
         ensures waiting { result.waiting.items ≡ [] }
@@ -53,10 +53,10 @@ impl<'b> Held<'b> {
         ensures unsent { result.unsent ≡ no_unsent }
         ensures asker { result.asker ≡ asker }
     {
-        Held {
+        LiveNode {
             book,
             waiting: Vec::new(alloc),
-            lost: Losses::none(),
+            lost: LossCounts::none(),
             unsent: Unsent::none(),
             board,
             asker,
@@ -64,7 +64,7 @@ impl<'b> Held<'b> {
     }
 
     /// Takes a datagram that was received, and answers which operation it ended. An empty one is a bell, which only
-    /// wakes the node's thread: it is not heard, and not lost. Any other is heard, as by [`Held::hear`].
+    /// wakes the node's thread: it is not heard, and not lost. Any other is heard, as by [`LiveNode::hear`].
     pub fn receive(&mut self, alloc: Global, datagram: &[u8]) -> Option<Completed>
         ensures received { Receives datagram.now self.old.book self.old.waiting.items self.old.lost result self.new.book self.new.waiting.items self.new.lost }
         ensures unsent { self.new.unsent ≡ self.old.unsent }
@@ -79,7 +79,7 @@ impl<'b> Held<'b> {
     /// Takes the bytes of a datagram: the message that they spell in the book's version is delivered, what the book
     /// gives waits behind what waits already, and the operation that the message ended is answered. Where that is
     /// refused the datagram counts as lost, and nothing else changes.
-    pub fn hear(&mut self, alloc: Global, bytes: &[u8]) -> Result<Option<Completed>, Lost>
+    pub fn hear(&mut self, alloc: Global, bytes: &[u8]) -> Result<Option<Completed>, LossReason>
         ensures heard { Hears bytes.now self.old.book self.old.waiting.items result self.new.book self.new.waiting.items }
         ensures counted { self.new.lost ≡ counted result self.old.lost }
         ensures unsent { self.new.unsent ≡ self.old.unsent }
@@ -95,7 +95,7 @@ impl<'b> Held<'b> {
     }
 
     /// The same, and nothing is counted.
-    fn take_bytes(&mut self, alloc: Global, bytes: &[u8]) -> Result<Option<Completed>, Lost>
+    fn take_bytes(&mut self, alloc: Global, bytes: &[u8]) -> Result<Option<Completed>, LossReason>
         ensures heard { Hears bytes.now self.old.book self.old.waiting.items result self.new.book self.new.waiting.items }
         ensures lost { self.new.lost ≡ self.old.lost }
         ensures unsent { self.new.unsent ≡ self.old.unsent }
@@ -103,16 +103,16 @@ impl<'b> Held<'b> {
     {
         let message = match decode_as(alloc, self.book.version(), bytes) {
             Ok(message) => message,
-            Err(fault) => return Err(Lost::Bytes(fault)),
+            Err(fault) => return Err(LossReason::Bytes(fault)),
         };
         if self.waiting.reserve(2).is_err() {
-            return Err(Lost::OutOfMemory);
+            return Err(LossReason::OutOfMemory);
         }
         self.take_in(&message)
     }
 
     /// Delivers a message, for whose answers there is room.
-    fn take_in(&mut self, message: &Message) -> Result<Option<Completed>, Lost>
+    fn take_in(&mut self, message: &Message) -> Result<Option<Completed>, LossReason>
         requires { vec_len self.old.waiting + 2 ≤ vec_capacity self.old.waiting }
         ensures delivered { Delivers message.now self.old.book self.old.waiting.items result self.new.book self.new.waiting.items }
         ensures lost { self.new.lost ≡ self.old.lost }
@@ -124,7 +124,7 @@ impl<'b> Held<'b> {
                 taken.outs.append_to(&mut self.waiting);
                 Ok(taken.completed)
             }
-            Err(fault) => Err(Lost::Book(fault)),
+            Err(fault) => Err(LossReason::Book(fault)),
         }
     }
 

@@ -11,9 +11,9 @@ use Rattle.reasons.specs.declared.Reason.TheVariants.{OutOfMemory as memory}
 use Rattle.q_book.specs.declared.answer.Asked.{Asked}
 use Rattle.q_book.specs.declared.answer.Delivery.{Delivery}
 use Rattle.reasons.specs.declared.Reason.{Reason}
-use Rattle.q_held.specs.declared.held.Lost.{Lost}
-use Rattle.q_held.specs.declared.held.Lost.TheVariants as lost
-use Rattle.q_held.specs.declared.losses.Losses.{Losses}
+use Rattle.q_held.specs.declared.live_node.LossReason.{LossReason}
+use Rattle.q_held.specs.declared.live_node.LossReason.TheVariants as lost
+use Rattle.q_held.specs.declared.losses.LossCounts.{LossCounts}
 use Rattle.q_held.specs.declared.losses.Unsent.{Unsent}
 
 -- the book and what waits are as they were
@@ -22,14 +22,14 @@ IsSame b had c has = (c ≡ b) × (has ≡ had)
 
 -- the message is delivered, what it ended is answered, and what the book gives waits behind what waited; or the book
 -- refuses it
-abbrev pub Delivers : Message → BookState → List Message → Result (Option Completed) Lost → BookState → List Message → Type 0
+abbrev pub Delivers : Message → BookState → List Message → Result (Option Completed) LossReason → BookState → List Message → Type 0
 Delivers m b had (Ok ended) c has = (a : Delivery) × (delivered b m ≡ Ok (a, c)) × (ended ≡ a.completed) × (has ≡ had ++ a.outs)
 Delivers m b had (Err (lost.Book f)) c has = IsSame b had c has × (f ≢ memory → delivered b m ≡ Err f)
 Delivers m b had (Err e) c has = ⊥
 
 -- the bytes spell a message of the book's version, which is delivered or which the book refuses; or they spell none; or
 -- memory ran out
-abbrev pub Hears : List ℕ → BookState → List Message → Result (Option Completed) Lost → BookState → List Message → Type 0
+abbrev pub Hears : List ℕ → BookState → List Message → Result (Option Completed) LossReason → BookState → List Message → Type 0
 Hears bytes b had (Err (lost.Bytes f)) c has = IsSame b had c has × IsFault b.version bytes f
 Hears bytes b had (Err lost.OutOfMemory) c has = IsSame b had c has
 Hears bytes b had result c has = (m : Message) × IsMessage b.version m × (bytes ≡ message_bytes b.version m) × Delivers m b had result c has
@@ -51,7 +51,7 @@ Leaves b had (Err f) c has = IsSame b had c has × (f ≢ memory → left b ≡ 
 
 -- ---- datagrams that changed nothing
 
-abbrev pub no_losses : Losses
+abbrev pub no_losses : LossCounts
 no_losses = record { bytes = 0; book = 0; memory = 0 }
 
 -- a sum, up to the greatest value
@@ -59,32 +59,32 @@ abbrev pub sum_of : ℕ → ℕ → ℕ
 sum_of m n = min (m + n) (2 ^ 64 - 1)
 
 -- one datagram more
-abbrev pub with_one : Losses → Lost → Losses
+abbrev pub with_one : LossCounts → LossReason → LossCounts
 with_one l (lost.Bytes f) = record l { bytes = sum_of l.bytes 1 }
 with_one l (lost.Book f) = record l { book = sum_of l.book 1 }
 with_one l lost.OutOfMemory = record l { memory = sum_of l.memory 1 }
 
 -- after a datagram that may have changed nothing
-abbrev pub counted : Result (Option Completed) Lost → Losses → Losses
+abbrev pub counted : Result (Option Completed) LossReason → LossCounts → LossCounts
 counted (Ok ended) l = l
 counted (Err e) l = with_one l e
 
 -- what it ended
-abbrev pub ended_by : Result (Option Completed) Lost → Option Completed
+abbrev pub ended_by : Result (Option Completed) LossReason → Option Completed
 ended_by (Ok ended) = ended
 ended_by (Err e) = None
 
 -- An empty datagram is a bell: it ends and changes nothing. Any other is heard, and counted where it changes nothing.
-abbrev pub Receives : List ℕ → BookState → List Message → Losses → Option Completed → BookState → List Message → Losses → Type 0
+abbrev pub Receives : List ℕ → BookState → List Message → LossCounts → Option Completed → BookState → List Message → LossCounts → Type 0
 Receives [] b had l ended c has k = IsSame b had c has × (ended ≡ None) × (k ≡ l)
 Receives (byte ∷ bytes) b had l ended c has k =
-    (r : Result (Option Completed) Lost) × Hears (byte ∷ bytes) b had r c has × (ended ≡ ended_by r) × (k ≡ counted r l)
+    (r : Result (Option Completed) LossReason) × Hears (byte ∷ bytes) b had r c has × (ended ≡ ended_by r) × (k ≡ counted r l)
 
-abbrev pub together : Losses → Losses → Losses
+abbrev pub together : LossCounts → LossCounts → LossCounts
 together l k = record { bytes = sum_of l.bytes k.bytes; book = sum_of l.book k.book; memory = sum_of l.memory k.memory }
 
 -- the line that tells them, without the line feed
-abbrev pub losses_text : Losses → List ℕ
+abbrev pub losses_text : LossCounts → List ℕ
 losses_text l =
     codes "refused datagrams: " ++ (decimal l.bytes ++ (codes " that spell no message, " ++ (decimal l.book ++ (codes " by books, " ++ (decimal l.memory ++ codes " for want of memory")))))
 

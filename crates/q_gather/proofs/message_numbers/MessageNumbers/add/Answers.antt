@@ -3,7 +3,7 @@ use Rattle.std.proofs.Common.{sym, ◌∙◌}
 use Rattle.std.specs.Str.{bytes_eq}
 use Rattle.indexmap.proofs.CallerLemmas.{insert_entry-new}
 use Rattle.q_gather.proofs.Table.{none_there, added_there, added_new}
-use Rattle.q_gather.proofs.numbers.Numbers.add.Goals as goal
+use Rattle.q_gather.proofs.message_numbers.MessageNumbers.add.Goals as goal
 
 pub returns-else-is_none-clause-added : goal.returns-else-is_none-clause-added
 returns-else-is_none-clause-added c =
