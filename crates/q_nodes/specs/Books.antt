@@ -12,6 +12,8 @@ use Rattle.q_book.specs.Books.{asked, registered, stored}
 use Rattle.q_book.specs.Replays.{IsReplay}
 use Rattle.reasons.specs.declared.Reason.TheVariants.{OutOfMemory as memory}
 use Rattle.q_book.specs.declared.answer.Asked.{Asked}
+use Rattle.q_nodes.specs.declared.lock.NodeCall.{NodeCall}
+use Rattle.q_nodes.specs.declared.lock.NodeCall.TheVariants as call
 use Rattle.q_nodes.specs.declared.outcome.Outcome.{Outcome}
 use Rattle.q_nodes.specs.declared.outcome.Outcome.TheVariants as outcome
 use Rattle.q_nodes.specs.Faults.{of_fault}
@@ -57,3 +59,8 @@ BeginsStore node value = Calls (λ (a : Begun). outcome.Stored a.tag) node (λ b
 
 abbrev pub BeginsQuery : ℕ → ℕ → ℕ → Outcome → Type 0
 BeginsQuery node program start = Calls (λ (a : Asked). outcome.Asked a.query) node (λ b. asked b program start)
+
+abbrev pub CallIs : ℕ → NodeCall → Outcome → Type 0
+CallIs node (call.Register program) = Registers node program.now
+CallIs node (call.Store value) = BeginsStore node value.now
+CallIs node (call.Ask program start) = BeginsQuery node program start

@@ -90,18 +90,18 @@ fn found<'b>(
 ) -> Result<Vec<Mutex<LiveNode<'b>>>, AllocError>
     requires seated { All (λ s. s.table ≡ board_id board.now) askers.items }
     requires many { length askers.items ≡ length ids.now }
-    ensures { IfOk result (λ seats. length seats.items ≡ length ids.now) }
+    ensures { IfOk result (λ locks. length locks.items ≡ length ids.now) }
 {
-    let mut seats = Vec::new(alloc);
+    let mut locks = Vec::new(alloc);
     for asker in askers {
         // There are as many ids as seats at the board.
-        let Some(id) = ids.get(seats.len()) else {
+        let Some(id) = ids.get(locks.len()) else {
             return Err(AllocError);
         };
-        let seat = found_one(alloc, board, asker, config, ids, *id)?;
-        seats.push(seat)?;
+        let lock = found_one(alloc, board, asker, config, ids, *id)?;
+        locks.push(lock)?;
     }
-    Ok(seats)
+    Ok(locks)
 }
 
 /// Starts the thread of a node. Whether it runs.
@@ -126,14 +126,14 @@ fn start_all<'s, 'b, E, R: Wait + Threads + Clock + Sync, T: Transport + Send + 
     rt: &'s R,
     alloc: Global,
     nodes: u64,
-    seats: &'s [Mutex<LiveNode<'b>>],
+    locks: &'s [Mutex<LiveNode<'b>>],
     bell: &'s Bell,
     over: &'s AtomicBool,
     wires: Vec<Wire<T>>,
 ) -> Result<(), Halt>
     ensures { IfErr result (IsHalt nodes) }
 {
-    for (place, (held, wire)) in seats.iter().zip(wires).enumerate() {
+    for (place, (held, wire)) in locks.iter().zip(wires).enumerate() {
         if !start(scope, rt, alloc, nodes, held, bell, over, wire) {
             let node = (place as u64).saturating_add(1);
             return Err(Halt::Thread(node));
@@ -146,7 +146,7 @@ fn start_all<'s, 'b, E, R: Wait + Threads + Clock + Sync, T: Transport + Send + 
 fn time_lines<R: Wait + Clock, T: Transport + Drop>(
     rt: &R,
     alloc: Global,
-    seats: &[Mutex<LiveNode<'_>>],
+    locks: &[Mutex<LiveNode<'_>>],
     nodes: u64,
     lines: &[ClusterLine],
     flight: &mut Flight<'_, T>,
@@ -155,7 +155,7 @@ fn time_lines<R: Wait + Clock, T: Transport + Drop>(
     ensures halt { IfErr result (IsHalt nodes) }
 {
     let start = Instant::now(rt).ok();
-    let outcomes = match run_lines(rt, alloc, seats, nodes, lines, flight) {
+    let outcomes = match run_lines(rt, alloc, locks, nodes, lines, flight) {
         Ok(outcomes) => outcomes,
         Err(halt) => return Err(halt),
     };
@@ -171,7 +171,7 @@ fn run_threads<R: Wait + Threads + Clock + Sync, T: Transport + Send + Drop>(
     rt: &R,
     alloc: Global,
     nodes: u64,
-    seats: &[Mutex<LiveNode<'_>>],
+    locks: &[Mutex<LiveNode<'_>>],
     bell: &Bell,
     over: &AtomicBool,
     lines: &[ClusterLine],
@@ -190,8 +190,8 @@ fn run_threads<R: Wait + Threads + Clock + Sync, T: Transport + Send + Drop>(
             ensures halt { IfErr result (IsHalt nodes) }
         {
             let mut flight = Flight::new(alloc, in_flight, bell, end);
-            let made = match start_all(scope, rt, alloc, nodes, seats, bell, over, wires) {
-                Ok(()) => time_lines(rt, alloc, seats, nodes, lines, &mut flight),
+            let made = match start_all(scope, rt, alloc, nodes, locks, bell, over, wires) {
+                Ok(()) => time_lines(rt, alloc, locks, nodes, lines, &mut flight),
                 Err(halt) => Err(halt),
             };
             over.store(true, Ordering::SeqCst);
@@ -216,7 +216,7 @@ fn run_with_runners<R: Wait + Threads + Clock + Sync, T: Transport + Send + Drop
     alloc: Global,
     board: &Board,
     runners: Vec<RunnerSeat>,
-    seats: &[Mutex<LiveNode<'_>>],
+    locks: &[Mutex<LiveNode<'_>>],
     bell: &Bell,
     script: &ClusterScript,
     in_flight: usize,
@@ -237,7 +237,7 @@ fn run_with_runners<R: Wait + Threads + Clock + Sync, T: Transport + Send + Drop
         ensures halt { IfErr result (IsHalt nodes) }
     {
         run_threads(
-            rt, alloc, nodes, seats, bell, over, lines, in_flight, wires, end,
+            rt, alloc, nodes, locks, bell, over, lines, in_flight, wires, end,
         )
     };
     match with_runners(rt, alloc, board, runners, bell, work) {
@@ -255,16 +255,16 @@ struct Nodes {
 }
 
 /// What the locks kept.
-fn unlock(alloc: Global, seats: Vec<Mutex<LiveNode<'_>>>) -> Result<Nodes, AllocError>
-    ensures { IfOk result (λ kept. length kept.books.items ≡ length seats.entry.items) }
+fn unlock(alloc: Global, locks: Vec<Mutex<LiveNode<'_>>>) -> Result<Nodes, AllocError>
+    ensures { IfOk result (λ kept. length kept.books.items ≡ length locks.entry.items) }
 {
     let mut nodes = Nodes {
         books: Vec::new(alloc),
         lost: LossCounts::none(),
         unsent: Unsent::none(),
     };
-    for seat in seats {
-        let held = seat.into_inner();
+    for lock in locks {
+        let held = lock.into_inner();
         nodes.lost = nodes.lost.and(held.lost);
         nodes.unsent = nodes.unsent.and(held.unsent);
         nodes.books.push(held.book)?;
@@ -292,14 +292,14 @@ fn call_founders<R: Wait + Threads + Clock + Sync, T: Transport + Send + Drop>(
     ensures halt { IfErr result (IsHalt script.now.nodes) }
 {
     let ids = ids(alloc, script.nodes)?;
-    let seats = found(alloc, board, askers, script.config, ids.as_slice())?;
+    let locks = found(alloc, board, askers, script.config, ids.as_slice())?;
     let bell = Bell::new();
     let made = match run_with_runners(
         rt,
         alloc,
         board,
         runners,
-        seats.as_slice(),
+        locks.as_slice(),
         &bell,
         script,
         in_flight,
@@ -308,7 +308,7 @@ fn call_founders<R: Wait + Threads + Clock + Sync, T: Transport + Send + Drop>(
         Ok(made) => made,
         Err(halt) => return Err(halt),
     };
-    let nodes = unlock(alloc, seats)?;
+    let nodes = unlock(alloc, locks)?;
     Ok(Calls {
         outcomes: made.outcomes,
         taken: made.taken,

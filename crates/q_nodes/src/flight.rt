@@ -2,8 +2,8 @@
 
 use crate::bell::Bell;
 use crate::clock::has_passed;
+use crate::lock::lock_of;
 use crate::outcome::Outcome;
-use crate::seat;
 use q_held::LiveNode;
 use q_outside::Transport;
 use std::alloc::Global;
@@ -77,7 +77,7 @@ impl<'a, T: Transport + Drop> Flight<'a, T> {
     pub(crate) fn join<R: Wait + Clock>(
         &mut self,
         rt: &R,
-        seats: &[Mutex<LiveNode<'_>>],
+        locks: &[Mutex<LiveNode<'_>>],
         node: u64,
         outcome: &Outcome,
     ) {
@@ -93,20 +93,20 @@ impl<'a, T: Transport + Drop> Flight<'a, T> {
             since,
         });
         self.wake(node);
-        self.await_fewer(rt, seats, self.most);
+        self.await_fewer(rt, locks, self.most);
     }
 
     /// Waits until less than this is waited for.
     pub(crate) fn await_fewer<R: Wait + Clock>(
         &mut self,
         rt: &R,
-        seats: &[Mutex<LiveNode<'_>>],
+        locks: &[Mutex<LiveNode<'_>>],
         many: usize,
     ) {
         for _ in 0..MOST_LOOKS {
             // The bell is read before the books, so what ends later ends the sleep.
             let rung = self.bell.rings();
-            self.begun.retain(|begun| !is_settled(rt, seats, begun) && !is_late(rt, begun));
+            self.begun.retain(|begun| !is_settled(rt, locks, begun) && !is_late(rt, begun));
             if self.begun.len() < many {
                 break;
             }
@@ -117,8 +117,8 @@ impl<'a, T: Transport + Drop> Flight<'a, T> {
 }
 
 /// Whether the operation has ended, or the answer stands. The results that wait for the node of a query are taken.
-fn is_settled<R: Wait>(rt: &R, seats: &[Mutex<LiveNode<'_>>], begun: &Begun) -> bool {
-    let Some(held) = seat::seat(seats, begun.node) else {
+fn is_settled<R: Wait>(rt: &R, locks: &[Mutex<LiveNode<'_>>], begun: &Begun) -> bool {
+    let Some(held) = lock_of(locks, begun.node) else {
         return true;
     };
     let mut held = held.lock(rt);

@@ -14,8 +14,8 @@ ghost use Rattle.q_nodes.specs.Lines.{ComesTo, InTurn, IsProgramOf, IsQueryOf, I
 ghost use Rattle.q_nodes.specs.declared.outcome.Outcome.TheVariants as outcome;
 ghost use Rattle.q_nodes.specs.declared.report.Report.TheVariants as report;
 
-use crate::outcome::Outcome;
 use crate::ops_by_tag::OpsByTag;
+use crate::outcome::Outcome;
 use crate::report::Report;
 use crate::script::{ClusterLine, program_id};
 use bq_insn::encode;

@@ -1,43 +1,42 @@
 //! The calls that the lines of a script name, one after the other.
 
 ghost use Rattle.std.specs.Prelude.{IfErr, IfOk};
-ghost use Rattle.q_nodes.specs.Books.{BeginsQuery, BeginsStore, Registers};
+ghost use Rattle.q_nodes.specs.Books.{CallIs};
 ghost use Rattle.q_nodes.specs.Lines.{CallsAt, ComesTo, ComesToProgram, InTurn};
 ghost use Rattle.q_nodes.specs.Halts.{IsHalt};
 
 use crate::fault::ClusterRunFault;
 use crate::flight::Flight;
 use crate::halt::Halt;
+use crate::lock::{self, NodeCall};
 use crate::outcome::Outcome;
 use crate::script::{ClusterLine, is_node, node_of, program_id};
-use crate::seat;
 use q_held::LiveNode;
 use q_outside::Transport;
 use q_sim::certified_code;
-use q_table::{Program, ProgramId};
 use std::alloc::Global;
 use std::sync::{Mutex, Wait};
 use std::time::Clock;
 
-/// Registers a program at a node.
-fn register<R: Wait>(
+/// Makes a call of a node; refused where there is no such node.
+fn call_at<R: Wait>(
     rt: &R,
-    seats: &[Mutex<LiveNode<'_>>],
+    locks: &[Mutex<LiveNode<'_>>],
     nodes: u64,
     node: u64,
-    program: &Program,
+    call: &NodeCall<'_>,
 ) -> Result<Outcome, Halt>
-    ensures came { IfOk result (CallsAt nodes node (Registers node program.now)) }
+    ensures came { IfOk result (CallsAt nodes node (CallIs node call.now)) }
     ensures halt { IfErr result (IsHalt nodes) }
 {
     if !is_node(nodes, node) {
         return Ok(Outcome::Refused(ClusterRunFault::no_such_node()));
     }
     // There are as many locks as nodes.
-    let Some(held) = seat::seat(seats, node) else {
+    let Some(held) = lock::lock_of(locks, node) else {
         return Err(Halt::OutOfMemory);
     };
-    match seat::register(&mut held.lock(rt), node, program) {
+    match lock::call(&mut held.lock(rt), node, call) {
         Some(outcome) => Ok(outcome),
         None => Err(Halt::Astray),
     }
@@ -47,7 +46,7 @@ fn register<R: Wait>(
 fn run_program<R: Wait>(
     rt: &R,
     alloc: Global,
-    seats: &[Mutex<LiveNode<'_>>],
+    locks: &[Mutex<LiveNode<'_>>],
     nodes: u64,
     node: u64,
     code: &[u8],
@@ -56,57 +55,8 @@ fn run_program<R: Wait>(
     ensures halt { IfErr result (IsHalt nodes) }
 {
     match certified_code(alloc, code) {
-        Ok(program) => register(rt, seats, nodes, node, &program),
+        Ok(program) => call_at(rt, locks, nodes, node, &NodeCall::Register(&program)),
         Err(refusal) => Ok(Outcome::Refused(ClusterRunFault::Script(refusal))),
-    }
-}
-
-/// `store NODE VALUE`.
-fn run_store<R: Wait>(
-    rt: &R,
-    seats: &[Mutex<LiveNode<'_>>],
-    nodes: u64,
-    node: u64,
-    value: &[u8],
-) -> Result<Outcome, Halt>
-    ensures came { IfOk result (CallsAt nodes node (BeginsStore node value.now)) }
-    ensures halt { IfErr result (IsHalt nodes) }
-{
-    if !is_node(nodes, node) {
-        return Ok(Outcome::Refused(ClusterRunFault::no_such_node()));
-    }
-    // There are as many locks as nodes.
-    let Some(held) = seat::seat(seats, node) else {
-        return Err(Halt::OutOfMemory);
-    };
-    match seat::store(&mut held.lock(rt), node, value) {
-        Some(outcome) => Ok(outcome),
-        None => Err(Halt::Astray),
-    }
-}
-
-/// `ask NODE PROGRAM START`.
-fn run_ask<R: Wait>(
-    rt: &R,
-    seats: &[Mutex<LiveNode<'_>>],
-    nodes: u64,
-    node: u64,
-    program: ProgramId,
-    start: u64,
-) -> Result<Outcome, Halt>
-    ensures came { IfOk result (CallsAt nodes node (BeginsQuery node program start)) }
-    ensures halt { IfErr result (IsHalt nodes) }
-{
-    if !is_node(nodes, node) {
-        return Ok(Outcome::Refused(ClusterRunFault::no_such_node()));
-    }
-    // There are as many locks as nodes.
-    let Some(held) = seat::seat(seats, node) else {
-        return Err(Halt::OutOfMemory);
-    };
-    match seat::ask(&mut held.lock(rt), node, program, start) {
-        Some(outcome) => Ok(outcome),
-        None => Err(Halt::Astray),
     }
 }
 
@@ -114,7 +64,7 @@ fn run_ask<R: Wait>(
 fn run_line<R: Wait>(
     rt: &R,
     alloc: Global,
-    seats: &[Mutex<LiveNode<'_>>],
+    locks: &[Mutex<LiveNode<'_>>],
     nodes: u64,
     line: &ClusterLine,
 ) -> Result<Outcome, Halt>
@@ -123,14 +73,20 @@ fn run_line<R: Wait>(
 {
     match line {
         ClusterLine::Program { node, code } => {
-            run_program(rt, alloc, seats, nodes, *node, code.as_slice())
+            run_program(rt, alloc, locks, nodes, *node, code.as_slice())
         }
-        ClusterLine::Store { node, value } => run_store(rt, seats, nodes, *node, value.as_slice()),
+        ClusterLine::Store { node, value } => {
+            call_at(rt, locks, nodes, *node, &NodeCall::Store(value.as_slice()))
+        }
         ClusterLine::Ask {
             node,
             program,
             start,
-        } => run_ask(rt, seats, nodes, *node, program_id(*program), *start),
+        } => {
+            let program = program_id(*program);
+            let start = *start;
+            call_at(rt, locks, nodes, *node, &NodeCall::Ask { program, start })
+        }
     }
 }
 
@@ -139,7 +95,7 @@ fn run_line<R: Wait>(
 pub(crate) fn run_lines<R: Wait + Clock, T: Transport + Drop>(
     rt: &R,
     alloc: Global,
-    seats: &[Mutex<LiveNode<'_>>],
+    locks: &[Mutex<LiveNode<'_>>],
     nodes: u64,
     lines: &[ClusterLine],
     flight: &mut Flight<'_, T>,
@@ -149,15 +105,15 @@ pub(crate) fn run_lines<R: Wait + Clock, T: Transport + Drop>(
 {
     let mut outcomes = Vec::new(alloc);
     for line in lines {
-        let outcome = match run_line(rt, alloc, seats, nodes, line) {
+        let outcome = match run_line(rt, alloc, locks, nodes, line) {
             Ok(outcome) => outcome,
             Err(halt) => return Err(halt),
         };
-        flight.join(rt, seats, node_of(line), &outcome);
+        flight.join(rt, locks, node_of(line), &outcome);
         if outcomes.push(outcome).is_err() {
             return Err(Halt::OutOfMemory);
         }
     }
-    flight.await_fewer(rt, seats, 1);
+    flight.await_fewer(rt, locks, 1);
     Ok(outcomes)
 }
