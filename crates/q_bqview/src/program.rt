@@ -8,8 +8,8 @@ ghost use Rattle.q_bqview.specs.Runs.{CarriesOut, Does, Explains, Gathers, IsUng
 use crate::client::client_advice;
 use q_asker::ClientEnding;
 use q_command::{
-    RefusedCommand, FileCommand, Invocation, WordsFault, carry_out, gather_files, given_words, nodes_advice,
-    read_words,
+    FileCommand, Invocation, RefusedCommand, WordsFault, carry_out, gather_files, given_words,
+    nodes_advice, read_words,
 };
 use q_nodes::{ClusterEnding, ClusterRunFault, FileRun, run_file};
 use q_outside::{Counted, Files};
@@ -279,7 +279,7 @@ where
     /// Does what is wanted: the exit status.
     fn do_invocation<F: Files, W: Write, N: Write>(
         &self,
-        invocation: \&Invocation<'_>,
+        invocation: &Invocation<'_>,
         files: &mut F,
         out: &mut Counted<W>,
         notes: &mut N,
@@ -309,7 +309,7 @@ where
     /// Does what is wanted, and says in the notes where the output fails: the exit status.
     fn run_invocation<F: Files, W: Write, N: Write>(
         &self,
-        invocation: \&Invocation<'_>,
+        invocation: &Invocation<'_>,
         files: &mut F,
         out: &mut Counted<W>,
         notes: &mut N,
@@ -349,7 +349,7 @@ where
         (record { taken = W.contents out.new.inner; failures = out.new.failures }) }
 {
     match read_words(alloc, words) {
-        Ok(invocation) => Machine { rt, alloc }.run_invocation(\&invocation, files, out, notes),
+        Ok(invocation) => Machine { rt, alloc }.run_invocation(&invocation, files, out, notes),
         Err(fault) => explain(alloc, &fault, out, notes),
     }
 }

@@ -16,7 +16,7 @@ pub fn tell_fault<W: Write>(fault: &WordsFault<'_>, out: &mut W) -> io::Result<u
 /// Does what is wanted over files: the exit status.
 fn carry<F: Files, W: Write>(
     alloc: Global,
-    invocation: \&Invocation<'_>,
+    invocation: &Invocation<'_>,
     files: &mut F,
     out: &mut Counted<W>,
 ) -> io::Result<u8> {
@@ -45,7 +45,7 @@ fn perform<F: Files, W: Write>(
     out: &mut Counted<W>,
 ) -> io::Result<u8> {
     match read_words(alloc, words) {
-        Ok(invocation) => carry(alloc, \&invocation, files, out),
+        Ok(invocation) => carry(alloc, &invocation, files, out),
         Err(fault) => tell_fault(&fault, out),
     }
 }
@@ -86,7 +86,7 @@ fn write_told<W: Write>(told: &[u8], out: &mut Counted<W>) -> io::Result<()> {
 /// Writes what explains the refusal of what is wanted or of its lines, and that nothing does.
 fn explain_invocation<F: Files, W: Write>(
     alloc: Global,
-    invocation: \&Invocation<'_>,
+    invocation: &Invocation<'_>,
     files: &mut F,
     out: &mut Counted<W>,
 ) -> io::Result<()> {
@@ -116,7 +116,7 @@ fn explain_words<F: Files, W: Write>(
     out: &mut Counted<W>,
 ) -> io::Result<()> {
     match read_words(alloc, words) {
-        Ok(invocation) => explain_invocation(alloc, \&invocation, files, out),
+        Ok(invocation) => explain_invocation(alloc, &invocation, files, out),
         Err(_fault) => writeln!(out, "no command"),
     }
 }

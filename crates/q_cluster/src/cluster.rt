@@ -30,7 +30,7 @@ use q_session::{Done, Job};
 use sc_members::Config;
 use sc_msg::{Message, Version};
 use sc_node::{Begun, Outs};
-use sc_world::{Ledger, Op, BegunOp, Sent, WorldEvent};
+use sc_world::{BegunOp, Ledger, Op, Sent, WorldEvent};
 use std::alloc::Global;
 use std::marker::Model;
 
@@ -407,8 +407,8 @@ impl Cluster {
 }
 
 // What is told of a reply, as the next job comes behind these.
-fn told_by(jobs: &Vec<Job>, reply: &Reply) -> EventAnswer
-    ensures { result ≡ told_by jobs.now.items reply.now }
+fn told_by(jobs: &[Job], reply: &Reply) -> EventAnswer
+    ensures { result ≡ told_by jobs.now reply.now }
 {
     match reply {
         Reply::Left(_) => EventAnswer::Left,
@@ -447,7 +447,7 @@ fn note(ledger: &mut Ledger, jobs: &mut Vec<Job>, node: u64, reply: Reply) -> Cl
     ensures past { ledger.new.past ≡ past_by ledger.old.past node (event_by node reply) (reply_outs reply) (begun_by reply) }
     ensures jobs { jobs.new.items ≡ with_job jobs.old.items (reply_job reply) }
 {
-    let answer = told_by(jobs, &reply);
+    let answer = told_by(jobs.as_slice(), &reply);
     let event = event_by(node, &reply);
     let sent = match reply {
         Reply::Left(outs) => record_call(ledger, event, node, outs, None),

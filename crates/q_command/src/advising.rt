@@ -3,8 +3,8 @@
 ghost use Rattle.std.specs.Prelude.{◌≡◌, ◌≢◌, true, false, None, IfOk, IsUtf8};
 ghost use Rattle.q_command.specs.Advice.{IsToldOf, Meets, IsExplained, is_of_nodes};
 
-use crate::refused_command::RefusedCommand;
 use crate::line::{line_of, text_of, write_form};
+use crate::refused_command::RefusedCommand;
 use crate::sources::program;
 use crate::words::{FileCommand, ProgramForm};
 use bq_asm::AsmFault;
@@ -129,7 +129,11 @@ fn nodes_line(number: usize, text: &str) -> &'static str {
 }
 
 /// What is told of a script's fault.
-fn write_script(out: &mut String, refused: &RefusedCommand<'_>, kind: ScriptKind) -> Result<(), AllocError> {
+fn write_script(
+    out: &mut String,
+    refused: &RefusedCommand<'_>,
+    kind: ScriptKind,
+) -> Result<(), AllocError> {
     let file = refused.file;
     match refused.refusal {
         Refusal::FileFailed => writeln!(out, "{file}: It is not UTF-8, which text files are."),
@@ -300,7 +304,10 @@ fn is_of_nodes(refusal: Refusal) -> bool
 /// come to.
 ///
 /// The one error is that memory ran out (99 OutOfMemory).
-pub fn nodes_advice(alloc: Global, refused: &RefusedCommand<'_>) -> Result<Option<String>, AllocError>
+pub fn nodes_advice(
+    alloc: Global,
+    refused: &RefusedCommand<'_>,
+) -> Result<Option<String>, AllocError>
     ensures told { is_of_nodes refused.now.refusal ≡ true → IfOk result (IsToldOf refused.now.refusal refused.now.bytes.items) }
     ensures none { is_of_nodes refused.now.refusal ≡ false → IfOk result (λ told. told ≡ None) }
 {

@@ -74,4 +74,6 @@ pub use lister::listing;
 pub use perform::{CommandEnding, LONGEST_JOURNAL, carry_out};
 pub use refused_command::RefusedCommand;
 pub use sources::{certified, program, utf8};
-pub use words::{FileCommand, ProgramForm, VERSION, Invocation, WordsFault, given_words, read_words};
+pub use words::{
+    FileCommand, Invocation, ProgramForm, VERSION, WordsFault, given_words, read_words,
+};

@@ -8,8 +8,8 @@ ghost use Rattle.q_command.specs.Perform.{Answers, AnswersCheck, AnswersFile, An
 use crate::answer::Answer;
 use crate::auditor::audit;
 use crate::check::{Check, checked};
-use crate::refused_command::RefusedCommand;
 use crate::lister::listing;
+use crate::refused_command::RefusedCommand;
 use crate::sources::{certified, program, utf8};
 use crate::told::{tell_lines, tell_refusal};
 use crate::words::{FileCommand, ProgramForm};

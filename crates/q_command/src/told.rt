@@ -2,8 +2,8 @@
 
 use crate::advising::advice;
 use crate::answer::Answer;
-use crate::refused_command::RefusedCommand;
 use crate::line::text_of;
+use crate::refused_command::RefusedCommand;
 use crate::words::FileCommand;
 use q_sim::{RefusedLine, write_refused_line};
 use std::alloc::{AllocError, Global};

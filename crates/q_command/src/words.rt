@@ -722,7 +722,10 @@ fn wanted_of<'a>(
 }
 
 /// Reads the words of the command line, of which the first is the program's name.
-pub fn read_words<'a, S: AsStr>(alloc: Global, words: &'a [S]) -> Result<Invocation<'a>, WordsFault<'a>>
+pub fn read_words<'a, S: AsStr>(
+    alloc: Global,
+    words: &'a [S],
+) -> Result<Invocation<'a>, WordsFault<'a>>
     ensures { Reads (map S.text words.entry.now) result }
 {
     let matches = program(alloc)?.try_get_matches_from(words)?;

@@ -180,7 +180,11 @@ fn keep_job(jobs: &mut Jobs, event: &ClusterEvent, told: EventAnswer) -> Result<
 }
 
 /// Gives the messages from this number on their numbers.
-fn number_from(cluster: &Cluster, numbers: &mut MessageNumbers, first: usize) -> Result<(), AllocError>
+fn number_from(
+    cluster: &Cluster,
+    numbers: &mut MessageNumbers,
+    first: usize,
+) -> Result<(), AllocError>
     ensures { AreNumbers (take first cluster.now.past.sent) numbers.old → OnOk result (AreNumbers cluster.now.past.sent numbers.new) }
 {
     numbers_are_least();

@@ -124,45 +124,19 @@ fn note_losses<R: Eprint, J: JournalFile>(rt: &R, ended: &Ended<J>, strangers: u
 
 // ---- the beginning
 
-/// The book of a node that enters, with what it sends first.
-fn enter<'b>(
-    alloc: Global,
-    setup: &Setup<'_>,
-    board: &'b Board,
-    asker: AskerSeat,
-) -> Result<LiveNode<'b>, StartFault>
-    requires { asker.table ≡ board_id board.now }
-    ensures own { IfOk result (λ held. held.book.id ≡ setup.now.id) }
-    ensures fault { IfErr result (λ fault. fault ≡ StartFault.OutOfMemory) }
-{
-    let Ok((book, outs)) = Book::entering(alloc, setup.file.config, setup.id) else {
-        return Err(StartFault::OutOfMemory);
-    };
-    let mut held = LiveNode::new(alloc, book, board, asker);
-    held.waiting.reserve(2)?;
-    outs.append_to(&mut held.waiting);
-    Ok(held)
-}
-
 /// The book of a founder.
-fn found<'b>(
-    alloc: Global,
-    setup: &Setup<'_>,
-    board: &'b Board,
-    asker: AskerSeat,
-) -> Result<LiveNode<'b>, StartFault>
-    requires { asker.table ≡ board_id board.now }
-    ensures own { IfOk result (λ held. held.book.id ≡ setup.now.id) }
+fn found(alloc: Global, setup: &Setup<'_>) -> Result<Book, StartFault>
+    ensures own { IfOk result (λ book. book.id ≡ setup.now.id) }
     ensures fault { IfErr result (IsUnbegun setup.now.file.now setup.now.id setup.now.runners) }
 {
     let founders = setup.file.founders(alloc)?;
     match Book::founder(alloc, setup.file.config, setup.id, founders.as_slice()) {
-        Ok(book) => Ok(LiveNode::new(alloc, book, board, asker)),
+        Ok(book) => Ok(book),
         Err(fault) => Err(StartFault::Book(fault)),
     }
 }
 
-/// The book of the node, with its seat at the board.
+/// The book of the node, with its seat at the board. What a node that enters sends first waits.
 fn begin<'b>(
     alloc: Global,
     setup: &Setup<'_>,
@@ -181,10 +155,16 @@ fn begin<'b>(
         return Err(StartFault::OutOfMemory);
     };
     if line.is_founder {
-        found(alloc, setup, board, asker)
-    } else {
-        enter(alloc, setup, board, asker)
+        let book = found(alloc, setup)?;
+        return Ok(LiveNode::new(alloc, book, board, asker));
     }
+    let Ok((book, outs)) = Book::entering(alloc, setup.file.config, setup.id) else {
+        return Err(StartFault::OutOfMemory);
+    };
+    let mut held = LiveNode::new(alloc, book, board, asker);
+    held.waiting.reserve(2)?;
+    outs.append_to(&mut held.waiting);
+    Ok(held)
 }
 
 /// The ids of the cluster's nodes.
