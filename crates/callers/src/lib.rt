@@ -1,5 +1,5 @@
-//! A small caller of each crate that others call first: what a caller has by the contracts alone. Most are proved with no
-//! file of proof.
+//! A small caller of each crate that others call first: what a caller has by the contracts alone. Most are proved with
+//! no file of proof.
 //!
 //! The first line of a file names the crate that it calls. Its one function stands word for word on that crate's page;
 //! `./check-documents` looks at that.

@@ -19,8 +19,8 @@
 //! is wrong with them is printed.
 //!
 //! `== calls`: calls of the query service that no command and no script makes: lists of events, journals that are
-//! gathered, cut and changed, clusters and books of version 1, a writer that fails, programs for records of other lengths
-//! than those of a book. Calls of one book stand in `q_book_cases`.
+//! gathered, cut and changed, clusters and books of version 1, a writer that fails, programs for records of other
+//! lengths than those of a book. Calls of one book stand in `q_book_cases`.
 //!
 //! | Line | What it does |
 //! |---|---|

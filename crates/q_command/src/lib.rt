@@ -10,8 +10,8 @@
 //!   the file OUT; what that program means over the records that RECORDS lists, from START; what the script prints that
 //!   SCRIPT spells; the answers that the journal JOURNAL recorded. It says whether a file was not written, or else
 //!   whether a line was refused of a script that is strict. Where it was refused, the writer took exactly the line of
-//!   the refusal, whose reason holds of the files, and what was read and refused is handed out ([`RefusedCommand`]). It gives
-//!   up only where a write failed, which the writer counted.
+//!   the refusal, whose reason holds of the files, and what was read and refused is handed out ([`RefusedCommand`]). It
+//!   gives up only where a write failed, which the writer counted.
 //! - [`certified`] makes programs from assembler text and from bytes, with their certificates. [`listing`] is the text
 //!   that `asm` prints, [`checked`] what `check` prints and writes, and [`audit`] what `audit` prints: the answers of a
 //!   journal that is replayed.

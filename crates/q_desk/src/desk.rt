@@ -35,9 +35,9 @@ pub const MOST_QUERIES: usize = 4096;
 /// The most events of a journal: its entries, the head aside.
 pub const MOST_EVENTS: usize = 65_536;
 
-/// Why a desk refuses a call. After a refusal the desk is as it was, and so is the node that it was given. Where several
-/// hold, the first of 51, 59, 52, 56, 55 and 53 is told, and then that of the node; 54 is that of a question for an
-/// answer.
+/// Why a desk refuses a call. After a refusal the desk is as it was, and so is the node that it was given. Where
+/// several hold, the first of 51, 59, 52, 56, 55 and 53 is told, and then that of the node; 54 is that of a question
+/// for an answer.
 pub type DeskFault = Reason;
 
 /// The programs and queries of one node, and its journal: each call that was accepted and changed something, in turn.

@@ -5,9 +5,9 @@
 //! meaning of the query's program, folded over the view that its collect returned.
 //!
 //! Each call that is accepted and changes something puts one [`Entry`] into the desk's journal, which also holds what
-//! its node did: stores, deliveries, collects and its leave. Such a call of the node is made by the desk, which is given
-//! the node: the journal has room for the entry before the node acts, so both do their part, or neither. No call drops
-//! or changes an earlier entry. What those who use a node tell it to do is a [`Call`], which the entry holds.
+//! its node did: stores, deliveries, collects and its leave. Such a call of the node is made by the desk, which is
+//! given the node: the journal has room for the entry before the node acts, so both do their part, or neither. No call
+//! drops or changes an earlier entry. What those who use a node tell it to do is a [`Call`], which the entry holds.
 //!
 //! Of its queries the one that is ready and has the least number is handed out next. The result of a job of this node
 //! alone is accepted, where its query runs and the job is that query's: so a query has one answer, and whoever posts

@@ -1,11 +1,11 @@
 //! What the lock of a node keeps, whose threads share it: its book, the messages that wait to be sent, its seat at the
 //! board of jobs, and counts of what was lost.
 //!
-//! Proved of what is done under a lock ([`LiveNode`]): a datagram changes nothing, or the message that its bytes spell is
-//! delivered and what the book gives waits to be sent; the datagrams that change nothing are counted, by why
-//! ([`LossCounts`]); each other call is one of the book, exact, and what the book gives waits too; the pump carries results
-//! and jobs. The book is always the replay of its journal, since its type keeps that. [`addressee`] says for whom a
-//! message is meant, and that nobody else takes anything from it.
+//! Proved of what is done under a lock ([`LiveNode`]): a datagram changes nothing, or the message that its bytes spell
+//! is delivered and what the book gives waits to be sent; the datagrams that change nothing are counted, by why
+//! ([`LossCounts`]); each other call is one of the book, exact, and what the book gives waits too; the pump carries
+//! results and jobs. The book is always the replay of its journal, since its type keeps that. [`addressee`] says for
+//! whom a message is meant, and that nobody else takes anything from it.
 //!
 //! `q_nodes` stands on it, whose nodes are threads of one process, and so do nodes that run apart.
 #![tactic(auto)]

@@ -90,8 +90,8 @@ impl<'b, J: JournalFile> Kept<'b, J> {
     /// all. A question goes again at looks 1, 2, 4, 8 .. since it was given. A letter for which memory is short, and
     /// those behind it, do not go at this look. Nothing goes where a write failed.
     pub fn again(&mut self, alloc: Global, nodes: &[u64]) -> Vec<Letter>
-        // Each letter is of a message that was given before, and goes to a node that its operation has not counted; or to
-        // all, where the node tells of itself.
+        // Each letter is of a message that was given before, and goes to a node that its operation has not counted; or
+        // to all, where the node tells of itself.
         ensures each { AllByRecursion
             (GoesAgain self.old.held.book.version self.old.held.book.node nodes.now self.old.questions.items) result.items }
 

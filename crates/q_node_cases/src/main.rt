@@ -1,5 +1,5 @@
-//! Cases of nodes that are processes of their own, run here as threads: with sockets over UDP at the loopback, doors, files
-//! in memory for their journals, and mailboxes for their consoles.
+//! Cases of nodes that are processes of their own, run here as threads: with sockets over UDP at the loopback, doors,
+//! files in memory for their journals, and mailboxes for their consoles.
 //!
 //! Lines `-- TEXT` are printed as they stand. A case begins with lines that say what there is:
 //!
@@ -36,9 +36,9 @@
 //! | `command FILE ID RUNNERS PLACE` | runs the command `node` over a file in memory |
 //! | `there PATH`, `remove PATH` | whether a file is there; removes it |
 //!
-//! BYTES are hexadecimal digits, behind `COUNT*` so many times. How many events a journal has, and the ports of addresses,
-//! depend on the schedule, and are printed as `*`; all else is the same under every one. What a node prints and replies is
-//! proved in its crates. Here it is tried that threads, sockets and doors do their part at all.
+//! BYTES are hexadecimal digits, behind `COUNT*` so many times. How many events a journal has, and the ports of
+//! addresses, depend on the schedule, and are printed as `*`; all else is the same under every one. What a node prints
+//! and replies is proved in its crates. Here it is tried that threads, sockets and doors do their part at all.
 #![tactic(auto)]
 
 mod clients;

@@ -15,8 +15,8 @@
 //! the nodes have ended, their books are gathered into one cluster, and what a line tells ([`Report`]) is looked up in
 //! it, by what its call came to ([`Telling`]). How the run ends, and with which exit status, follows from that
 //! ([`ClusterEnding`]). In these modules (from `script` to `telling` and `ending`) there are no threads and no locks. A
-//! second writer is told how many datagrams changed nothing and what was not sent (`q_held::LossCounts`), why lines were
-//! refused, how many are unanswered, and why a thread or a socket is missing.
+//! second writer is told how many datagrams changed nothing and what was not sent (`q_held::LossCounts`), why lines
+//! were refused, how many are unanswered, and why a thread or a socket is missing.
 //!
 //! Proved of a run that ended with a gathered cluster (`IsWritten` in `specs/Runs.antt`): there is one cluster, a
 //! history of the founders 1 to N with the script's fractions, into which the books of the nodes gather, one of each,

@@ -1,7 +1,7 @@
 //! Readers and writers whose failures are counted.
 //!
-//! A read or a write that a signal interrupted did nothing: it is made again, and is not counted. For tests one call can
-//! be made to fail, at which nothing is read or written.
+//! A read or a write that a signal interrupted did nothing: it is made again, and is not counted. For tests one call
+//! can be made to fail, at which nothing is read or written.
 
 ghost use Rattle.std.specs.Prelude.{◌≡◌, ◌≤◌, ◌<◌, ◌++◌, ℕ, List, length, take, IfOk, IsErrAnd, OnOk, OnErr};
 ghost use Rattle.std.specs.Io.{ReadsAtMost, WritesAtMost};
@@ -199,7 +199,8 @@ impl<R: Read> Counted<R> {
 }
 
 impl<W: Write> Counted<W> {
-    /// Writes all of a piece. Refused with 86 where a write fails or takes none; some of it may have been written before.
+    /// Writes all of a piece. Refused with 86 where a write fails or takes none; some of it may have been written
+    /// before.
     pub fn put(&mut self, bytes: &[u8]) -> Result<(), TransportFailed>
         ensures written { OnOk result (Appends (W.contents self.old.inner) (W.contents self.new.inner) bytes.now) }
         ensures failed { OnErr result ((part : List ℕ) × Appends (W.contents self.old.inner) (W.contents self.new.inner) part) }

@@ -100,9 +100,9 @@ fn put<R: SystemFiles>(rt: &R, alloc: Global, name: &str, bytes: &[u8]) -> io::R
     }
 }
 
-/// The machine's files. A name is a path, and one that is not absolute begins at the folder that the
-/// program runs in. Of a file that fails the name and the system's reason are told on the standard error; and there, if a
-/// person watches it, how far the work is: at most once a second, and not within the first.
+/// The machine's files. A name is a path, and one that is not absolute begins at the folder that the program runs in.
+/// Of a file that fails the name and the system's reason are told on the standard error; and there, if a person watches
+/// it, how far the work is: at most once a second, and not within the first.
 ///
 /// The name `-` is the standard input, to read. No more is read than may be.
 ///
@@ -123,8 +123,8 @@ pub struct Folder<'a, R: SystemFiles + Alloc<A = Global> + Eprint + Clock + Inpu
 }
 
 impl<'a, R: SystemFiles + Alloc<A = Global> + Eprint + Clock + Input> Folder<'a, R> {
-    /// The files of this runtime, of which no call has failed yet; whether a person watches its standard error, as where
-    /// that is a terminal.
+    /// The files of this runtime, of which no call has failed yet; whether a person watches its standard error, as
+    /// where that is a terminal.
     pub fn new(rt: &'a R, is_watched: bool) -> Self
         ensures { result.failures ≡ 0 }
     {

@@ -41,8 +41,8 @@ fn set_patience(socket: &UdpSocket, patience: Duration) -> io::Result<()> {
 }
 
 impl UdpTransport {
-    /// A socket at a free port of loopback, which knows no peer yet. A call of `receive` waits no longer than so long for
-    /// a datagram.
+    /// A socket at a free port of loopback, which knows no peer yet. A call of `receive` waits no longer than so long
+    /// for a datagram.
     pub fn open<R: Net>(rt: &R, alloc: Global, patience: Duration) -> io::Result<UdpTransport>
         ensures peers { IfOk result (λ t. t.peers.items ≡ []) }
         ensures failures { IfOk result (λ t. t.failures ≡ 0) }

@@ -17,8 +17,8 @@ ghost use Rattle.q_replay.specs.Replayed.{IsFault};
 ghost use Rattle.q_replay.specs.declared.fault.ReplayFault.TheVariants.{Form};
 ghost use Rattle.q_replay.specs.declared.raw_entry.RawEntry.TheVariants as written;
 
-/// What the definitions say at telling operands: the bytes of entries, and that the event which is named is not one that
-/// was taken.
+/// What the definitions say at telling operands: the bytes of entries, and that the event which is named is not one
+/// that was taken.
 #[tactic(auto, unfolding(spelling::specs::Numbers::number_bytes))]
 pub fn worked()
     ensures entries { (version : Version) → entries_bytes version (entry.Call call.HandOut ∷ entry.Call call.Leave ∷ entry.Post 0 (record { acc = 1; steps = 3 }) ∷ []) ≡ 6 ∷ 0 ∷ 0 ∷ 0 ∷ 0 ∷ 1 ∷ 0 ∷ 0 ∷ 0 ∷ 0 ∷ 7 ∷ 0x18 ∷ 0 ∷ 0 ∷ 0 ∷ 0 ∷ 0 ∷ 0 ∷ 0 ∷ 0 ∷ 0 ∷ 0 ∷ 0 ∷ 1 ∷ 0 ∷ 0 ∷ 0 ∷ 0 ∷ 0 ∷ 0 ∷ 0 ∷ 3 ∷ 0 ∷ 0 ∷ 0 ∷ 0 ∷ 0 ∷ 0 ∷ 0 ∷ [] }

@@ -162,9 +162,9 @@ fn judged(text: &str, last: Option<u64>, lengths: Bounds) -> Result<Entry, Recor
     Ok((line.id, stored))
 }
 
-/// The view of the records that a text lists. A value is a number, whose eight bytes stand little-endian before 40 zeros,
-/// or `x` and two hexadecimal digits for each of its bytes; a record has 16 bytes more, and must have one of the lengths.
-/// Refused is what is wrong with the least faulty line, in the order of [`RecordFault`], and 99.
+/// The view of the records that a text lists. A value is a number, whose eight bytes stand little-endian before 40
+/// zeros, or `x` and two hexadecimal digits for each of its bytes; a record has 16 bytes more, and must have one of the
+/// lengths. Refused is what is wrong with the least faulty line, in the order of [`RecordFault`], and 99.
 pub fn read_records(alloc: Global, source: &str, lengths: Bounds) -> Result<View, RecordsFault>
     ensures read { IfOk result (IsView lengths source.now) }
     ensures lengths { IfOk result (λ view. (id : ℕ) (e : StoredValue) → fin.get view id ≡ Some e → IsIn (16 + length e.value) lengths) }

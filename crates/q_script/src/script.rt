@@ -50,8 +50,8 @@ fn found(text: &str) -> Result<Founding, ScriptFault>
     }
 }
 
-/// What the lines of a text spell, before which so many stand: none or one. Refused are 9 Syntax, with the least line that
-/// is of another form, and 99.
+/// What the lines of a text spell, before which so many stand: none or one. Refused are 9 Syntax, with the least line
+/// that is of another form, and 99.
 pub fn read_lines<L: Line>(alloc: Global, text: &str, before: usize) -> Result<Vec<L>, ScriptFault>
     requires { before ≤ 1 }
     ensures read { IfOk result (λ lines. AreLines L.spells text.now lines.items) }
@@ -75,8 +75,8 @@ pub fn read_lines<L: Line>(alloc: Global, text: &str, before: usize) -> Result<V
     Ok(lines)
 }
 
-/// The founding that a text spells on its first line, and the lines behind it. Refused are 9 Syntax, with the least line
-/// that is of another form, and 99.
+/// The founding that a text spells on its first line, and the lines behind it. Refused are 9 Syntax, with the least
+/// line that is of another form, and 99.
 pub fn read_script<L: Line>(alloc: Global, source: &str) -> Result<(Founding, Vec<L>), ScriptFault>
     ensures read { IfOk result (λ script. IsScriptOf L.spells source.now script.0 script.1.items) }
     ensures fault { IfErr result (IsFaultOf L.spells source.now) }
