@@ -8,7 +8,7 @@ ghost use Rattle.q_asker.specs.Steps.{is_done_reply, streams, unanswered_line};
 use crate::connection::{Connection, ExchangeFault, exchange};
 use crate::printing::put_told;
 use q_net::{Reply, Request};
-use q_outside::Counted;
+use q_outside::{Counted, TransportFailed};
 use q_sim::{Refusal, RefusalPlace, put_line};
 use reasons::Reason;
 use std::alloc::Global;
@@ -21,6 +21,16 @@ pub enum Halt {
     Lost(ExchangeFault),
     /// The output failed.
     Unwritten,
+}
+
+impl From<TransportFailed> for Halt {
+    ghost use Rattle.q_asker.specs.declared.step.Halt.TheVariants.{Unwritten};
+
+    ghost from_gives = { λ _ halt. halt ≡ Unwritten };
+
+    fn from(_failed: TransportFailed) -> Self {
+        Halt::Unwritten
+    }
 }
 
 /// Why a line was refused, as far as it can be explained.
@@ -65,10 +75,8 @@ pub fn tell_exchange<R: Read, W: Write, O: Write>(
         }
         Err(fault) => return Err(Halt::Lost(fault)),
     };
-    match put_told(out, request, said) {
-        Ok(()) => Ok(Some(said)),
-        Err(_) => Err(Halt::Unwritten),
-    }
+    put_told(out, request, said)?;
+    Ok(Some(said))
 }
 
 /// Tells that no request was made of a line, and why.
@@ -80,10 +88,8 @@ pub fn refuse<O: Write>(
     ensures told { Prints (line_of reason place) (O.contents out.old.inner) (O.contents out.new.inner) result }
     ensures counted { out.new.failures ≡ count_after result out.old.failures }
 {
-    match put_line(out, reason, place) {
-        Ok(()) => Ok(()),
-        Err(_) => Err(Halt::Unwritten),
-    }
+    put_line(out, reason, place)?;
+    Ok(())
 }
 
 /// The same, with which the line ends.
@@ -97,10 +103,8 @@ pub fn refuse_line<O: Write>(
     ensures refused { IfOk result (λ end. is_done_end end ≡ false) }
     ensures counted { out.new.failures ≡ count_after result out.old.failures }
 {
-    match put_line(out, reason, place) {
-        Ok(()) => Ok(LineEnd::Refused(cause)),
-        Err(_) => Err(Halt::Unwritten),
-    }
+    put_line(out, reason, place)?;
+    Ok(LineEnd::Refused(cause))
 }
 
 /// Tells that a query had no answer in time.
@@ -109,10 +113,8 @@ pub fn give_up<O: Write>(out: &mut Counted<O>) -> Result<LineEnd, Halt>
     ensures unanswered { IfOk result (λ end. is_done_end end ≡ false) }
     ensures counted { out.new.failures ≡ count_after result out.old.failures }
 {
-    match out.put(b"unanswered\n") {
-        Ok(()) => Ok(LineEnd::Unanswered),
-        Err(_) => Err(Halt::Unwritten),
-    }
+    out.put(b"unanswered\n")?;
+    Ok(LineEnd::Unanswered)
 }
 
 /// How a line ended to whose last request this was said.
