@@ -17,7 +17,9 @@ abbrev pub InSlot : State Content Holder → ℕ → Job → Type 0
 InSlot s i j = (slice_index s.words i ≡ 1) × (get_elem? s.homes i ≡ some (some (cell.Offered j)))
 
 abbrev pub HeldBy : State Content Holder → ℕ → Job → Type 0
-HeldBy s i j = (r : ℕ) × (v : Running) × (slice_index s.words i ≡ 3 + r) × (get_elem? s.views r ≡ some (Runner v)) × (v.number ≡ r) × (get_elem? v.held i ≡ some (Some j))
+HeldBy s i j =
+    (r : ℕ) × (v : Running) × (slice_index s.words i ≡ 3 + r) × (get_elem? s.views r ≡ some (Runner v)) × (v.number ≡ r)
+    × (get_elem? v.held i ≡ some (Some j))
 
 abbrev pub HasResult : State Content Holder → ℕ → Job → Type 0
 HasResult s i j =

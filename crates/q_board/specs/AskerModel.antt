@@ -20,7 +20,14 @@ pub record AskerModel : Type 0 where
   pub looks : List Look
 
 abbrev pub asker_model : TableId → Holder → AskerModel
-asker_model z v = record { table = z; number = (asking v).number; offered = (asking v).offered; received = (asking v).received; row = (asking v).row; looks = (asking v).looks }
+asker_model z v = record {
+  table = z;
+  number = (asking v).number;
+  offered = (asking v).offered;
+  received = (asking v).received;
+  row = (asking v).row;
+  looks = (asking v).looks;
+}
 
 abbrev pub IsAsker : TableId → Me Content Holder → ℕ → List ℕ → ℕ → ℕ → Type 0
 IsAsker z me number free count capacity =

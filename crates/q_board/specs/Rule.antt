@@ -60,4 +60,5 @@ pub record Orderly (lanes : ℕ) (s : State Content Holder) : Type 0 where
   -- a claimed slot is with the seat of that runner
   pub claimant : (i r : ℕ) (j : Job) → get_elem? phases i ≡ some (claimed r j) → (v : Running) × (get_elem? s.views r ≡ some (Runner v))
   -- a finished slot has a result that some runner finished
-  pub source : (i : ℕ) (d : Finished) → get_elem? phases i ≡ some (finished d) → (r : ℕ) × (v : Running) × (get_elem? s.views r ≡ some (Runner v)) × Contains v.finished d
+  pub source : (i : ℕ) (d : Finished) → get_elem? phases i ≡ some (finished d) → (r : ℕ) × (v : Running)
+      × (get_elem? s.views r ≡ some (Runner v)) × Contains v.finished d

@@ -21,7 +21,15 @@ pub record RunnerModel : Type 0 where
   pub next : ℕ
 
 abbrev pub runner_model : TableId → Holder → ℕ → ℕ → RunnerModel
-runner_model z v lanes next = record { table = z; number = (running v).number; held = (running v).held; finished = (running v).finished; looks = (running v).looks; lanes = lanes; next = next }
+runner_model z v lanes next = record {
+  table = z;
+  number = (running v).number;
+  held = (running v).held;
+  finished = (running v).finished;
+  looks = (running v).looks;
+  lanes = lanes;
+  next = next;
+}
 
 abbrev pub IsRunner : TableId → Me Content Holder → ℕ → List ℕ → ℕ → ℕ → ℕ → ℕ → Type 0
 IsRunner z me number claims count capacity lanes next =

@@ -14,7 +14,9 @@ abbrev pub IsResultFault : Reason → Type 0
 IsResultFault e = (e ≡ reasons.Stranger) ⊎ (e ≡ reasons.AlreadyAnswered)
 
 abbrev pub PostsAreNoted : Type 0
-PostsAreNoted = (b : BookState) (j : Job) (ran : Ran) (c : BookState) → posted b j ran ≡ Ok (tt, c) → c.desk.journal ≡ b.desk.journal ++ entry.Post j.query ran ∷ []
+PostsAreNoted =
+    (b : BookState) (j : Job) (ran : Ran) (c : BookState) → posted b j ran ≡ Ok (tt, c)
+    → c.desk.journal ≡ b.desk.journal ++ entry.Post j.query ran ∷ []
 
 abbrev pub RoomLeavesResultFaults : Type 0
 RoomLeavesResultFaults = (b : BookState) (j : Job) (ran : Ran) (e : Reason) → room_for_post b ≡ Ok tt → posted b j ran ≡ Err e → IsResultFault e

@@ -35,7 +35,8 @@ view_text view = flat_map store_text (fin.entries view)
 -- the answer of the query of this number at the node, with the view that it saw, if it is recorded
 abbrev pub answer_line : ℕ → ℕ → Phase → List ℕ
 answer_line node query (Answered view ran) =
-    codes "answer " ++ (decimal node ++ (32 ∷ (decimal query ++ (32 ∷ (decimal ran.acc ++ (32 ∷ (decimal ran.steps ++ (codes " view" ++ (view_text view ++ 10 ∷ [])))))))))
+    codes "answer "
+    ++ (decimal node ++ (32 ∷ (decimal query ++ (32 ∷ (decimal ran.acc ++ (32 ∷ (decimal ran.steps ++ (codes " view" ++ (view_text view ++ 10 ∷ [])))))))))
 answer_line node query p = []
 
 -- those of queries whose numbers begin at this one

@@ -127,7 +127,8 @@ SavesNotes writes (Some name) notes told before lines unsaved after =
     ⊎ (writes before name.now (notes_bytes Second notes) (Err Failed) after × (lines ≡ told ++ refusal_line refusal.FileFailed) × (unsaved ≡ true))
 
 -- what `check` tells of a program, over files that stand thus before and after
-pub record Accepts {F : Type 0} (writes : Writing F) (asked : Checking) (source : List ℕ) (before : F) (lines : List ℕ) (unsaved : Bool) (after : F) : Type 0 where
+pub record Accepts {F : Type 0} (writes : Writing F) (asked : Checking) (source : List ℕ) (before : F) (lines : List ℕ)
+    (unsaved : Bool) (after : F) : Type 0 where
   pub text : List Insn
   pub notes : List (Option StateKinds)
   pub longest : ℕ
@@ -164,7 +165,8 @@ AnswersFile reads gives name old lines unsaved refused new =
 -- a program is read, and then records, and what it computes over them is these lines
 abbrev pub AnswersRun : {F : Type 0} → ReadingOf F → ProgramForm → Interval → List ℕ → ℕ → List ℕ → F → List ℕ → Bool → Bool → F → Type 0
 AnswersRun {F} reads held lengths name start records old lines unsaved refused new =
-    (source : List ℕ) × (between : F) × reads old name (Ok source) between × AnswersFile reads (Computes held lengths source start) records between lines unsaved refused new
+    (source : List ℕ) × (between : F) × reads old name (Ok source) between
+    × AnswersFile reads (Computes held lengths source start) records between lines unsaved refused new
 
 -- a program is read, and accepted with these lines: no line is refused
 abbrev pub AnswersCheck : {F : Type 0} → ReadingOf F → Writing F → Checking → List ℕ → F → List ℕ → Bool → Bool → F → Type 0
@@ -216,7 +218,8 @@ RefusesFile reads refuses name old refused new =
 abbrev pub RefusesRun : {F : Type 0} → ReadingOf F → ProgramForm → Interval → List ℕ → List ℕ → F → RefusedCommand → F → Type 0
 RefusesRun {F} reads held lengths name records old refused new =
     RefusesFile reads (IsUnaccepted held lengths) name old refused new
-    ⊎ ((source : List ℕ) × (between : F) × reads old name (Ok source) between × IsAccepted held lengths source × RefusesFile reads (IsUnlisted lengths) records between refused new)
+    ⊎ ((source : List ℕ) × (between : F) × reads old name (Ok source) between × IsAccepted held lengths source
+    × RefusesFile reads (IsUnlisted lengths) records between refused new)
 
 -- The file is not read; or its bytes, which are handed out, are refused for this reason. Unless memory ran out, nothing is
 -- written.

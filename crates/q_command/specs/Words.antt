@@ -77,7 +77,8 @@ check_app =
 
 -- `run FILE START RECORDS`
 abbrev pub run_app : App
-run_app = with_lengths (with_bytes (with_rule (with_rule (with_rule (new_app (codes "run")) (operand (codes "FILE"))) (operand (codes "START"))) (operand (codes "RECORDS"))))
+run_app =
+    with_lengths (with_bytes (with_rule (with_rule (with_rule (new_app (codes "run")) (operand (codes "FILE"))) (operand (codes "START"))) (operand (codes "RECORDS"))))
 
 -- a command `NAME SCRIPT`, with the flag `--strict`
 abbrev pub script_app : Text → App
@@ -127,7 +128,9 @@ bqview =
 
 -- the commands of the program
 abbrev pub commands : List Text
-commands = codes "asm" ∷ codes "dis" ∷ codes "check" ∷ codes "run" ∷ codes "sim" ∷ codes "cluster" ∷ codes "audit" ∷ codes "gather" ∷ codes "node" ∷ codes "client" ∷ []
+commands =
+    codes "asm" ∷ codes "dis" ∷ codes "check" ∷ codes "run" ∷ codes "sim" ∷ codes "cluster" ∷ codes "audit"
+    ∷ codes "gather" ∷ codes "node" ∷ codes "client" ∷ []
 
 -- Inner words, of the private functions that read a command: its name is one of these.
 abbrev pub IsOneOf : Text → List Text → Type 0

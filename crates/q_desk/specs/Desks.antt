@@ -144,7 +144,8 @@ completed_by (Some e) query = completes e.tag e.what query
 -- ---- calls of the desk's node
 
 -- the desk does its part and the node its own, or neither does anything; the desk is asked first
-abbrev pub with_node : {A B C : Type 0} → (A → B → C) → Result (A × DeskState) Reason → Result (B × NodeState) Reason → Result (C × (DeskState × NodeState)) Reason
+abbrev pub with_node : {A B C : Type 0} → (A → B → C) → Result (A × DeskState) Reason → Result (B × NodeState) Reason
+    → Result (C × (DeskState × NodeState)) Reason
 with_node f (Ok d) (Ok n) = Ok (f d.0 n.0, (d.1, n.1))
 with_node f (Ok d) (Err e) = Err e
 with_node f (Err e) n = Err e

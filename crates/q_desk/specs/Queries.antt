@@ -42,7 +42,9 @@ next_of programs queries node = next_from programs queries node (position (λ q.
 
 -- each query that is to run has a program that was checked for the records of its view
 abbrev pub MayAllRun : List Certificate → List Query → Type 0
-MayAllRun programs queries = (k : ℕ) (q : Query) (program : Certificate) → slice_get queries k ≡ Some q → slice_get programs q.program ≡ Some program → MayRun q program
+MayAllRun programs queries =
+    (k : ℕ) (q : Query) (program : Certificate) → slice_get queries k ≡ Some q
+    → slice_get programs q.program ≡ Some program → MayRun q program
 
 -- ---- results
 

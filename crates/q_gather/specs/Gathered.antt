@@ -69,13 +69,15 @@ pub record IsUnderWay (books : List BookState) (c : ClusterState) (lists : List 
   pub right : AreRight books
   pub versions : (k : ℕ) (b : BookState) → slice_get books k ≡ Some b → b.version ≡ c.version
   pub same : (k : ℕ) (b : BookState) → slice_get books k ≡ Some b → b.config ≡ c.past.config
-  pub at : (k : ℕ) (b : BookState) → slice_get books k ≡ Some b → (steps : List (Step Message)) × (slice_get lists k ≡ Some steps) × (left : List Entry) × IsAt c b left steps
+  pub at : (k : ℕ) (b : BookState) → slice_get books k ≡ Some b → (steps : List (Step Message))
+      × (slice_get lists k ≡ Some steps) × (left : List Entry) × IsAt c b left steps
   pub all : (id : ℕ) (b : BookState) → book_at c id ≡ Some b → HasBook books id
   pub nobody : c.past.crashed ≡ set.empty
   pub few : (k : ℕ) (steps : List (Step Message)) → slice_get lists k ≡ Some steps → (b : BookState) × (slice_get books k ≡ Some b)
 
 -- the event takes the first step of this list
-pub record Goes (books : List BookState) (c : ClusterState) (lists : List (List (Step Message))) (k : ℕ) (s : Step Message) (rest : List (Step Message)) (event : ClusterEvent) : Type 0 where
+pub record Goes (books : List BookState) (c : ClusterState) (lists : List (List (Step Message))) (k : ℕ)
+    (s : Step Message) (rest : List (Step Message)) (event : ClusterEvent) : Type 0 where
   pub told : ClusterStep
   pub later : ClusterState
   pub accepted : Follows c event told later

@@ -86,7 +86,8 @@ together l k = record { bytes = sum_of l.bytes k.bytes; book = sum_of l.book k.b
 -- the line that tells them, without the line feed
 abbrev pub losses_text : LossCounts → List ℕ
 losses_text l =
-    codes "refused datagrams: " ++ (decimal l.bytes ++ (codes " that spell no message, " ++ (decimal l.book ++ (codes " by books, " ++ (decimal l.memory ++ codes " for want of memory")))))
+    codes "refused datagrams: "
+    ++ (decimal l.bytes ++ (codes " that spell no message, " ++ (decimal l.book ++ (codes " by books, " ++ (decimal l.memory ++ codes " for want of memory")))))
 
 -- ---- what was not sent
 

@@ -65,23 +65,27 @@ pub record IsBroken (input left before after : Option (List ℕ)) (b c : BookSta
   pub written : Appends before after (replies ++ part)
   pub at_hand : IsAtHand b.version rest between c (had ++ messages) has
 
-abbrev pub IsEnd : Result (Unit {0}) TransportFailed → Option (List ℕ) → Option (List ℕ) → Option (List ℕ) → Option (List ℕ) → BookState → BookState → List Message → List Message → Type 0
+abbrev pub IsEnd : Result (Unit {0}) TransportFailed → Option (List ℕ) → Option (List ℕ) → Option (List ℕ)
+    → Option (List ℕ) → BookState → BookState → List Message → List Message → Type 0
 IsEnd (Ok u) input left before after b c had has = IsServed input left before after b c had has
 IsEnd (Err e) input left before after b c had has = IsBroken input left before after b c had has
 
 -- ---- one turn
 
 -- requests of that version go on after one, which was replied to; or they ended
-abbrev pub IsTaken : Version → Option (List ℕ) → Option (List ℕ) → Option (List ℕ) → Option (List ℕ) → BookState → BookState → List Message → List Message → Bool → Type 0
+abbrev pub IsTaken : Version → Option (List ℕ) → Option (List ℕ) → Option (List ℕ) → Option (List ℕ) → BookState
+    → BookState → List Message → List Message → Bool → Type 0
 IsTaken version input left before after b c had has true =
     (r : Request) × (said : Reply) × (outs : List Message) × IsRequest version r × Consumes input left (spelling r) × Replies b r said outs c
     × (has ≡ had ++ outs) × Appends before after (reply_bytes said)
 IsTaken version input left before after b c had has false =
-    (ended : Option StreamEnd) × (last : List ℕ) × IsLast version last ended × Consumes input left last × IsRead left ended × Appends before after (last_reply ended)
+    (ended : Option StreamEnd) × (last : List ℕ) × IsLast version last ended × Consumes input left last
+    × IsRead left ended × Appends before after (last_reply ended)
     × (c ≡ b) × (has ≡ had)
 
 -- the same; or a read or a write failed
-abbrev pub IsTurn : {E : Type 0} → Version → Option (List ℕ) → Option (List ℕ) → Option (List ℕ) → Option (List ℕ) → BookState → BookState → List Message → List Message → Result Bool E → Type 0
+abbrev pub IsTurn : {E : Type 0} → Version → Option (List ℕ) → Option (List ℕ) → Option (List ℕ) → Option (List ℕ)
+    → BookState → BookState → List Message → List Message → Result Bool E → Type 0
 IsTurn version input left before after b c had has (Ok on) = IsTaken version input left before after b c had has on
 IsTurn version input left before after b c had has (Err e) =
     (read : List ℕ) × (part : List ℕ) × Consumes input left read × Appends before after part × IsAtHand version read b c had has

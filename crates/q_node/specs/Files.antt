@@ -34,7 +34,8 @@ RunsBytes source id e before after =
     ⊎ ((IsUtf8 source → ⊥) × EndsRefused fault.FileFailed e before after)
 
 -- the same of the file of this name; or the file is not read
-abbrev pub IsWrittenFile : {F : Type 0} → (F → List ℕ → Result (List ℕ) FileFault → F → Type 0) → List ℕ → ℕ → F → F → NodeEnding → Option (List ℕ) → Option (List ℕ) → Type 0
+abbrev pub IsWrittenFile : {F : Type 0} → (F → List ℕ → Result (List ℕ) FileFault → F → Type 0) → List ℕ → ℕ → F → F
+    → NodeEnding → Option (List ℕ) → Option (List ℕ) → Type 0
 IsWrittenFile reads name id old new e before after =
     ((source : List ℕ) × reads old name (Ok source) new × RunsBytes source id e before after)
     ⊎ ((f : FileFault) × reads old name (Err f) new × EndsRefused (fault_of f) e before after)

@@ -12,4 +12,6 @@ Prints does old new = (text : List ℕ) × does (seen old) text (seen new) × (s
 
 -- the same over files that stand thus before and after
 abbrev pub PrintsOver : {F : Type 0} → (SimState → F → List ℕ → SimState → F → Type 0) → Simulation → F → Simulation → F → Type 0
-PrintsOver does old before new after = (text : List ℕ) × does (seen old) before text (seen new) after × (string_bytes new.lines ≡ string_bytes old.lines ++ text)
+PrintsOver does old before new after =
+    (text : List ℕ) × does (seen old) before text (seen new) after
+    × (string_bytes new.lines ≡ string_bytes old.lines ++ text)

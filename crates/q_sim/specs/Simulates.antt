@@ -170,7 +170,8 @@ module _ {F : Type 0} (writes : Writing F) where
   abbrev pub SavesBook : BookState → List ℕ → SimState → F → List ℕ → SimState → F → Type 0
   SavesBook b name s before text t after =
       (writes before name (journal_of b) (Ok tt) after × (t ≡ s) × (text ≡ journal_line (length b.desk.journal)))
-      ⊎ (writes before name (journal_of b) (Err Failed) after × (t ≡ record (refusing refusal.FileFailed s) { unsaved = true }) × (text ≡ refusal_line refusal.FileFailed))
+      ⊎ (writes before name (journal_of b) (Err Failed) after × (t ≡ record (refusing refusal.FileFailed s) { unsaved = true })
+      × (text ≡ refusal_line refusal.FileFailed))
 
   -- the same of a book that may be none: then the line is refused, that is printed, and nothing else is done
   abbrev pub SavesAny : Option BookState → List ℕ → SimState → F → List ℕ → SimState → F → Type 0
@@ -216,7 +217,8 @@ module _ {F : Type 0} (writes : Writing F) where
   abbrev pub Plays : List ScriptLine → SimState → F → List ℕ → SimState → F → Type 0
   Plays [] s before text t after = (t ≡ s) × (after ≡ before) × (text ≡ [])
   Plays (l ∷ ls) s before text t after =
-      (between : SimState) × (files : F) × (first rest : List ℕ) × Does l (at_next_line s) before first between files × Plays ls between files rest t after × (text ≡ first ++ rest)
+      (between : SimState) × (files : F) × (first rest : List ℕ) × Does l (at_next_line s) before first between files
+      × Plays ls between files rest t after × (text ≡ first ++ rest)
 
 -- ---- scripts
 
