@@ -29,7 +29,8 @@ abbrev pub reach : Jump → ℕ
 reach jumps.Far = 2 ^ 31
 reach _ = 2 ^ 15
 
--- The instruction that a statement means, before these lines. The distance of a jump is counted from the next instruction.
+-- The instruction that a statement means, before these lines. The distance of a jump is counted from the next
+-- instruction.
 abbrev pub Means : Statement → List Line → Insn → Type 0
 Means (Complete i) later insn = insn ≡ i
 Means (JumpTo j label) later insn = (d : ℕ) × (units_before label later ≡ Some d) × (d < reach j) × (insn ≡ jump_insn j (pos d))

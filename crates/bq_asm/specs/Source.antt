@@ -55,7 +55,8 @@ disassembly t = flat_map insn_line t
 abbrev pub IsUnreadable : List (List ℕ) → List ℕ → List (List ℕ) → Type 0
 IsUnreadable before line after = (v : Line) → Spells line v → ⊥
 
--- What is first wrong with a source. Memory runs out only where the first line is of a form: before that none is asked for.
+-- What is first wrong with a source. Memory runs out only where the first line is of a form: before that none is asked
+-- for.
 abbrev pub IsFault : List ℕ → AsmFault → Type 0
 IsFault source (Syntax line) = IsFirstLine IsUnreadable [] (lines_of source) line
 IsFault source (Label line) = (lines : List Line) × Says source lines × IsFirstLine HasLabelFault [] lines line

@@ -1,5 +1,5 @@
--- The bytes of notes in two forms: a count, and then for each unit nothing, or the kinds of the eleven registers, in the
--- second form behind the lengths that records may have. The first form is for records of 64 bytes alone.
+-- The bytes of notes in two forms: a count, and then for each unit nothing, or the kinds of the eleven registers, in
+-- the second form behind the lengths that records may have. The first form is for records of 64 bytes alone.
 use Rattle.std.specs.Prelude.{◌≡◌, ℕ, ◌≤◌, ℤ, List, [], ◌∷◌, ◌++◌, length, Option, Some, None}
 use Rattle.std.specs.List.{flat_map, AllByRecursion}
 use Rattle.std.specs.Int.{w32, cast_unsigned}

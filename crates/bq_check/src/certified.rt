@@ -81,8 +81,8 @@ impl Certified {
         self.codes.as_slice()
     }
 
-    /// A law of every certificate: its text is legal, its notes pass for records of its lengths, and its longest path is
-    /// that of the text.
+    /// A law of every certificate: its text is legal, its notes pass for records of its lengths, and its longest path
+    /// is that of the text.
     pub fn is_certified(&self)
         ensures { IsCertified self.now }
     {

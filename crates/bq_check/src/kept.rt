@@ -50,8 +50,8 @@ fn is_note(note: &Option<State>)
 
 impl Notes {
     /// At most 4,096 notes. In each state the record has lengths within 16 to 128, and there are eleven kinds, of which
-    /// each range is of words and each offset within -65,536 to 65,536, the least first. Its time is that of reading the
-    /// notes; it takes no memory.
+    /// each range is of words and each offset within -65,536 to 65,536, the least first. Its time is that of reading
+    /// the notes; it takes no memory.
     pub fn are_notes(&self)
         ensures { IsNotes NotesForm.Second self.now }
     {

@@ -7,8 +7,8 @@
 //!
 //! - [`Block::load1`] to [`Block::load8`] read 1, 2, 4 or 8 bytes as a number, and [`Block::store1`] to
 //!   [`Block::store8`] write the lowest bytes of one, in little-endian order. Nothing is tested: it is the caller's
-//!   condition that the bytes lie in the block. They go through raw pointers, which two functions of one byte each alone
-//!   have.
+//!   condition that the bytes lie in the block. They go through raw pointers, which two functions of one byte each
+//!   alone have.
 //! - [`Block::clear_frame`], and [`Block::set_record`] or [`Block::set_entry`], prepare a run.
 //!
 //! Only [`Block::new`] may fail, where memory runs out. No other call takes memory, and none refuses anything.

@@ -21,8 +21,8 @@ LeavesLess None o = ⊤
 LeavesLess (Some p) None = ⊥
 LeavesLess (Some p) (Some q) = IsPart p.0 q.0 × IsPart p.1 q.1
 
--- each row of the tables makes of parts of its operands a part of what it makes of the operands, and a branch leaves part
--- of its operands on either edge
+-- each row of the tables makes of parts of its operands a part of what it makes of the operands, and a branch leaves
+-- part of its operands on either edge
 pub record RowsAreMonotone : Type 0 where
   pub operations : (w : Width) (op : AluOp) (a b c d : Interval) → IsPart a c → IsPart b d → IsPart (operated (bits_of w) op a b) (operated (bits_of w) op c d)
   pub negations : (w : Width) (a c : Interval) → IsPart a c → IsPart (negated (bits_of w) a) (negated (bits_of w) c)

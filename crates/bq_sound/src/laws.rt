@@ -24,8 +24,9 @@ pub fn step_is_covered()
     ensures { (len : ℕ) (p : Place) (i : Insn) (state after : StateKinds) (m : Machine) → len ≤ record_room → IsPlacement p → IsInsn i → IsMachine len m → StateHolds p len state m.registers → transfer i state ≡ Ok after → IsCovered len p (edges m.unit i after) (perform p i m) }
 {}
 
-/// A text whose notes pass never faults: from every accumulator, record of one of the lengths that the notes are for, and
-/// frame its record run ends within the longest path, with one answer and one frame that are the same at every placement.
+/// A text whose notes pass never faults: from every accumulator, record of one of the lengths that the notes are for,
+/// and frame its record run ends within the longest path, with one answer and one frame that are the same at every
+/// placement.
 pub fn passing_is_safe()
     ensures { (l : Interval) (text : List Insn) (notes : List (Option StateKinds)) (longest len : ℕ) → AreLengths l → IsText text → Passes l text notes → IsLongest text longest → IsIn len l → IsSafe len text longest }
 {}

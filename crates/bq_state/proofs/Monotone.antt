@@ -1,7 +1,7 @@
 -- From less an instruction leaves less. Where a state breaks no rule, a state that it covers breaks none, and what that
 -- one leaves is covered too (`transfer_less`); each edge of the smaller state has one of the larger state's to the same
--- unit that covers it (`edges_less`). Both are said of states of eleven kinds whose ranges are of words, as the entry's is
--- (`entry_full`) and the joins of such states are (`joined_full`). They rest on the law that the rows of ranges are
+-- unit that covers it (`edges_less`). Both are said of states of eleven kinds whose ranges are of words, as the entry's
+-- is (`entry_full`) and the joins of such states are (`joined_full`). They rest on the law that the rows of ranges are
 -- monotone.
 use Rattle.std.proofs.Common.{◌≡◌, ℕ, ◌+◌, ◌*◌, ◌^◌, ◌<◌, ◌≤◌, List, [], ◌∷◌, ◌++◌, length, Option, Some, None, Bool, true, false, cond, arith, refl, sym, ap, subst, ◌∙◌, inl, inr, get_or}
 use Rattle.std.specs.Prelude.{⊤, min, max, ℤ, pos, negsuc, ◌+ℤ◌, ◌-ℤ◌, int_le, Result, Ok, Err, option_map}

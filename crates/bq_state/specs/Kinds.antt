@@ -8,7 +8,8 @@ use Rattle.bq_state.specs.declared.kind.Kind.TheVariants.{Unset, Number, Pointer
 use Rattle.bq_state.specs.declared.region.Region.{Region}
 use Rattle.bq_state.specs.declared.region.Region.TheVariants.{Frame, Record}
 
--- what is known of the registers, that of r0 first, and the lengths that the record may have: a state, as contracts see it
+-- what is known of the registers, that of r0 first, and the lengths that the record may have: a state, as contracts see
+-- it
 pub record StateKinds : Type 0 where
   pub kinds : List Kind
   pub lengths : Interval

@@ -209,9 +209,9 @@ impl State {
         }
     }
 
-    /// Follows one way on from the instruction at a unit, given this state, which the instruction leaves: its jump, with
-    /// `jumps`, or the way to the unit behind it. Answers the unit where that way leads, and the state becomes what is
-    /// known there; none where the instruction has no such way, or where it is not feasible.
+    /// Follows one way on from the instruction at a unit, given this state, which the instruction leaves: its jump,
+    /// with `jumps`, or the way to the unit behind it. Answers the unit where that way leads, and the state becomes
+    /// what is known there; none where the instruction has no such way, or where it is not feasible.
     pub fn follow(&mut self, unit: u64, insn: &Insn, jumps: bool) -> Option<u64>
         requires { unit < 4096 }
         ensures { arrived result self.new ≡ way unit insn.now jumps self.old }

@@ -1,10 +1,10 @@
 //! What is known of a machine at a unit of a program, and the rules of the checker.
 //!
-//! A [`State`] says which lengths the record may have, its [`Bounds`], and of each of the eleven registers what is known
-//! of it, its [`Kind`]: nothing, a number in a range, a pointer to a [`Region`], the frame or the record, plus one of a
-//! range of [`Offsets`], or that it holds the record's length. Offsets lie within -65,536 to 65,536, lengths within 16 to
-//! 128. A length is a number wherever a number is allowed, a move of 64 bits copies it, and a branch on it narrows the
-//! lengths that the record may have.
+//! A [`State`] says which lengths the record may have, its [`Bounds`], and of each of the eleven registers what is
+//! known of it, its [`Kind`]: nothing, a number in a range, a pointer to a [`Region`], the frame or the record, plus
+//! one of a range of [`Offsets`], or that it holds the record's length. Offsets lie within -65,536 to 65,536, lengths
+//! within 16 to 128. A length is a number wherever a number is allowed, a move of 64 bits copies it, and a branch on
+//! it narrows the lengths that the record may have.
 //!
 //! - [`State::entry`] is the state at the entry of a run over a record.
 //! - [`State::transfer`] gives the state that an instruction leaves, or the first [`Rule`] that it

@@ -194,8 +194,8 @@ impl State {
         Ok(state)
     }
 
-    /// The state becomes that after an instruction; where that breaks a rule, the state stays and the first such rule is
-    /// answered.
+    /// The state becomes that after an instruction; where that breaks a rule, the state stays and the first such rule
+    /// is answered.
     pub fn apply(&mut self, insn: &Insn) -> Result<(), Rule>
         ensures made { became result self.new ≡ transfer insn.now self.old }
         ensures kept { OnErr result (self.new ≡ self.old) }

@@ -1,5 +1,5 @@
--- The states of a text fit their lengths: where records have one length, what arrives at a unit tells it by its number, as the
--- entry does. By induction over the units, by the law that what comes of such states is one.
+-- The states of a text fit their lengths: where records have one length, what arrives at a unit tells it by its number,
+-- as the entry does. By induction over the units, by the law that what comes of such states is one.
 use Rattle.std.proofs.Common.{◌≡◌, ℕ, zero, suc, ◌<◌, List, [], ◌∷◌, Option, Some, None, ap, sym, subst, ◌∙◌, refl, arith, inl, inr}
 use Rattle.std.specs.Prelude.{◌==◌, Result, Ok, Err}
 use Rattle.std.specs.List.{fold, All}

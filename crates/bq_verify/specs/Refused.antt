@@ -1,4 +1,5 @@
--- What the verifier refuses, where records have one of the lengths l: the first fault of the flow, or the first rule that is broken, in rising order of units.
+-- What the verifier refuses, where records have one of the lengths l: the first fault of the flow, or the first rule
+-- that is broken, in rising order of units.
 use Rattle.std.specs.Prelude.{◌≡◌, ℕ, ◌<◌, List, Option, Some, Err}
 use Rattle.bq_insn.specs.declared.insn.Insn.{Insn}
 use Rattle.bq_insn.specs.Slots.{insn_at}

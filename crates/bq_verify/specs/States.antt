@@ -1,5 +1,5 @@
--- The states of a text, where records have one of the lengths l: at each unit the join of what its feasible predecessors
--- leave.
+-- The states of a text, where records have one of the lengths l: at each unit the join of what its feasible
+-- predecessors leave.
 use Rattle.std.specs.Prelude.{◌≡◌, ℕ, zero, suc, ◌<◌, ◌==◌, List, [], ◌∷◌, ◌++◌, length, Option, Some, None, Result, Ok, Err, if◌then◌else◌}
 use Rattle.std.specs.List.{fold}
 use Rattle.bq_insn.specs.Slots.{units, insn_at}

@@ -169,11 +169,12 @@ pub fn verify(alloc: Global, text: &Text) -> Result<Notes, CheckFault>
     verify_within(alloc, text, Bounds::all())
 }
 
-/// What is known where the instruction at a unit begins, from the units below it, for records of these lengths; none where
-/// nothing reaches it. It tells why `verify_within` refuses a text at that unit. Behind the text it is none of every text.
+/// What is known where the instruction at a unit begins, from the units below it, for records of these lengths; none
+/// where nothing reaches it. It tells why `verify_within` refuses a text at that unit. Behind the text it is none of
+/// every text.
 ///
-/// Refused as by `verify_within` where the flow is refused, or where an instruction below the unit breaks a rule: where it
-/// answers, neither is so. 99 OutOfMemory may stand in place of any answer at a unit of the text.
+/// Refused as by `verify_within` where the flow is refused, or where an instruction below the unit breaks a rule: where
+/// it answers, neither is so. 99 OutOfMemory may stand in place of any answer at a unit of the text.
 pub fn state_at(
     alloc: Global,
     text: &Text,

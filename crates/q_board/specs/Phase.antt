@@ -9,7 +9,8 @@ use Rattle.q_board.specs.declared.found.Found.{Found}
 use Rattle.q_board.specs.declared.found.Found.TheVariants as look
 use Rattle.q_board.specs.Words.{word_of}
 
--- fresh: the asker has not taken the slot yet, as the board opens. empty: the asker has the slot. claimed: the runner of this number has it
+-- fresh: the asker has not taken the slot yet, as the board opens. empty: the asker has the slot. claimed: the runner
+-- of this number has it
 pub data Phase : Type 0 where
   fresh : Phase
   empty : Phase

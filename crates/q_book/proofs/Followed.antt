@@ -88,7 +88,8 @@ NodeDid b (Stores value) t n = (a : Begun) × (node.store_begun b.node value ≡
 NodeDid b (Delivers m) t n = (a : Delivered) × (node.delivered b.node m ≡ Ok (a, n)) × (took a ≡ t) × Fits b.version m
 NodeDid b Idles t n = (b.node ≡ n) × (idle t.answer ≡ t)
 
--- The node had not left. It did this, and so did the desk, and nothing else changed. The journal goes on with the entry.
+-- The node had not left. It did this, and so did the desk, and nothing else changed. The journal goes on with the
+-- entry.
 pub record IsAccepted (b : BookState) (e : Entry) (x : Deed) (t : Told) (c : BookState) : Type 0 where
   pub same : record b { node = c.node; desk = c.desk } ≡ c
   pub there : b.node.gone ≡ false

@@ -72,8 +72,8 @@ abbrev pub Spells : ProgramForm → List ℕ → List Insn → Type 0
 Spells Text source text = IsProgram source text
 Spells Bytes source text = IsText text × (source ≡ spelling text)
 
--- What is spelled is this program, and these are its notes: they pass for records of these lengths, and no notes that pass
--- say more.
+-- What is spelled is this program, and these are its notes: they pass for records of these lengths, and no notes that
+-- pass say more.
 pub record IsVerified (held : ProgramForm) (lengths : Interval) (source : List ℕ) (text : List Insn) (notes : List (Option StateKinds)) : Type 0 where
   pub program : Spells held source text
   pub passes : Passes lengths text notes
@@ -83,8 +83,8 @@ pub record IsVerified (held : ProgramForm) (lengths : Interval) (source : List �
 abbrev pub IsAccepted : ProgramForm → Interval → List ℕ → Type 0
 IsAccepted held lengths source = (text : List Insn) × (notes : List (Option StateKinds)) × IsVerified held lengths source text notes
 
--- Why a file of this form spells no program: it is not UTF-8, or what is first wrong with the text; or what is first wrong
--- with the bytes.
+-- Why a file of this form spells no program: it is not UTF-8, or what is first wrong with the text; or what is first
+-- wrong with the bytes.
 abbrev pub IsUnspelled : ProgramForm → List ℕ → Refusal → Type 0
 IsUnspelled Text source refusal.FileFailed = ¬ (IsUtf8 source)
 IsUnspelled Text source (refusal.Assembler f) = IsUtf8 source × assembler.IsFault source f
@@ -112,14 +112,14 @@ pub record Disassembles (source lines : List ℕ) : Type 0 where
   pub program : Spells Bytes source text
   pub written : lines ≡ disassembly text
 
--- what is told of an accepted program: how long its longest path is, and then, where it is asked for, what is known of the
--- registers at each unit
+-- what is told of an accepted program: how long its longest path is, and then, where it is asked for, what is known of
+-- the registers at each unit
 abbrev pub acceptance : Bool → List Insn → List (Option StateKinds) → ℕ → List ℕ
 acceptance states text notes longest =
     (codes "accepted longest " ++ (decimal longest ++ 10 ∷ [])) ++ (if states then states_text text notes else [])
 
--- This is told. Where the notes are to be written, they are written under this name; or the file fails, and that is told
--- after it.
+-- This is told. Where the notes are to be written, they are written under this name; or the file fails, and that is
+-- told after it.
 abbrev pub SavesNotes : {F : Type 0} → Writing F → Option (Bor (List ℕ)) → List (Option StateKinds) → List ℕ → F → List ℕ → Bool → F → Type 0
 SavesNotes writes None notes told before lines unsaved after = (lines ≡ told) × (unsaved ≡ false) × (after ≡ before)
 SavesNotes writes (Some name) notes told before lines unsaved after =
@@ -221,8 +221,8 @@ RefusesRun {F} reads held lengths name records old refused new =
     ⊎ ((source : List ℕ) × (between : F) × reads old name (Ok source) between × IsAccepted held lengths source
     × RefusesFile reads (IsUnlisted lengths) records between refused new)
 
--- The file is not read; or its bytes, which are handed out, are refused for this reason. Unless memory ran out, nothing is
--- written.
+-- The file is not read; or its bytes, which are handed out, are refused for this reason. Unless memory ran out, nothing
+-- is written.
 abbrev pub RefusesBeforeWrites : {F : Type 0} → ReadingOf F → (List ℕ → Refusal → Type 0) → List ℕ → F → RefusedCommand → F → Type 0
 RefusesBeforeWrites {F} reads refuses name old refused new =
     IsUnread reads name old refused new
@@ -254,13 +254,14 @@ IsUnmade work.Audit = IsUnaudited
 
 -- ---- ends
 
--- How a command ends whose answer was written, which is strict or not: first, a journal was not written; then, a line was
--- refused, where the command is strict.
+-- How a command ends whose answer was written, which is strict or not: first, a journal was not written; then, a line
+-- was refused, where the command is strict.
 abbrev pub end_of : Bool → Bool → Bool → CommandEnding
 end_of strict unsaved refused = if unsaved then Unsaved else (if strict && refused then LineRefused else Answered)
 
--- The command ends so, over files and a writer that stand thus before and after: the writer took exactly the lines of the
--- answer, or exactly the line of the refusal. Where the writer failed, it was given one of the two, and may have taken a part.
+-- The command ends so, over files and a writer that stand thus before and after: the writer took exactly the lines of
+-- the answer, or exactly the line of the refusal. Where the writer failed, it was given one of the two, and may have
+-- taken a part.
 abbrev pub Ends : {F : Type 0} → Reading F → Writing F → FileCommand → F → Option (List ℕ) → CommandEnding → F → Option (List ℕ) → Type 0
 Ends reads writes line old before (Refused refused) new after = Refuses reads line old refused new × Appends before after (refusal_line refused.refusal)
 Ends reads writes line old before Unwritten new after =

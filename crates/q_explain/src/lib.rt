@@ -1,7 +1,7 @@
 //! Why a file is refused, in words for a person.
 //!
-//! - [`explain`] tells of a fault that the verifier found in a text: the instruction as assembler text, what is known of
-//!   the registers there, which rule it breaks and what would satisfy it. Something is told exactly of faults at an
+//! - [`explain`] tells of a fault that the verifier found in a text: the instruction as assembler text, what is known
+//!   of the registers there, which rule it breaks and what would satisfy it. Something is told exactly of faults at an
 //!   instruction. [`explain_code`] tells the same of bytes, and [`explain_bytes`] why bytes are no program.
 //! - [`states`] has what is known of the registers at each instruction of a program: its text is exactly that of the
 //!   notes.

@@ -5,8 +5,8 @@ use std::alloc::AllocError;
 /// Of a line, this many characters are shown.
 const SHOWN: usize = 72;
 
-/// Writes a line as it is shown: its first 72 characters, and two dots where there are more. A carriage return is `\r`, a
-/// tab `\t`, a byte order mark `\u{feff}`, and any other character that is not to be printed a question mark.
+/// Writes a line as it is shown: its first 72 characters, and two dots where there are more. A carriage return is `\r`,
+/// a tab `\t`, a byte order mark `\u{feff}`, and any other character that is not to be printed a question mark.
 pub fn write_shown(out: &mut String, line: &str) -> Result<(), AllocError> {
     for letter in line.chars().take(SHOWN) {
         match letter {

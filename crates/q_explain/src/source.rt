@@ -40,8 +40,8 @@ fn instructions_below(text: &Text, unit: usize) -> usize {
     below
 }
 
-/// The line of an assembler text, counted from 1, that has the instruction at a unit of the text that it spells; none where
-/// it has no such instruction.
+/// The line of an assembler text, counted from 1, that has the instruction at a unit of the text that it spells; none
+/// where it has no such instruction.
 pub fn line_of_unit(source: &str, text: &Text, unit: usize) -> Option<usize> {
     let mut below = instructions_below(text, unit);
     for (place, line) in source.split('\n').enumerate() {

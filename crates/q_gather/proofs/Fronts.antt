@@ -81,8 +81,8 @@ module _ {M : Type 0} (From : ℕ → ℕ → Type 0) (once : (i k j : ℕ) → 
     pub at : slice_get lists list ≡ Some whole
     pub front : IsFront steps whole
 
-  -- The kept lists are fronts of the others, of which at most one gives a message. Of what a kept step wants, all that the
-  -- others gave was given by the kept ones too, and what was not is given by a kept step.
+  -- The kept lists are fronts of the others, of which at most one gives a message. Of what a kept step wants, all that
+  -- the others gave was given by the kept ones too, and what was not is given by a kept step.
   pub record AreFronts (given more : List M) (lists kept : List (List (Step M))) : Type 0 where
     pub fronts : (k : ℕ) (steps : List (Step M)) → slice_get kept k ≡ Some steps → IsFrontOf lists k steps
     pub alone : (m : M) (i k : ℕ) (s t : Step M) → HasStep lists i s → HasStep lists k t → Contains s.gives m → Contains t.gives m → i ≡ k

@@ -1,5 +1,5 @@
--- The program of each query that was answered is known; so the answers that a beginning records are right where those of
--- the whole book are.
+-- The program of each query that was answered is known; so the answers that a beginning records are right where those
+-- of the whole book are.
 use Rattle.std.proofs.Common.{◌≡◌, ℕ, ◌==◌, true, List, [], ◌∷◌, Option, Some, None, refl, sym, ap, ◌∙◌, subst, inl, inr, slice_get}
 use Rattle.sc_view.specs.Views.{ViewMap}
 use Rattle.sc_world.proofs.Steps.{and_right}

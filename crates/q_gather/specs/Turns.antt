@@ -21,8 +21,8 @@ pub record IsJobFor (jobs : List Job) (id query number : ℕ) : Type 0 where
   pub by : job.node ≡ id
   pub of : job.query ≡ query
 
--- The entry as an event of the node. A call is the same call. A message goes by a number at which it was sent, and an answer by the number of
--- the job that was handed out for its query.
+-- The entry as an event of the node. A call is the same call. A message goes by a number at which it was sent, and an
+-- answer by the number of the job that was handed out for its query.
 abbrev pub IsEventOf : ClusterState → ℕ → Entry → ClusterEvent → Type 0
 IsEventOf c id (entry.Call k) ev = ev ≡ event.Call id k
 IsEventOf c id (entry.Deliver m) ev = (number : ℕ) × (slice_get c.past.sent number ≡ Some m) × (ev ≡ event.Deliver number id)

@@ -122,8 +122,8 @@ module _ (c d : ClusterState) (k : IsCalled c d) where
   called_sent =
       ledger_sent c.past k.id acts k.book.node (outcome tells k.later.node) node_acted ∙ ap (λ (x : List Message). c.past.sent ++ x) accepted.sent
 
--- What an accepted event makes of a cluster: a node enters; one crashes; a node whose queries are not ready hands nothing
--- out, and its book is put in as it was; or the book of a node takes an entry.
+-- What an accepted event makes of a cluster: a node enters; one crashes; a node whose queries are not ready hands
+-- nothing out, and its book is put in as it was; or the book of a node takes an entry.
 pub data IsMade (c d : ClusterState) : Type 0 where
   enters : (id : ℕ) → fin.get c.books id ≡ None
       → (let e = book.entered c.version c.past.config id in With c (recorded c.past (world_event.Enter id) id e.1 None None) c.jobs id e.0 ≡ d)

@@ -29,9 +29,9 @@ unsent_after version [] u = u
 unsent_after version (m ∷ messages) u =
     unsent_after version messages (if fits version m then u else both_unsent u (record no_unsent { messages = 1 }))
 
--- The first messages that waited are done, and the others wait on: the first for which memory is short, and those behind
--- it. Those that are done are given as letters, in turn, but for those that have no bytes in the version, which are
--- counted; those that go again are kept.
+-- The first messages that waited are done, and the others wait on: the first for which memory is short, and those
+-- behind it. Those that are done are given as letters, in turn, but for those that have no bytes in the version, which
+-- are counted; those that go again are kept.
 pub record Gives (version : Version) (old : Outbox) (letters : List Letter) (new : Outbox) : Type 0 where
   pub done : List Message
   pub parts : old.waiting ≡ done ++ new.waiting

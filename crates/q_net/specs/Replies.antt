@@ -53,8 +53,8 @@ abbrev pub form_of : Version → NotesForm
 form_of First = form.First
 form_of Second = form.Second
 
--- what comes of the bytes of a text and of notes: the first fault of the text, then of the notes, then of the check, and
--- only then the book's answer. Notes have the form of the book's version, and are for its records. Each may be that
+-- what comes of the bytes of a text and of notes: the first fault of the text, then of the notes, then of the check,
+-- and only then the book's answer. Notes have the form of the book's version, and are for its records. Each may be that
 -- memory ran out, and then the book is as it was.
 abbrev pub Registers : BookState → List ℕ → List ℕ → Registered → BookState → Type 0
 Registers b bytes notes (registered.Text f) c = (c ≡ b) × (f ≢ decode_fault.OutOfMemory → decode.IsFault bytes f)

@@ -12,7 +12,8 @@ use Rattle.q_net.specs.declared.replies.Reply.{Reply}
 use Rattle.q_net.specs.Requests.{spelling, spellings, IsRequest, IsStop, IsRead}
 use Rattle.q_net.specs.Replies.{reply_bytes, stop_number, Replies}
 
--- Requests, one after the other, are replied to with these bytes, send these messages and lead from one book to another.
+-- Requests, one after the other, are replied to with these bytes, send these messages and lead from one book to
+-- another.
 abbrev pub Serves : BookState → List Request → List ℕ → List Message → BookState → Type 0
 Serves b [] bytes sent c = (bytes ≡ []) × (sent ≡ []) × (c ≡ b)
 Serves b (r ∷ rs) bytes sent c =
@@ -28,8 +29,8 @@ abbrev pub last_reply : Option StreamEnd → List ℕ
 last_reply None = []
 last_reply (Some stop) = stop_number stop ∷ []
 
--- All was served: the input begins with the bytes of requests and how they ended, what was written is the replies to them
--- one after the other, the book is the one after them, and their messages were put behind those that were there.
+-- All was served: the input begins with the bytes of requests and how they ended, what was written is the replies to
+-- them one after the other, the book is the one after them, and their messages were put behind those that were there.
 pub record IsServed (input left before after : Option (List ℕ)) (b c : BookState) (had has : List Message) : Type 0 where
   pub requests : List Request
   pub legal : AllByRecursion (IsRequest b.version) requests
@@ -44,7 +45,8 @@ pub record IsServed (input left before after : Option (List ℕ)) (b c : BookSta
   pub written : Appends before after (replies ++ last_reply ended)
   pub grown : has ≡ had ++ messages
 
--- what was done of a request at hand where a read or a write fails: nothing, or all but that its reply was not written whole
+-- what was done of a request at hand where a read or a write fails: nothing, or all but that its reply was not written
+-- whole
 abbrev pub IsAtHand : Version → List ℕ → BookState → BookState → List Message → List Message → Type 0
 IsAtHand version read b c had has =
     ((c ≡ b) × (has ≡ had))

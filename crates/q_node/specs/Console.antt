@@ -66,8 +66,8 @@ said_line (said.Refused why) = line_of why Untold
 
 -- ---- what a node says to a command
 
--- The node left, or its book refuses that; or that it left was not written to its journal, and then the node is mute, or
--- memory ran out.
+-- The node left, or its book refuses that; or that it left was not written to its journal, and then the node is mute,
+-- or memory ran out.
 abbrev pub IsSaidToLeave : ℕ → Said → Type 0
 IsSaidToLeave node said.Done =
     (b c : BookState) × (had has : List Message) × IsBookOf node b × Leaves b had (Ok tt) c has

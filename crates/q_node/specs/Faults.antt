@@ -31,8 +31,8 @@ abbrev pub place_of : StartFault → RefusalPlace
 place_of (fault.Cluster (Syntax line)) = Line line
 place_of f = Untold
 
--- Why a node of this file with this id and so many runners does not begin: there are not 1 to 64 runners; the file lacks
--- the node; or the file's founders are refused. Memory may run out at any time.
+-- Why a node of this file with this id and so many runners does not begin: there are not 1 to 64 runners; the file
+-- lacks the node; or the file's founders are refused. Memory may run out at any time.
 abbrev pub IsUnbegun : ClusterFile → ℕ → ℕ → StartFault → Type 0
 IsUnbegun file id runners fault.BadCount = ¬ ((1 ≤ runners) × (runners ≤ 64))
 IsUnbegun file id runners fault.NoSuchNode = address_of file.nodes.items id ≡ None

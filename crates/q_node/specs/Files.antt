@@ -14,8 +14,8 @@ use Rattle.q_node.specs.declared.fault.StartFault.TheVariants as fault
 abbrev pub longest_file : ℕ
 longest_file = 16777216
 
--- The node of this file and this id: the file lacks it, and that is told; or it runs, or does not begin, behind some line
--- that tells where it hears.
+-- The node of this file and this id: the file lacks it, and that is told; or it runs, or does not begin, behind some
+-- line that tells where it hears.
 abbrev pub RunsNode : ClusterFile → ℕ → NodeEnding → Option (List ℕ) → Option (List ℕ) → Type 0
 RunsNode file id e before after =
     ((address_of file.nodes.items id ≡ None) × EndsRefused fault.NoSuchNode e before after)

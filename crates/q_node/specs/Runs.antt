@@ -49,8 +49,8 @@ failures_after e n = n
 
 -- ---- the journal
 
--- the file holds the whole journal of a book of the node where it ran to its end, and else a beginning of it; and what it
--- held at first where the node did not begin
+-- the file holds the whole journal of a book of the node where it ran to its end, and else a beginning of it; and what
+-- it held at first where the node did not begin
 abbrev pub IsJournal : ℕ → Option (List ℕ) → Option (List ℕ) → NodeEnding → Type 0
 IsJournal node first file (ending.Ended events) = HoldsJournal node first file events
 IsJournal node first file (ending.Stopped fault) = HoldsBeginning node first file

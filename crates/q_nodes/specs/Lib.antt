@@ -1,5 +1,5 @@
--- Nodes in threads: how long a file is, and why no line is told. Their scripts: what the calls of the lines come to, and
--- what the lines tell of one cluster.
+-- Nodes in threads: how long a file is, and why no line is told. Their scripts: what the calls of the lines come to,
+-- and what the lines tell of one cluster.
 pub mod Files
 pub mod Faults
 pub mod Books

@@ -32,8 +32,8 @@ abbrev pub IsNoneWithin : ℕ → Option (List ℕ) → Type 0
 IsNoneWithin most None = Unit {0}
 IsNoneWithin most (Some bytes) = most < length bytes
 
--- what a read of at most so many bytes answers: it fails where it is to, where there is no such file, and where that has
--- more
+-- what a read of at most so many bytes answers: it fails where it is to, where there is no such file, and where that
+-- has more
 abbrev pub Finds : ℕ → MemoryFiles → List ℕ → Result (List ℕ) FileFault → Type 0
 Finds most old name (Ok bytes) = (fails_next old.passing ≡ false) × (bytes_of old.files name ≡ Some bytes) × (length bytes ≤ most)
 Finds most old name (Err Failed) = (fails_next old.passing ≡ true) ⊎ IsNoneWithin most (bytes_of old.files name)

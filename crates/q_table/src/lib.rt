@@ -3,8 +3,8 @@
 //! A table holds at most 1,024 programs of distinct texts. A text that is registered again keeps its id and its first
 //! certificate, and a new one gets the next id: [`Programs`]. Owners share a program: [`Program`]. A table finds a text
 //! by its bytes, which are written once for a program that is asked for and then registered: [`EncodedProgram`]. A new
-//! text is refused with 52 where the table is full, and 99 says that memory ran out: [`TableFault`]. After a refusal the
-//! table is as it was.
+//! text is refused with 52 where the table is full, and 99 says that memory ran out: [`TableFault`]. After a refusal
+//! the table is as it was.
 //!
 //! `specs/Programs` says what registering does to the list of the certificates.
 //!

@@ -67,8 +67,8 @@ impl Programs {
         self.insert(encoded)
     }
 
-    /// A program with the bytes of its text, to be asked for and then inserted. The one error is that memory ran out (99
-    /// OutOfMemory).
+    /// A program with the bytes of its text, to be asked for and then inserted. The one error is that memory ran out
+    /// (99 OutOfMemory).
     pub fn encoded(&self, program: &Program) -> Result<EncodedProgram, AllocError>
         ensures { IfOk result (λ k. k ≡ program.now) }
     {

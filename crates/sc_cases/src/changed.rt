@@ -76,8 +76,8 @@ fn count_others(alloc: Global, version: Version, count: u64, bytes: &mut [u8]) -
     others
 }
 
-/// These bytes with one of them changed, so often: how many were tried, and how many of them were neither refused in that
-/// version nor written as they were read.
+/// These bytes with one of them changed, so often: how many were tried, and how many of them were neither refused in
+/// that version nor written as they were read.
 pub(crate) fn tell_changed(
     rt: &impl Print,
     alloc: Global,

@@ -3,20 +3,20 @@
 //!
 //! - `world N/D J/K FIRST COUNT` founds a world of so many founders from this id on, whose operations wait for the
 //!   fraction N/D and whose joins for J/K; it prints the refusal, if any.
-//! - `enter ID`, `leave ID`, `crash ID`, `store ID BYTE`, `collect ID`, `deliver M ID`: the tag, the end and the messages of
-//!   the event, or its refusal.
+//! - `enter ID`, `leave ID`, `crash ID`, `store ID BYTE`, `collect ID`, `deliver M ID`: the tag, the end and the
+//!   messages of the event, or its refusal.
 //! - `all M N` delivers each of M messages to each of the nodes 1 to N; it prints the refusal, if any.
 //! - `op I`: the thresholds and the counted senders of the phases of an operation.
 //! - `common I J`: the least id that two operations have in common.
 //! - `known ID`: how many values a node knows, how many nodes it takes for present and for members, and whether it is
 //!   there.
 //! - `counts`: how many events and messages there are.
-//! - `message VERSION HEX`: what the message of that version, 1 or 2, says, and whether it is written as it was read; or
-//!   the refusal.
-//! - `beginnings VERSION HEX`: for each proper beginning of the bytes, from none on, the number by which it is refused, or
-//!   0.
-//! - `changed VERSION COUNT HEX`: the bytes with one of them changed, so often, by a fixed generator: how many were tried,
-//!   and how many of them were neither refused nor written as they were read.
+//! - `message VERSION HEX`: what the message of that version, 1 or 2, says, and whether it is written as it was read;
+//!   or the refusal.
+//! - `beginnings VERSION HEX`: for each proper beginning of the bytes, from none on, the number by which it is refused,
+//!   or 0.
+//! - `changed VERSION COUNT HEX`: the bytes with one of them changed, so often, by a fixed generator: how many were
+//!   tried, and how many of them were neither refused nor written as they were read.
 //! - `threshold N/D COUNT`, `fraction N/D`: the threshold; whether a cluster may have this fraction.
 //! - `sets ID .. / ID ..`: the union in rising order, the size of the first set, the least common id, and the sizes of
 //!   union and difference.
@@ -24,11 +24,11 @@
 //!   refusal.
 //! - `view ID NUMBER BYTE .. / ID NUMBER BYTE ..`: the first view merged with the second: id, number and byte of each
 //!   value.
-//! - `share FIRST COUNT NUMBER BYTE / ID NUMBER BYTE`: a view of so many ids from the first on, and a copy that learns one
-//!   more value: how many entries each chunk of the copy has, and the number that each of the two knows at the id; or
-//!   the refusal.
-//! - `value COUNT`: how many bytes a value of so many bytes has, and how many a message that tells it, in version 2 and in
-//!   version 1; or the refusals.
+//! - `share FIRST COUNT NUMBER BYTE / ID NUMBER BYTE`: a view of so many ids from the first on, and a copy that learns
+//!   one more value: how many entries each chunk of the copy has, and the number that each of the two knows at the id;
+//!   or the refusal.
+//! - `value COUNT`: how many bytes a value of so many bytes has, and how many a message that tells it, in version 2 and
+//!   in version 1; or the refusals.
 //! - `fits COUNT`: whether versions 1 and 2 know the length of a value of so many bytes, and whether a message that
 //!   tells it fits them.
 //! - `lengths LEAST MOST COUNT ..`: whether all values of a view have from so many to so many bytes, and the sum of

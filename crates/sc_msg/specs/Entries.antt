@@ -13,8 +13,8 @@ use Rattle.sc_msg.specs.declared.version.Version.{Version}
 use Rattle.spelling.specs.Numbers.{number_bytes, first_number}
 use Rattle.sc_msg.specs.Values.{value_bytes, value_fault, first_of, IsLength}
 
--- a list of entries: how many there are at most, the id of each, how what stands behind the id is spelled, which entries
--- have a spelling, and what is first wrong with the bytes behind an id
+-- a list of entries: how many there are at most, the id of each, how what stands behind the id is spelled, which
+-- entries have a spelling, and what is first wrong with the bytes behind an id
 pub record Layout (A : Type 0) : Type 1 where
   pub most : ℕ
   pub id_of : A → ℕ

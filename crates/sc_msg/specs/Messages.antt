@@ -18,12 +18,13 @@ head_bytes version kind from = 0x42 ∷ 0x51 ∷ version_byte version ∷ code k
 abbrev pub message_bytes : Version → Message → List ℕ
 message_bytes version m = head_bytes version (kind_of m.body) m.from ++ fields_bytes (fields version m.body)
 
--- the most bytes of a spelling: an echo of an enter with 1,024 ids in each set and 256 values of 112 bytes, in version 2
+-- the most bytes of a spelling: an echo of an enter with 1,024 ids in each set and 256 values of 112 bytes, in version
+-- 2
 abbrev pub most_message : ℕ
 most_message = 57629
 
--- which messages have a spelling: numbers fit eight bytes, at most 1,024 ids in a set and 256 entries in a view, numbered
--- from 1, with values of a length that the version knows
+-- which messages have a spelling: numbers fit eight bytes, at most 1,024 ids in a set and 256 entries in a view,
+-- numbered from 1, with values of a length that the version knows
 pub record IsMessage (version : Version) (m : Message) : Type 0 where
   pub from : m.from < 2 ^ 64
   pub fields : AllByRecursion IsField (fields version m.body)

@@ -1,8 +1,8 @@
 //! What the nodes of a store-collect object send each other (the CCC article), and its bytes.
 //!
 //! A [`Message`](message::Message) has a sender and one of eleven bodies. Its bytes are 42 51, the byte of a
-//! [`Version`](version::Version) (01 or 02), the byte of its kind (1 to 11), the sender in eight bytes, and the fields of
-//! its body from left to right.
+//! [`Version`](version::Version) (01 or 02), the byte of its kind (1 to 11), the sender in eight bytes, and the fields
+//! of its body from left to right.
 //! Numbers have their lowest byte first. A truth is one byte, 0 or 1. A set of ids is a count of two bytes,
 //! at most 1,024, and the ids in strictly rising order. A view is a count of two bytes, at most 256, and for
 //! each node, in strictly rising order, a record: its id, the sequence number from 1, and the value that it stored. In
@@ -12,8 +12,8 @@
 //! Promised, for all bytes and all messages:
 //!
 //! - [`encode`](encode::encode) writes just the spelling of a message in version 2, `message_bytes` of
-//!   `specs/Messages.antt`. [`encode_v1`](encode::encode_v1) writes that of version 1, and refuses a message with a value
-//!   of another length than 48.
+//!   `specs/Messages.antt`. [`encode_v1`](encode::encode_v1) writes that of version 1, and refuses a message with a
+//!   value of another length than 48.
 //! - [`first_message`](front::first_message) answers the message that stands first in bytes, with the bytes behind it,
 //!   or names the fault that stands first, `IsFault` of `specs/Fault.antt`. Want of memory may come in place of either.
 //!   Whole messages are read by `sc_decode`, above.

@@ -111,8 +111,8 @@ impl Body {
 }
 
 impl Message {
-    /// Whether the message can be written in that version: each value has 48 bytes in the first, 0 to 112 in the second,
-    /// where every message can. Takes no memory.
+    /// Whether the message can be written in that version: each value has 48 bytes in the first, 0 to 112 in the
+    /// second, where every message can. Takes no memory.
     pub fn fits(&self, version: Version) -> bool
         ensures told { result ≡ fits version self.now }
         ensures each { IsTrue result ↔ Fits version self.now }

@@ -12,8 +12,8 @@
 //!
 //! A node takes values of 0 to 112 bytes. Where a layer above stores values within some lengths alone, as 48 bytes for
 //! the first version of messages, and delivers messages whose values are within them, each value that its nodes keep or
-//! send is within them too, says [`laws`]: so all their messages have bytes in that version, and each view that a collect
-//! returns has records of such lengths.
+//! send is within them too, says [`laws`]: so all their messages have bytes in that version, and each view that a
+//! collect returns has records of such lengths.
 //!
 //! A caller, proved in `callers`: the only founder of a cluster begins to store its first value.
 //!

@@ -90,8 +90,8 @@ HasSmallChunks cs = AllByRecursion (λ c. (1 ≤ length c) × (length c ≤ 32))
 abbrev pub HasAtLeast : ℕ → List (List (ℕ × Stored)) → Type 0
 HasAtLeast n cs = AllByRecursion (λ c. n ≤ length c) cs
 
--- a view's entries in rising id order, cut into at most 16 chunks, where there are several of at least 16 entries; up to
--- 32 entries are in one chunk, and the 33rd splits it into 16 and 17
+-- a view's entries in rising id order, cut into at most 16 chunks, where there are several of at least 16 entries; up
+-- to 32 entries are in one chunk, and the 33rd splits it into 16 and 17
 pub record IsChunking (v : ViewMap) (chunks : List (List (ℕ × Stored))) : Type 0 where
   pub all : joined chunks ≡ fin.entries v
   pub few : length chunks ≤ 16

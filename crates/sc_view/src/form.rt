@@ -76,8 +76,8 @@ pub fn step<V: ViewForm>(view: &mut V, other: &V, command: Command) -> Reply
     }
 }
 
-/// Carries out commands in turn. The replies are those of a map. The one error is that there was no memory for them, and
-/// then no command was carried out.
+/// Carries out commands in turn. The replies are those of a map. The one error is that there was no memory for them,
+/// and then no command was carried out.
 pub fn run<V: ViewForm>(
     alloc: Global,
     view: &mut V,

@@ -119,8 +119,8 @@ impl From<ViewFault> for Reason {
     }
 }
 
-/// For each node the newest value that is known of it: at most 256 nodes, sequence numbers from 1, values of at most 112
-/// bytes.
+/// For each node the newest value that is known of it: at most 256 nodes, sequence numbers from 1, values of at most
+/// 112 bytes.
 pub struct View {
     alloc: Global,
     row: Row,

@@ -1,5 +1,5 @@
-//! Where the record of an operation stands. What is told is a guess that the ledger tests, so nothing is promised of it:
-//! a wrong one would cost time alone.
+//! Where the record of an operation stands. What is told is a guess that the ledger tests, so nothing is promised of
+//! it: a wrong one would cost time alone.
 
 use std::alloc::{AllocError, Global};
 use std::collections::BTreeMap;
