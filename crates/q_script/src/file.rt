@@ -3,7 +3,6 @@
 ghost use Rattle.std.specs.Prelude.{◌≡◌, ◌↔◌, ◌==◌, ◌<◌, suc, not, filter, find, IfErr, IfOk, IsTrue, MatchOption, MatchResult, option_copied};
 ghost use Rattle.std.specs.List.{All};
 ghost use Rattle.sc_members.specs.Members.{most_facts};
-ghost use Rattle.sc_node.specs.Nodes.{are_founders, rises_from};
 ghost use Rattle.q_script.specs.declared.node_line.NodeLine.{NodeLine as Node};
 ghost use Rattle.q_script.specs.NodeLine.{SpellsHeading, SpellsNode};
 ghost use Rattle.q_script.specs.File.{AreApart, IsApart, IsFault, IsFaulty, IsListOf, IsListFault, IsNoHeading, IsNodeList, IsNodeFault, Spells, founder_ids};
@@ -12,7 +11,7 @@ use crate::fault::ClusterFileFault;
 use crate::node_line::{Heading, NodeLine};
 use crate::text::{cut, without_last_feed};
 use sc_members::{Config, MOST_FACTS};
-use sc_node::MOST_FOUNDERS;
+use sc_node::are_founders;
 use std::alloc::{AllocError, Global};
 
 /// What the file of a cluster says.
@@ -98,29 +97,6 @@ fn founder_ids(alloc: Global, nodes: &[NodeLine]) -> Result<Vec<u64>, AllocError
         .filter(|node| node.is_founder)
         .map(|node| node.id)
         .collect(alloc)
-}
-
-/// Whether each id is larger than the one before, and the first than this one.
-fn rises_from(mut id: u64, ids: &[u64]) -> bool
-    ensures { result ≡ rises_from id ids.now }
-{
-    for next in ids {
-        if *next <= id {
-            return false;
-        }
-        id = *next;
-    }
-    true
-}
-
-/// Whether these are the ids of 1 to 256 founders, and rise.
-fn are_founders(ids: &[u64]) -> bool
-    ensures { result ≡ are_founders ids.now }
-{
-    match ids {
-        [first, rest @ ..] => ids.len() <= MOST_FOUNDERS && rises_from(*first, rest),
-        [] => false,
-    }
 }
 
 /// Whether no two lines have one id or one address.

@@ -31,12 +31,14 @@
 
 mod answer;
 mod copies;
+mod founders;
 pub mod laws;
 mod node;
 mod outs;
 pub mod worked;
 
 pub use answer::{Advance, Begun, Delivered, Ended, OpResult, Progress};
-pub use node::{MOST_FOUNDERS, MOST_OPEN, MOST_OPERATIONS, Node, NodeFault};
+pub use founders::{MOST_FOUNDERS, are_founders};
+pub use node::{MOST_OPEN, MOST_OPERATIONS, Node, NodeFault};
 pub use outs::Outs;
 pub use sc_operations::{OperationKind, Phase, Session, StoreBack};
