@@ -1,23 +1,22 @@
 //! How long the parts of this repository take.
 //!
-//! | Words | What is timed |
-//! |---|---|
-//! | `asm UNITS RUNS` | assembling and disassembling, see [`asm`] |
-//! | `check UNITS RUNS` | the verifier and the checker, see [`check`] |
-//! | `fold PROGRAM RUNS` | folds over 256 records, see [`fold`] |
-//! | `store IDS ROUNDS` | a store-collect object with churn, see [`store`] |
-//! | `put IDS ROUNDS` | newer values of known ids, in a view that alone has its chunks and in one that shares them |
-//! | `merge IDS ROUNDS` | two views as one, by how much the second tells; sharing a view, and reading it |
-//! | `deliver IDS ROUNDS` | a store message that reaches a node, by how much its view tells |
-//! | `hand JOBS` | one thread offers, takes, runs, finishes and polls each job, one behind the other |
-//! | `run JOBS RUNNERS` | one thread offers and polls, so many others take, run and finish |
-//! | `stores NODES COUNT FLIGHT` | so many stores at node 1 over sockets of loopback, FLIGHT of them open at once, without the start and the end of the nodes |
-//! | `asks NODES COUNT FLIGHT` | the same of queries, after one store |
-//! | `script NODES COUNT` | a script of so many stores at node 1, one after the other, as `bqview cluster` runs it |
-//! | `idle NODES` | four seconds of so many nodes that have nothing to do |
-//! | `answers COUNT` | so many requests of clients for an answer, read and replied to over memory |
-//! | `registrations COUNT` | so many registrations of a program of three units, each decoded and checked |
-//! | `gather NODES STORES` | founders that each stored so often, gathered by their journals and by their books |
+//! - `asm UNITS RUNS`: assembling and disassembling, see [`asm`].
+//! - `check UNITS RUNS`: the verifier and the checker, see [`check`].
+//! - `fold PROGRAM RUNS`: folds over 256 records, see [`fold`].
+//! - `store IDS ROUNDS`: a store-collect object with churn, see [`store`].
+//! - `put IDS ROUNDS`: newer values of known ids, in a view that alone has its chunks and in one that shares them.
+//! - `merge IDS ROUNDS`: two views as one, by how much the second tells; sharing a view, and reading it.
+//! - `deliver IDS ROUNDS`: a store message that reaches a node, by how much its view tells.
+//! - `hand JOBS`: one thread offers, takes, runs, finishes and polls each job, one behind the other.
+//! - `run JOBS RUNNERS`: one thread offers and polls, so many others take, run and finish.
+//! - `stores NODES COUNT FLIGHT`: so many stores at node 1 over sockets of loopback, FLIGHT of them open at once,
+//!   without the start and the end of the nodes.
+//! - `asks NODES COUNT FLIGHT`: the same of queries, after one store.
+//! - `script NODES COUNT`: a script of so many stores at node 1, one after the other, as `bqview cluster` runs it.
+//! - `idle NODES`: four seconds of so many nodes that have nothing to do.
+//! - `answers COUNT`: so many requests of clients for an answer, read and replied to over memory.
+//! - `registrations COUNT`: so many registrations of a program of three units, each decoded and checked.
+//! - `gather NODES STORES`: founders that each stored so often, gathered by their journals and by their books.
 //!
 //! The counts go to the standard output and are the same at each run; the times go to the standard error. With no words
 //! it does a small run of each, but of nodes that have nothing to do. To give the parts work is all that its functions

@@ -30,7 +30,7 @@ use q_session::{Done, Job};
 use sc_members::Config;
 use sc_msg::{Message, Version};
 use sc_node::{Begun, Outs};
-use sc_world::{BegunOp, Ledger, Op, Sent, WorldEvent};
+use sc_world::{BegunOp, Ledger, Op, OpChange, Sent, WorldEvent};
 use std::alloc::Global;
 use std::marker::Model;
 
@@ -343,7 +343,7 @@ impl Cluster {
         let Some(taken) = self.ledger.sent().get(message) else {
             return Err(ClusterFault::NeverSent);
         };
-        let counting = self.ledger.find(id, taken)?;
+        let ready = self.ledger.find(id, taken)?;
         let Some(book) = self.books.get_mut(id) else {
             unreachable!()
         };
@@ -355,7 +355,7 @@ impl Cluster {
         let event = WorldEvent::Deliver { message, node: id };
         let sent = self
             .ledger
-            .record(event, id, outs, progress, None, counting);
+            .record(event, id, outs, OpChange::by_message(progress), ready);
         Ok(told(EventAnswer::Delivered(completed), sent))
     }
 
@@ -495,7 +495,7 @@ fn record_call(
     ensures sent { result ≡ numbered ledger.old.past outs }
 {
     match event {
-        Some(event) => ledger.record(event, node, outs, None, begun, None),
+        Some(event) => ledger.record(event, node, outs, OpChange::by_call(begun), None),
         None => Sent {
             first: ledger.sent().len(),
             count: outs.len(),

@@ -4,10 +4,10 @@
 //!
 //! | Kind | Behind it | Reply |
 //! |---|---|---|
-//! | 1 register | the length of a text in four bytes, the text, the length of notes in four bytes, the notes | 0, the program's number in four bytes |
+//! | 1 register | a text's length in four bytes, the text, the notes' in four, the notes | 0, the program in four bytes |
 //! | 2 ask | the program's number in four bytes, the start in eight | 0, the query's number in eight bytes |
 //! | 3 store | 48 bytes | 0, the operation's tag in eight bytes |
-//! | 4 answer | the query's number in eight bytes | 0 0 where it has none yet; else 0 1, the accumulator and the steps, eight bytes each |
+//! | 4 answer | the query's number in eight bytes | 0 0 if it has none; else 0 1, accumulator, steps, in eight each |
 //! | 5 store | the length of a value in one byte, the value | as for 3 |
 //!
 //! A request that is refused is replied to by one byte, the number of the refusal. A registration is decoded, its notes

@@ -6,10 +6,10 @@
 //! | Thread | Waits for | Does |
 //! |---|---|---|
 //! | hearing | a datagram | takes its message under the lock, settles, and sends with the lock free |
-//! | asking again | a tenth of a second | what open operations still wait for goes again; watches the limits of the book |
+//! | asking again | a tenth of a second | sends again what open operations wait for; watches the book's limits |
 //! | runners | jobs | run them; after each the node takes the result, settles and sends |
 //! | the door | clients | starts a thread for each, 64 at most |
-//! | each client | a request | reads it without the lock; takes it under the lock, settles, sends; replies when it is due |
+//! | each client | a request | reads it; takes it under the lock, settles, sends; replies when it is due |
 //! | the caller's | a line of the console | `status`, `leave`, `end` |
 //!
 //! All that may change the book ends with settling (`q_kept`): no message leaves before the journal that gave it is

@@ -15,26 +15,25 @@
 //!
 //! `begin` opens the sockets and the doors. Then come steps, and `over` ends what still runs:
 //!
-//! | Step | What it does |
-//! |---|---|
-//! | `start ID` | starts a node |
-//! | `say ID LINE`, `tell ID LINE` | gives its console a line, and writes what it prints next; or only the former |
-//! | `hear ID` | writes what it prints next; behind its last line stands its exit status |
-//! | `close ID` | ends the input of its console |
-//! | `until ID TEXT` | asks for its status until that has this text |
-//! | `clients ID LINE;LINE..\|ID LINE..` | runs clients at once, each with a script |
-//! | `drown ID LINE;LINE..` | runs a client again and again until its connection fails |
-//! | `insist ID LINE;LINE..` | does so until it does not fail |
-//! | `connect ID COUNT BYTES` | opens so many connections, and writes these bytes over each; they are numbered from 1 |
-//! | `write NUMBER BYTES`, `shut NUMBER` | writes more over a connection; ends what is written over it |
-//! | `read NUMBER COUNT` | reads so many bytes of replies, or those before the end of the connection |
-//! | `disperse` | closes all connections |
-//! | `forge FROM NUMBER TO BYTES` | sends a node a datagram of the run with this number, from the socket of a node that was not started, or, with 0, from one that is no node's |
-//! | `strangers ID COUNT` | waits until a node was sent so many datagrams of strangers |
-//! | `gather` | gathers the beginnings of the journals of all nodes that ended |
-//! | `text LINE;LINE..` | is the file `text` of the next commands; `@` stands for an address that is in use |
-//! | `command FILE ID RUNNERS PLACE` | runs the command `node` over a file in memory |
-//! | `there PATH`, `remove PATH` | whether a file is there; removes it |
+//! - `start ID`: starts a node.
+//! - `say ID LINE`, `tell ID LINE`: gives its console a line, and writes what it prints next; or only the former.
+//! - `hear ID`: writes what it prints next; behind its last line stands its exit status.
+//! - `close ID`: ends the input of its console.
+//! - `until ID TEXT`: asks for its status until that has this text.
+//! - `clients ID LINE;LINE..|ID LINE..`: runs clients at once, each with a script.
+//! - `drown ID LINE;LINE..`: runs a client again and again until its connection fails.
+//! - `insist ID LINE;LINE..`: does so until it does not fail.
+//! - `connect ID COUNT BYTES`: opens so many connections, and writes these bytes over each; they are numbered from 1.
+//! - `write NUMBER BYTES`, `shut NUMBER`: writes more over a connection; ends what is written over it.
+//! - `read NUMBER COUNT`: reads so many bytes of replies, or those before the end of the connection.
+//! - `disperse`: closes all connections.
+//! - `forge FROM NUMBER TO BYTES`: sends a node a datagram of the run with this number, from the socket of a node that
+//!   was not started, or, with 0, from one that is no node's.
+//! - `strangers ID COUNT`: waits until a node was sent so many datagrams of strangers.
+//! - `gather`: gathers the beginnings of the journals of all nodes that ended.
+//! - `text LINE;LINE..`: is the file `text` of the next commands; `@` stands for an address that is in use.
+//! - `command FILE ID RUNNERS PLACE`: runs the command `node` over a file in memory.
+//! - `there PATH`, `remove PATH`: whether a file is there; removes it.
 //!
 //! BYTES are hexadecimal digits, behind `COUNT*` so many times. How many events a journal has, and the ports of
 //! addresses, depend on the schedule, and are printed as `*`; all else is the same under every one. What a node prints

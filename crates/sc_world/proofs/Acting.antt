@@ -24,11 +24,11 @@ use Rattle.sc_world.specs.Ledgers.{recorded, numbered, stopped}
 use Rattle.forms.specs.Calls.{Steps}
 use Rattle.std.specs.Prelude.{IsErrAnd}
 use Rattle.sc_world.specs.Worlds.{Outcome, live_at, by_live, took, acts, acted, of_entered, tag_of, crashes, enters, event_of, stepped, founder_nodes, founded_nodes}
-use Rattle.sc_world.specs.Acts.{outcome}
+use Rattle.sc_world.specs.Acts.{begun_in, outcome, progress_in}
 
 pub act_step : (w : WorldState) (e : WorldEvent) (id : ℕ) (a : Act) (r : Report) (n : NodeState) (nodes : fin.FinMap nat_cmp NodeState) (past : Past) (tag : Option ℕ) (numbers : Sent)
-    → by_live (live_at w id) (acted w.sent a) ≡ Ok (outcome r n) → nodes ≡ fin.insert w.nodes id n → past ≡ recorded (past_of w) e id r.outs r.progress r.begun
-    → tag ≡ tag_of r.begun → numbers ≡ numbered (past_of w) r.outs
+    → by_live (live_at w id) (acted w.sent a) ≡ Ok (outcome r n) → nodes ≡ fin.insert w.nodes id n → past ≡ recorded (past_of w) e id r.outs (progress_in r.change) (begun_in r.change)
+    → tag ≡ tag_of (begun_in r.change) → numbers ≡ numbered (past_of w) r.outs
     → acts w e id (acted w.sent a) ≡ Ok (record { tag = tag; ended = r.ended; sent = numbers }, world_of nodes past)
 act_step w e id a r n nodes past tag numbers said hn hp ht hf =
     ap (took w e id) said ∙ (λ i. Ok (record { tag = sym ht i; ended = r.ended; sent = sym hf i }, world_of (sym hn i) (sym hp i)))

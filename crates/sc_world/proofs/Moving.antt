@@ -23,7 +23,7 @@ use Rattle.sc_world.specs.declared.op.Op.{Op}
 use Rattle.sc_world.specs.State.{WorldState}
 use Rattle.sc_world.specs.Worlds.{clock, Outcome, of_delivered, by_node, moved, live, by_live, live_at, acted, delivers, IsHistory}
 use Rattle.sc_world.specs.Records.{Among, AreDistinct}
-use Rattle.sc_world.specs.Acts.{outcome, answered, answered_at, answered_by, is_op, IsReady, put_moved}
+use Rattle.sc_world.specs.Acts.{outcome, answered, answered_at, answered_by, is_op, IsReady, put_moved, progress_in}
 use Rattle.sc_world.specs.Ledgers.{IsRight}
 use Rattle.sc_world.proofs.Links.{IsLinked, IsAckMove, IsReplyMove, IsMove}
 use Rattle.sc_world.proofs.Steps.{and_left, and_right}
@@ -92,10 +92,7 @@ same_map [] = refl
 same_map (o ∷ ops) = ap (λ xs. o ∷ xs) (same_map ops)
 
 -- where nothing moves, nothing has to be ready
-pub nothing_moves : (ops : List Op) (id place : ℕ) → IsRight ops id place None None
-nothing_moves ops id place = record { fits = tt; moves = same_map ops }
-
-still : (ops : List Op) (id place : ℕ) (p : Option Progress) (c : Option Counting) → p ≡ None → IsRight ops id place p c
+pub still : (ops : List Op) (id place : ℕ) (p : Option Progress) (c : Option Counting) → p ≡ None → IsRight ops id place p c
 still ops id place None c is = record { fits = tt; moves = same_map ops }
 still ops id place (Some p) c is = absurd (cc)
 
@@ -144,23 +141,23 @@ module _ (w : WorldState) (linked : IsLinked w) (distinct : AreDistinct w.ops) (
   move_right (Some p) k c h = ready_right p k c (subst (λ (a : Option (ℕ × ℕ)). IsReady w.ops id a c) (for_it p k) h)
 
 module _ (w : WorldState) (l : IsLawful w) (id place : ℕ) (r : Report) (n' : NodeState) (c : Option Counting) where
-  still_by : (n : NodeState) (x : Outcome) → x.progress ≡ None → x ≡ outcome r n' → IsRight w.ops id place r.progress c
-  still_by n x none is = still w.ops id place r.progress c (ap (λ (y : Outcome). y.progress) (sym is) ∙ none)
+  still_by : (n : NodeState) (x : Outcome) → x.progress ≡ None → x ≡ outcome r n' → IsRight w.ops id place (progress_in r.change) c
+  still_by n x none is = still w.ops id place (progress_in r.change) c (ap (λ (y : Outcome). y.progress) (sym is) ∙ none)
 
-  deliver_right : (n : NodeState) (m : Option Message) → fin.get w.nodes id ≡ Some n → delivers m n ≡ Ok (outcome r n') → IsReady w.ops id (answered_by id m) c → IsRight w.ops id place r.progress c
+  deliver_right : (n : NodeState) (m : Option Message) → fin.get w.nodes id ≡ Some n → delivers m n ≡ Ok (outcome r n') → IsReady w.ops id (answered_by id m) c → IsRight w.ops id place (progress_in r.change) c
   deliver_right n None at h ready = absurd (no_refusal _ (outcome r n') h)
   deliver_right n (Some m) at h ready =
-      let same : progress_of n m.from m.body ≡ r.progress = ap (λ (y : Outcome). y.progress) (delivers-ok m n (outcome r n') h) in
-      move_right w l.invariant.linked l.records.distinct id place n at m.from m.body r.progress (subst (IsMove n m.from m.body) same (moves n m.from m.body)) c ready
+      let same : progress_of n m.from m.body ≡ (progress_in r.change) = ap (λ (y : Outcome). y.progress) (delivers-ok m n (outcome r n') h) in
+      move_right w l.invariant.linked l.records.distinct id place n at m.from m.body (progress_in r.change) (subst (IsMove n m.from m.body) same (moves n m.from m.body)) c ready
 
-  acted_right : (n : NodeState) (a : Act) → fin.get w.nodes id ≡ Some n → acted w.sent a n ≡ Ok (outcome r n') → IsReady w.ops id (answered_at id w.sent a) c → IsRight w.ops id place r.progress c
+  acted_right : (n : NodeState) (a : Act) → fin.get w.nodes id ≡ Some n → acted w.sent a n ≡ Ok (outcome r n') → IsReady w.ops id (answered_at id w.sent a) c → IsRight w.ops id place (progress_in r.change) c
   acted_right n act.Leave at h ready = still_by n _ refl (leaves-ok n (outcome r n') h)
   acted_right n (act.Store value) at h ready = still_by n _ refl (stores-ok value n (outcome r n') h)
   acted_right n act.Collect at h ready = still_by n _ refl (collects-ok n (outcome r n') h)
   acted_right n (act.Deliver number) at h ready = deliver_right n (slice_get w.sent number) at h ready
 
   -- whatever the act was
-  pub right : (a : Act) → by_live (live_at w id) (acted w.sent a) ≡ Ok (outcome r n') → IsReady w.ops id (answered_at id w.sent a) c → IsRight w.ops id place r.progress c
+  pub right : (a : Act) → by_live (live_at w id) (acted w.sent a) ≡ Ok (outcome r n') → IsReady w.ops id (answered_at id w.sent a) c → IsRight w.ops id place (progress_in r.change) c
   right a h ready =
       let k = by_live-ok (live_at w id) (acted w.sent a) (outcome r n') h in
       acted_right k.0 a (live_is (set.contains w.crashed id) (fin.get w.nodes id) k.0 k.1) k.2 ready
@@ -179,7 +176,7 @@ module _ (w : WorldState) (history : IsHistory w) (id : ℕ) (a : Act) (crashed 
   seen = λ i. by_live (live (sym gone i) (fin.get w.nodes id)) (acted (sym all i) a)
 
   pub seen_right : (r : Report) (n : NodeState) (c : Option Counting) (ops : List Op) (read : List Message) → by_live (live crashed (fin.get w.nodes id)) (acted sent a) ≡ Ok (outcome r n)
-      → ops ≡ w.ops → read ≡ w.sent → IsReady ops id (answered_at id read a) c → IsRight w.ops id (clock w) r.progress c
+      → ops ≡ w.ops → read ≡ w.sent → IsReady ops id (answered_at id read a) c → IsRight w.ops id (clock w) (progress_in r.change) c
   seen_right r n c ops read said same same_sent ready =
       right w (every_lawful w.config w.founders w.events w history) id (clock w) r n c a (seen ∙ said)
       (subst (λ (xs : List Op). IsReady xs id (answered_at id w.sent a) c) same (subst (λ (ms : List Message). IsReady ops id (answered_at id ms a) c) same_sent ready))

@@ -17,12 +17,25 @@ use Rattle.sc_world.specs.declared.act.Act.TheVariants as act
 use Rattle.sc_world.specs.declared.act.Report.{Report}
 use Rattle.sc_world.specs.declared.counting.Counting.{Counting}
 use Rattle.reasons.specs.declared.Reason.{Reason}
+use Rattle.sc_world.specs.declared.act.BegunOp.{BegunOp}
 use Rattle.sc_world.specs.declared.op.Op.{Op}
+use Rattle.sc_world.specs.declared.op_change.OpChange.{OpChange}
+use Rattle.sc_world.specs.declared.op_change.OpChange.TheVariants.{Begins, Moves}
 use Rattle.sc_world.specs.Worlds.{Outcome, moved}
+
+-- what moves an operation, if one moves
+abbrev pub progress_in : OpChange → Option Progress
+progress_in (Moves p) = Some p
+progress_in c = None
+
+-- the operation that begins, if one does
+abbrev pub begun_in : OpChange → Option BegunOp
+begun_in (Begins b) = Some b
+begun_in c = None
 
 -- what a node tells, and the node as it then is
 abbrev pub outcome : Report → NodeState → Outcome
-outcome r n = record { node = n; outs = r.outs; progress = r.progress; begun = r.begun; ended = r.ended }
+outcome r n = record { node = n; outs = r.outs; progress = progress_in r.change; begun = begun_in r.change; ended = r.ended }
 
 -- a node does what is said, or refuses
 abbrev pub Acts : Result Outcome Reason → NodeState → NodeState → Result Report Reason → Type 0

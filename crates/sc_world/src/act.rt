@@ -2,11 +2,13 @@
 
 ghost use Rattle.std.specs.Prelude.{◌≡◌, None, Some};
 ghost use Rattle.sc_world.specs.Acts.{Acts};
+ghost use Rattle.sc_world.specs.declared.op_change.OpChange.TheVariants.{Begins};
 ghost use Rattle.sc_world.specs.Worlds.{acted, leaves, stores, collects, delivers};
 
+use crate::op_change::OpChange;
 use crate::world::WorldFault;
 use sc_msg::Message;
-use sc_node::{Begun, Delivered, Ended, Node, Outs, Progress, Session};
+use sc_node::{Begun, Delivered, Ended, Node, Outs, Session};
 use sc_view::Value;
 
 /// What a node that is there does at an event.
@@ -32,8 +34,7 @@ pub struct BegunOp {
 #[derive(Drop)]
 pub(crate) struct Report {
     pub(crate) outs: Outs,
-    pub(crate) progress: Option<Progress>,
-    pub(crate) begun: Option<BegunOp>,
+    pub(crate) change: OpChange,
     pub(crate) ended: Option<Ended>,
 }
 
@@ -58,8 +59,7 @@ fn leave(node: &mut Node) -> Result<Report, WorldFault>
     let outs = node.leave()?;
     Ok(Report {
         outs,
-        progress: None,
-        begun: None,
+        change: OpChange::Nothing,
         ended: None,
     })
 }
@@ -88,21 +88,19 @@ fn deliver(node: &mut Node, message: &Message) -> Result<Report, WorldFault>
     } = node.deliver(message)?;
     Ok(Report {
         outs,
-        progress,
-        begun: None,
+        change: OpChange::by_message(progress),
         ended,
     })
 }
 
 impl Report {
     fn begun(begun: Begun) -> Report
-        ensures { result ≡ record { outs = begun.outs; progress = None; begun = Some (record { tag = begun.tag; session = begun.session }); ended = None } }
+        ensures { result ≡ record { outs = begun.outs; change = Begins (record { tag = begun.tag; session = begun.session }); ended = None } }
     {
         let Begun { tag, session, outs } = begun;
         Report {
             outs,
-            progress: None,
-            begun: Some(BegunOp { tag, session }),
+            change: OpChange::Begins(BegunOp { tag, session }),
             ended: None,
         }
     }

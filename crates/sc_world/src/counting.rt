@@ -1,6 +1,6 @@
 //! The record that a delivery may move: what it needs is made ready before the node changes.
 
-ghost use Rattle.std.specs.Prelude.{◌≡◌, IsTrue, IfOk, IfSome, IfNone, Some, None, position, slice_get, vec_capacity};
+ghost use Rattle.std.specs.Prelude.{◌≡◌, IsTrue, IfOk, IfSome, IfNone, Some, None, position, slice_get};
 ghost use Rattle.sc_world.specs.declared.op.Op.{Op as OpValue};
 ghost use Rattle.sc_world.specs.Acts.{answered, is_op, IsReady, Fits, moved_at};
 
@@ -87,21 +87,17 @@ fn is_op(op: &Op, node: u64, tag: u64) -> bool
     op.node == node && op.tag == tag
 }
 
-/// Moves the record that was found, if the operation moved.
+/// Moves the record that was found, if there is one.
 pub(crate) fn move_op(
     alloc: Global,
     ops: &mut Vec<Op>,
     place: usize,
-    progress: Option<Progress>,
+    progress: Progress,
     counting: Option<Counting>,
 )
-    requires { Fits ops.old.items progress counting }
-    ensures items { ops.new.items ≡ moved_at ops.old.items place progress counting }
-    ensures capacity { vec_capacity ops.new ≡ vec_capacity ops.old }
+    requires { Fits ops.old.items (Some progress) counting }
+    ensures { ops.new.items ≡ moved_at ops.old.items place (Some progress) counting }
 {
-    let Some(progress) = progress else {
-        return;
-    };
     if let Some(counting) = counting {
         ops[counting.at].advance(alloc, place, progress, counting.counted);
     }

@@ -3,7 +3,7 @@
 
 ghost use Rattle.std.specs.Prelude.{◌≡◌, ◌++◌, length, true, IfOk, OnOk, OnErr, vec_len, vec_capacity, ◌<◌};
 ghost use Rattle.std.specs.FinSet as set;
-ghost use Rattle.sc_world.specs.Acts.{answered, IsReady};
+ghost use Rattle.sc_world.specs.Acts.{answered, begun_in, progress_in, moved_at, Fits, IsReady};
 ghost use Rattle.sc_world.specs.Ledgers.{first, recorded, numbered, stopped, IsRight};
 ghost use Rattle.sc_world.specs.Worlds.{op_begun};
 
@@ -11,10 +11,11 @@ use crate::act::BegunOp;
 use crate::counting::{Counting, make_ready, move_op};
 use crate::event::{Sent, WorldEvent};
 use crate::op::Op;
+use crate::op_change::OpChange;
 use crate::op_index::OpIndex;
 use sc_members::{Config, IdSet};
 use sc_msg::Message;
-use sc_node::{Outs, Progress};
+use sc_node::Outs;
 use std::alloc::{AllocError, Global};
 use std::marker::Model;
 
@@ -100,20 +101,19 @@ impl Ledger {
         make_ready(&self.ops, &self.places, node, message)
     }
 
-    /// Records an event at which this node sends, and may move or begin an operation, for which there is room. Takes no
-    /// memory.
+    /// Records an event at which this node sends, and what it does to the node's operations: there is room for it, and
+    /// what it needs is ready. Takes no memory.
     pub fn record(
         &mut self,
         event: WorldEvent,
         node: u64,
         outs: Outs,
-        progress: Option<Progress>,
-        begun: Option<BegunOp>,
-        counting: Option<Counting>,
+        change: OpChange,
+        ready: Option<Counting>,
     ) -> Sent
         requires room { self.old.room ≡ true }
-        requires ready { IsRight self.old.past.ops node (length self.old.past.events) progress counting }
-        ensures past { self.new.past ≡ recorded self.old.past event node outs progress begun }
+        requires ready { IsRight self.old.past.ops node (length self.old.past.events) (progress_in change) ready }
+        ensures past { self.new.past ≡ recorded self.old.past event node outs (progress_in change) (begun_in change) }
         ensures sent { result ≡ numbered self.old.past outs }
     {
         let place = self.events.len();
@@ -121,11 +121,10 @@ impl Ledger {
             first: self.sent.len(),
             count: outs.len(),
         };
-        move_op(self.alloc, &mut self.ops, place, progress, counting);
-        if begun.is_some() {
+        if let OpChange::Begins(_) = &change {
             self.places.push(node, self.ops.len());
         }
-        record_begun(&mut self.ops, node, place, begun);
+        change_ops(self.alloc, &mut self.ops, node, place, change, ready);
         outs.append_to(&mut self.sent);
         self.events.push_reserved(event);
         sent
@@ -195,18 +194,28 @@ impl Ledger {
     }
 }
 
-/// Puts the record of an operation that began at this place, for which there is room.
-fn record_begun(ops: &mut Vec<Op>, node: u64, place: usize, begun: Option<BegunOp>)
-    requires { vec_len ops.old < vec_capacity ops.old }
-    ensures { ops.new.items ≡ ops.old.items ++ op_begun node place begun }
+/// Changes the records as an event of this node at this place does, for which there is room.
+fn change_ops(
+    alloc: Global,
+    ops: &mut Vec<Op>,
+    node: u64,
+    place: usize,
+    change: OpChange,
+    ready: Option<Counting>,
+)
+    requires room { vec_len ops.old < vec_capacity ops.old }
+    requires ready { Fits ops.old.items (progress_in change) ready }
+    ensures { ops.new.items ≡ moved_at ops.old.items place (progress_in change) ready ++ op_begun node place (begun_in change) }
 {
-    if let Some(BegunOp { tag, session }) = begun {
-        ops.push_reserved(Op {
+    match change {
+        OpChange::Nothing => {}
+        OpChange::Begins(BegunOp { tag, session }) => ops.push_reserved(Op {
             node,
             tag,
             begin: place,
             end: None,
             session,
-        });
+        }),
+        OpChange::Moves(progress) => move_op(alloc, ops, place, progress, ready),
     }
 }

@@ -4,17 +4,18 @@ ghost use Rattle.std.specs.Prelude.{◌≡◌, length, None, IfOk, slice_get, op
 ghost use Rattle.std.specs.FinMap as fin;
 ghost use Rattle.forms.specs.Calls.{Steps, Gives};
 ghost use Rattle.reasons.specs.declared.Reason.TheVariants.{OutOfMemory as memory};
-ghost use Rattle.sc_world.specs.Acts.{answered_at, IsReady};
+ghost use Rattle.sc_world.specs.Acts.{answered_at, begun_in, IsReady};
 ghost use Rattle.sc_world.specs.Worlds.{enters, crashes, live_at, event_of, stepped, started, tag_of, IsHistory};
 ghost use Rattle.sc_world.specs.Records.{AreRecords};
 ghost use Rattle.sc_world.specs.Regular.{IsRegular};
 
-use crate::act::{Act, BegunOp, Report};
+use crate::act::{Act, Report};
 use crate::counting::Counting;
 use crate::event::{Sent, WorldEvent, WorldStep};
 use crate::ledger::Ledger;
 use crate::nodes::{Nodes, found_nodes};
 use crate::op::Op;
+use crate::op_change::OpChange;
 use reasons::Reason;
 use sc_members::Config;
 use sc_msg::Message;
@@ -159,7 +160,7 @@ impl World {
         self.nodes.insert(id, node)?;
         let sent = self
             .ledger
-            .record(WorldEvent::Enter(id), id, outs, None, None, None);
+            .record(WorldEvent::Enter(id), id, outs, OpChange::Nothing, None);
         Ok(WorldStep {
             tag: None,
             ended: None,
@@ -183,18 +184,17 @@ impl World {
         ensures { Steps memory (stepped self.old (event_of id act.now)) self.old self.new result }
     {
         self.ledger.reserve(id)?;
-        let counting = find(&self.ledger, id, act)?;
+        let ready = find(&self.ledger, id, act)?;
         let crashed = self.ledger.has_crashed(id);
         let Report {
             outs,
-            progress,
-            begun,
+            change,
             ended,
         } = self.nodes.act(crashed, id, act, self.ledger.sent())?;
-        let tag = tag_of(&begun);
+        let tag = tag_of(&change);
         let sent = self
             .ledger
-            .record(event_of(id, act), id, outs, progress, begun, counting);
+            .record(event_of(id, act), id, outs, change, ready);
         Ok(WorldStep { tag, ended, sent })
     }
 }
@@ -212,13 +212,13 @@ fn find(ledger: &Ledger, id: u64, act: &Act) -> Result<Option<Counting>, AllocEr
     ledger.find(id, message)
 }
 
-/// The tag of the operation that began.
-fn tag_of(begun: &Option<BegunOp>) -> Option<u64>
-    ensures { result ≡ tag_of begun.now }
+/// The tag of the operation that begins.
+fn tag_of(change: &OpChange) -> Option<u64>
+    ensures { result ≡ tag_of (begun_in change.now) }
 {
-    match begun {
-        Some(opened) => Some(opened.tag),
-        None => None,
+    match change {
+        OpChange::Begins(begun) => Some(begun.tag),
+        OpChange::Nothing | OpChange::Moves(_) => None,
     }
 }
 

@@ -3,6 +3,7 @@ use Rattle.std.proofs.Common.{◌≡◌, ◌∙◌, Ok, length, ap, sym, subst}
 use Rattle.std.specs.FinSet as set
 use Rattle.sc_world.specs.contracts.world.World as world
 use Rattle.sc_world.specs.State.{WorldState, Past, world_of, past_of}
+use Rattle.sc_world.specs.Acts.{begun_in, progress_in}
 use Rattle.sc_world.specs.Ledgers.{IsRight, recorded, numbered}
 use Rattle.sc_world.specs.Worlds.{event_of, stepped}
 use Rattle.sc_world.proofs.Histories.{history_next}
@@ -23,12 +24,12 @@ module _ (c : goal.After-event_of) where
   sent : c.sent.result.now ≡ w.sent
   sent = c.sent.ensures ∙ ap (λ (p : Past). p.sent) past
 
-  right : IsRight c.reserve.new.self.past.ops c.args.id (length c.reserve.new.self.past.events) c.in_ok-outs.field-0.progress c.in_ok-counting.counting
+  right : IsRight c.reserve.new.self.past.ops c.args.id (length c.reserve.new.self.past.events) (progress_in c.in_ok-outs.field-0.change) c.in_ok-ready.ready
   right =
-      subst (λ (p : Past). IsRight p.ops c.args.id (length p.events) c.in_ok-outs.field-0.progress c.in_ok-counting.counting) (sym past)
+      subst (λ (p : Past). IsRight p.ops c.args.id (length p.events) (progress_in c.in_ok-outs.field-0.change) c.in_ok-ready.ready) (sym past)
       (seen_right w c.self.invariant c.args.id c.args.act.now c.has_crashed-crashed.result c.sent.result.now crashed sent
-      c.in_ok-outs.field-0 c.in_ok-outs.ensures.0 c.in_ok-counting.counting c.reserve.new.self.past.ops c.reserve.new.self.past.sent c.in_ok-outs.ensures.1
-      (ap (λ (p : Past). p.ops) past) (ap (λ (p : Past). p.sent) past) c.in_ok-counting.ensures)
+      c.in_ok-outs.field-0 c.in_ok-outs.ensures.0 c.in_ok-ready.ready c.reserve.new.self.past.ops c.reserve.new.self.past.sent c.in_ok-outs.ensures.1
+      (ap (λ (p : Past). p.ops) past) (ap (λ (p : Past). p.sent) past) c.in_ok-ready.ensures)
 
 pub record-sent-requires-clause-ready : goal.record-sent-requires-clause-ready
 record-sent-requires-clause-ready c = right c
@@ -51,7 +52,7 @@ module _ (c : goal.After-record-sent) where
       c.tag_of-tag.result c.record-sent.result
       (seen v c.self.invariant c.args.id c.args.act.now c.has_crashed-crashed.result c.sent.result.now stopped all ∙ c.in_ok-outs.ensures.1)
       c.in_ok-outs.ensures.2
-      (c.record-sent.ensures.past ∙ (λ i. recorded (c.in_ok-reserve.ensures.past i) (c.event_of.ensures i) c.args.id c.in_ok-outs.field-0.outs c.in_ok-outs.field-0.progress c.in_ok-outs.field-0.begun))
+      (c.record-sent.ensures.past ∙ (λ i. recorded (c.in_ok-reserve.ensures.past i) (c.event_of.ensures i) c.args.id c.in_ok-outs.field-0.outs (progress_in c.in_ok-outs.field-0.change) (begun_in c.in_ok-outs.field-0.change)))
       c.tag_of-tag.ensures
       (c.record-sent.ensures.sent ∙ ap (λ (p : Past). numbered p c.in_ok-outs.field-0.outs) c.in_ok-reserve.ensures.past)
 

@@ -1,5 +1,5 @@
 -- World::enter: a new node enters.
-use Rattle.std.proofs.Common.{◌≡◌, ◌∙◌, Ok, None, length, ap, sym}
+use Rattle.std.proofs.Common.{◌≡◌, ◌∙◌, Ok, None, length, ap, refl, sym}
 use Rattle.std.specs.FinMap as fin
 use Rattle.sc_members.specs.Members.{Config}
 use Rattle.sc_node.specs.Nodes.{entered}
@@ -10,12 +10,12 @@ use Rattle.sc_world.specs.Ledgers.{recorded, numbered}
 use Rattle.sc_world.specs.Worlds.{enters}
 use Rattle.sc_world.proofs.Inverts.{same_answer}
 use Rattle.sc_world.proofs.Histories.{history_next}
-use Rattle.sc_world.proofs.Moving.{nothing_moves}
+use Rattle.sc_world.proofs.Moving.{still}
 use Rattle.sc_world.proofs.Acting.{enter_step}
 use Rattle.sc_world.proofs.world.World.enter.Goals as goal
 
 pub record-sent-requires-clause-ready : goal.record-sent-requires-clause-ready
-record-sent-requires-clause-ready c = nothing_moves c.reserve.new.self.past.ops c.args.id (length c.reserve.new.self.past.events)
+record-sent-requires-clause-ready c = still c.reserve.new.self.past.ops c.args.id (length c.reserve.new.self.past.events) None None refl
 
 module _ (c : goal.After-record-sent) where
   abbrev w : WorldState
