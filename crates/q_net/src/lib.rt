@@ -4,7 +4,7 @@
 //!
 //! | Kind | Behind it | Reply |
 //! |---|---|---|
-//! | 1 register | a text's length in four bytes, the text, the notes' in four, the notes | 0, the program in four bytes |
+//! | 1 register | a text's length in four bytes, the text, the notes' in four, the notes | 0, the program in four |
 //! | 2 ask | the program's number in four bytes, the start in eight | 0, the query's number in eight bytes |
 //! | 3 store | 48 bytes | 0, the operation's tag in eight bytes |
 //! | 4 answer | the query's number in eight bytes | 0 0 if it has none; else 0 1, accumulator, steps, in eight each |
