@@ -22,6 +22,7 @@ ghost use Rattle.q_command.specs.Tells.{Tells};
 ghost use Rattle.q_command.specs.declared.gathered_ending.GatherEnding.TheVariants as ending;
 
 /// What the definitions say of a file, of answers, of what is gathered and of how that ends.
+#[tactic(auto, using(crate::proofs::Alone::alone, crate::proofs::Outcomes::longer, crate::proofs::Outcomes::not_dropped, crate::proofs::Outcomes::second))]
 pub fn worked()
     ensures whole { (b : BookState) → b.id ≡ 2 → length b.desk.journal ≡ 114 → journal_line (codes "j2") b 0 ≡ codes "j2 node 2 events 114\n" }
     ensures cut { (b : BookState) → b.id ≡ 2 → length b.desk.journal ≡ 114 → journal_line (codes "j2") b 144 ≡ codes "j2 node 2 events 114 cut 144 bytes\n" }

@@ -15,6 +15,7 @@ ghost use Rattle.q_command.specs.declared.words.WordsFault.TheVariants as fault;
 
 /// Which command each word names, with its operands and its flag, and which numbers are the lengths of records. No two
 /// words name the same. What the system says where it gives no words.
+#[tactic(auto, unfolding(clap::proofs::OnLiterals::clap_on_literals))]
 pub fn worked()
     ensures asm { (rows : List Row) (file : _) → file.now ≡ operand_of (codes "FILE") rows → HasCommand (line.Asm file) (codes "asm", rows) }
     ensures dis { (rows : List Row) (file : _) → file.now ≡ operand_of (codes "FILE") rows → HasCommand (line.Dis file) (codes "dis", rows) }
@@ -70,6 +71,7 @@ pub fn worked()
 {}
 
 /// What whole command lines are read as: no word stands in another's place, and no flag is lost.
+#[tactic(auto, unfolding(clap::proofs::OnLiterals::clap_on_literals))]
 pub fn worked_lines()
     // A client finds its node at the first word, and not at that of its script; it is strict where that is asked.
     ensures place { (place script : _) (strict : Bool)

@@ -1,8 +1,7 @@
 -- The digits of the numbers, computed; and why a wrong outcome is none.
 use Rattle.std.proofs.Common.{refl}
 use Rattle.std.specs.Fmt.{digits}
-use Rattle.q_command.proofs.Alone.{alone}
-use Rattle.q_command.proofs.Outcomes.{second, not_dropped, whole_event, longer, not_gathered}
+use Rattle.q_command.proofs.Outcomes.{whole_event, not_gathered}
 use Rattle.q_command.proofs.worked_gathered.worked.Goals as goal
 
 pub returns-clause-whole : goal.returns-clause-whole
@@ -17,20 +16,8 @@ pub returns-clause-answered : goal.returns-clause-answered
 unfolding digits
 returns-clause-answered c = λ view entries. rw entries refl
 
-pub returns-clause-second : goal.returns-clause-second
-returns-clause-second c = second
-
-pub returns-clause-not_dropped : goal.returns-clause-not_dropped
-returns-clause-not_dropped c = not_dropped
-
 pub returns-clause-whole_event : goal.returns-clause-whole_event
 returns-clause-whole_event c = whole_event
-
-pub returns-clause-longer : goal.returns-clause-longer
-returns-clause-longer c = longer
-
-pub returns-clause-alone : goal.returns-clause-alone
-returns-clause-alone c = λ b fault replay founders none h. alone b founders replay none fault h
 
 pub returns-clause-not_gathered : goal.returns-clause-not_gathered
 returns-clause-not_gathered c = not_gathered

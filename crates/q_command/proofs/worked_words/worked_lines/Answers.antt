@@ -1,26 +1,10 @@
 -- worked_lines: what whole command lines are read as.
-use Rattle.std.proofs.Common.{◌≡◌, ℕ, codes, refl, sym, ◌∙◌, lit<, lit≤, true≢false, arith}
+use Rattle.std.proofs.Common.{◌≡◌, ℕ, codes, refl, sym, ◌∙◌, lit<, lit≤, arith}
 use Rattle.std.specs.Fmt.{digits}
 use Rattle.std.proofs.lemmas.Fmt.{decimal_injective}
 use Rattle.clap.proofs.OnLiterals.{clap_on_literals}
 use Rattle.q_command.specs.Words.{IsRunners}
 use Rattle.q_command.proofs.worked_words.worked_lines.Goals as goal
-
-pub returns-clause-place : goal.returns-clause-place
-unfolding clap_on_literals
-returns-clause-place c = λ place script strict h. h.1.1
-
-pub returns-clause-strict_client : goal.returns-clause-strict_client
-unfolding clap_on_literals
-returns-clause-strict_client c = λ place script h. true≢false (sym h.1.3)
-
-pub returns-clause-journal : goal.returns-clause-journal
-unfolding clap_on_literals
-returns-clause-journal c = λ line h. h.1.1.journal
-
-pub returns-clause-sync : goal.returns-clause-sync
-unfolding clap_on_literals
-returns-clause-sync c = λ line h. h.1.1.sync
 
 pub returns-clause-sixty_four : goal.returns-clause-sixty_four
 unfolding digits
