@@ -30,11 +30,9 @@ pub publish_allowed : (key slots id n k word : ℕ) (m : Sat) (a : Asking) (j : 
     → k < 8 → a.opened ≡ 8 → get_elem? a.row k ≡ some None → word ≡ 1
     → Allows (Orderly key) slots id m (8 * n + k) (λ _. word) (λ _. published (step slots (8 * n + k) word 0 none) m word)
 publish_allowed key slots id n k word m a j more sized num is near all free ready =
-    subst (λ (x : ℕ). Allows (Orderly key) slots id m (8 * n + k) (λ _. x) (λ _. published (step slots (8 * n + k) x 0 none) m x)) (sym ready)
-    (subst (λ (x : ℕ). Allows (Orderly key) x id m (8 * n + k) (λ _. 1) (λ _. published (step x (8 * n + k) 1 0 none) m 1)) (sym sized)
-    (subst (λ (y : Sat). Allows (Orderly key) key id y (8 * n + k) (λ _. 1) (λ _. published (step key (8 * n + k) 1 0 none) y 1)) (sym is)
-    (subst (λ (x : ℕ). Allows (Orderly key) key id (Asker a, (8 * x + k, cell.Offered j) ∷ more) (8 * x + k) (λ _. 1) (λ _. published (step key (8 * x + k) 1 0 none) (Asker a, (8 * x + k, cell.Offered j) ∷ more) 1)) num
-    (publishes key id a k near more j all free))))
+    subst (λ (x : ℕ × ℕ × Sat × ℕ). Allows (Orderly key) x.1 id x.2 (8 * x.3 + k) (λ _. x.0) (λ _. published (step x.1 (8 * x.3 + k) x.0 0 none) x.2 x.0))
+    (λ e. (sym ready e, sym sized e, (ap (λ (x : ℕ). (Asker a, (8 * x + k, cell.Offered j) ∷ more)) num ∙ sym is) e, num e))
+    (publishes key id a k near more j all free)
 
 -- the seat after a call at which its row and its free places stay apt to one another
 asker_keeps : (z : TableId) (me : Sat) (n : ℕ) (all : List ℕ) (count cap : ℕ) → IsAsker z me n all count cap
@@ -42,9 +40,8 @@ asker_keeps : (z : TableId) (me : Sat) (n : ℕ) (all : List ℕ) (count cap : �
     → b.number ≡ (asking me.0).number → b.opened ≡ (asking me.0).opened → length b.row ≡ length (asking me.0).row
     → count' + jobs b.row ≡ count + jobs (asking me.0).row → ((k : ℕ) → times k free ≡ lacks b.row k) → cap' ≡ cap → IsAsker z' m n free count' cap'
 asker_keeps z me n all count cap inv z' m b free count' cap' same is number_is opened_is long_is jobs_are free_are as_large =
-    subst (λ (y : TableId). IsAsker y m n free count' cap') (sym same)
-    (subst (λ (x : Sat). IsAsker z x n free count' cap') (sym is)
-    (refl, number_is ∙ inv.1, opened_is ∙ inv.2, long_is ∙ inv.3, jobs_are ∙ inv.4, free_are, omega (arith, inv.6), inv.7, inv.8))
+    subst (λ (x : TableId × Sat). IsAsker x.0 x.1 n free count' cap') (λ t. (sym same t, sym is t))
+    (refl, number_is ∙ inv.1, opened_is ∙ inv.2, long_is ∙ inv.3, jobs_are ∙ inv.4, free_are, omega (arith, inv.6), inv.7, inv.8)
 
 -- An offer: the seat has the place first among its free ones, writes the job and publishes it
 module _ (z : TableId) (me : Sat) (n place : ℕ) (all free : List ℕ) (count cap : ℕ) (popped : all ≡ place ∷ free) (inv : IsAsker z me n all count cap) where
@@ -111,10 +108,8 @@ module _ (z : TableId) (me : Sat) (n k : ℕ) (free : List ℕ) (count cap : ℕ
 
   pub look_allowed : (key slots id i : ℕ) → slots ≡ key → i ≡ 8 * n + k → Allows (Orderly key) slots id me i (λ x. x) (looked (step slots i 0 0 none) me)
   look_allowed key slots id i sized at =
-      subst (λ (x : ℕ). Allows (Orderly key) x id me i (λ x. x) (looked (step x i 0 0 none) me)) (sym sized)
-      (subst (λ (y : Sat). Allows (Orderly key) key id y i (λ x. x) (looked (step key i 0 0 none) y)) (sym inv.0)
-      (subst (λ (x : ℕ). Allows (Orderly key) key id (Asker a₀, bare (8 * n) free) x (λ x. x) (looked (step key x 0 0 none) (Asker a₀, bare (8 * n) free)))
-      (ap (λ (x : ℕ). 8 * x + k) inv.1 ∙ sym at) (looks key id a₀ k near (bare (8 * n) free))))
+      subst (λ (x : ℕ × Sat × ℕ). Allows (Orderly key) x.0 id x.1 x.2 (λ x. x) (looked (step x.0 x.2 0 0 none) x.1))
+      (λ e. (sym sized e, sym inv.0 e, (ap (λ (x : ℕ). 8 * x + k) inv.1 ∙ sym at) e)) (looks key id a₀ k near (bare (8 * n) free))
 
   module _ (i slots r : ℕ) (m : Sat) (told : looked (step slots i 0 0 none) me r m) where
     m_is : m ≡ (Asker (looking a₀ i r), bare (8 * n) free)
@@ -139,13 +134,10 @@ module _ (z : TableId) (me : Sat) (n k : ℕ) (free : List ℕ) (count cap : ℕ
     pub take_allowed : (key slots id shows leaves : ℕ) → slots ≡ key → a₀.shown ≡ Some i → shows ≡ 2 → leaves ≡ 0
         → Allows (Orderly key) slots id me i (λ x. either (eqb x shows) leaves x) (taken (step slots i shows leaves none) me)
     take_allowed key slots id shows leaves sized shown shows_is leaves_is =
-        subst (λ (y : ℕ). Allows (Orderly key) slots id me i (λ x. either (eqb x y) leaves x) (taken (step slots i y leaves none) me)) (sym shows_is)
-        (subst (λ (y : ℕ). Allows (Orderly key) slots id me i (λ x. either (eqb x 2) y x) (taken (step slots i 2 y none) me)) (sym leaves_is)
-        (let here : i ≡ 8 * a₀.number + k = at ∙ ap (λ (x : ℕ). 8 * x + k) (sym inv.1) in
-        subst (λ (x : ℕ). Allows (Orderly key) x id me i (λ y. either (eqb y 2) 0 y) (taken (step x i 2 0 none) me)) (sym sized)
-        (subst (λ (y : Sat). Allows (Orderly key) key id y i (λ x. either (eqb x 2) 0 x) (taken (step key i 2 0 none) y)) (sym inv.0)
-        (subst (λ (x : ℕ). Allows (Orderly key) key id (Asker a₀, bare (8 * n) free) x (λ y. either (eqb y 2) 0 y) (taken (step key x 2 0 none) (Asker a₀, bare (8 * n) free)))
-        (sym here) (takes_result key id a₀ k near (bare (8 * n) free) (shown ∙ ap (λ (x : ℕ). Some x) here))))))
+        let here : i ≡ 8 * a₀.number + k = at ∙ ap (λ (x : ℕ). 8 * x + k) (sym inv.1) in
+        subst (λ (x : ℕ × ℕ × ℕ × Sat × ℕ). Allows (Orderly key) x.2 id x.3 x.4 (λ y. either (eqb y x.0) x.1 y) (taken (step x.2 x.4 x.0 x.1 none) x.3))
+        (λ e. (sym shows_is e, sym leaves_is e, sym sized e, sym inv.0 e, sym here e))
+        (takes_result key id a₀ k near (bare (8 * n) free) (shown ∙ ap (λ (x : ℕ). Some x) here))
 
     module _ (slots r : ℕ) (w : Sat) (told : taken (step slots i 2 0 none) me r w) where
       abbrev d : Finished

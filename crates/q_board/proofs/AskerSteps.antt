@@ -98,7 +98,7 @@ module _ (lanes : ℕ) (s : State Content Holder) (o : Orderly lanes s) (id : �
       (λ r j e. inl (claims r j e))
       (λ d e. inl (ends d e))
 
-some_injective : {A : Type 0} (x y : A) → Some x ≡ Some y → x ≡ y
+pub some_injective : {A : Type 0} (x y : A) → Some x ≡ Some y → x ≡ y
 some_injective x y e = cc
 
 module _ (lanes id : ℕ) (a : Asking) (k : ℕ) (near : k < 8) where
@@ -221,7 +221,5 @@ module _ (lanes id : ℕ) (a : Asking) (k : ℕ) (near : k < 8) where
 pub take_home_allowed : (key slots id n k : ℕ) (m : Sat) (a : Asking) (mine : List (ℕ × Content)) → slots ≡ key → a.number ≡ n → a.opened ≡ k → k < 8 → m ≡ (Asker a, mine)
     → Allows (Orderly key) slots id m (8 * n + k) (λ x. x) (took_home (step slots (8 * n + k) 0 0 none) m)
 take_home_allowed key slots id n k m a mine sized num next near is =
-    subst (λ (x : ℕ). Allows (Orderly key) x id m (8 * n + k) (λ x. x) (took_home (step x (8 * n + k) 0 0 none) m)) (sym sized)
-    (subst (λ (y : Sat). Allows (Orderly key) key id y (8 * n + k) (λ x. x) (took_home (step key (8 * n + k) 0 0 none) y)) (sym is)
-    (subst (λ (x : ℕ). Allows (Orderly key) key id (Asker a, mine) (8 * x + k) (λ x. x) (took_home (step key (8 * x + k) 0 0 none) (Asker a, mine))) num
-    (takes_home key id a k near mine next)))
+    subst (λ (x : ℕ × Sat × ℕ). Allows (Orderly key) x.0 id x.1 (8 * x.2 + k) (λ x. x) (took_home (step x.0 (8 * x.2 + k) 0 0 none) x.1))
+    (λ e. (sym sized e, sym is e, num e)) (takes_home key id a k near mine next)

@@ -43,37 +43,20 @@ runner_keeps : (z : TableId) (me : Sat) (n : ℕ) (claims : List ℕ) (count cap
     → q.number ≡ (running me.0).number → length q.held ≡ length (running me.0).held
     → count' + jobs (running me.0).held ≡ count + jobs q.held → ((k : ℕ) → times k left ≡ has q.held k) → cap' ≡ cap → IsRunner z' m n left count' cap' lanes next
 runner_keeps z me n claims count cap lanes next inv z' m q left count' cap' same is number_is long_is jobs_are claims_are as_large =
-    subst (λ (y : TableId). IsRunner y m n left count' cap' lanes next) (sym same)
-    (subst (λ (x : Sat). IsRunner z x n left count' cap' lanes next) (sym is)
-    (refl, number_is ∙ inv.1, long_is ∙ inv.2, omega (arith, jobs_are, inv.3), claims_are, omega (arith, inv.5), inv.6, inv.7, inv.8))
+    subst (λ (x : TableId × Sat). IsRunner x.0 x.1 n left count' cap' lanes next) (λ t. (sym same t, sym is t))
+    (refl, number_is ∙ inv.1, long_is ∙ inv.2, omega (arith, jobs_are, inv.3), claims_are, omega (arith, inv.5), inv.6, inv.7, inv.8)
 
 -- The end of a claim: its slot is filled, and given back by a store
 module _ (s : Inside) (left : List ℕ) (slot : ℕ) (j : Job)
     (inv : IsRunner s.seat.table_id s.seat.me s.number s.claims.items (deque_len s.claims) (deque_capacity s.claims) s.lanes s.next)
     (old : RunnerModel) (old_is : old ≡ runner_model s.seat.table_id s.seat.me.0 s.lanes s.next) (own : is_at old.held slot (Some j)) where
-  abbrev z : TableId
-  z = s.seat.table_id
-
-  abbrev me : Sat
-  me = s.seat.me
-
-  abbrev n : ℕ
-  n = s.number
-
-  abbrev claims : List ℕ
-  claims = s.claims.items
+  open s use {number as n, lanes, next, seat.{table_id as z, me}, claims.{items as claims}}
 
   abbrev count : ℕ
   count = deque_len s.claims
 
   abbrev cap : ℕ
   cap = deque_capacity s.claims
-
-  abbrev lanes : ℕ
-  lanes = s.lanes
-
-  abbrev next : ℕ
-  next = s.next
 
   abbrev r : Running
   r = running me.0
@@ -106,10 +89,9 @@ module _ (s : Inside) (left : List ℕ) (slot : ℕ) (j : Job)
       finish_asks d job_is is word word_is = (
         same ∙ board,
         near,
-        subst (λ (x : ℕ). Allows (Orderly key) t.slots id w slot (λ _. x) (λ _. ended (step t.slots slot x 0 none) w x)) (sym word_is)
-            (subst (λ (x : ℕ). Allows (Orderly key) x id w slot (λ _. 2) (λ _. ended (step x slot 2 0 none) w 2)) (sym slots_are)
-            (subst (λ (x : Sat). Allows (Orderly key) key id x slot (λ _. 2) (λ _. ended (step key slot 2 0 none) x 2)) (sym (filled (cell.Finished d) w is))
-            (finishes key id r slot near_key (bare 0 left) d (mine ∙ ap (λ (x : Job). some (Some x)) (sym job_is))))),
+        subst (λ (x : ℕ × ℕ × Sat). Allows (Orderly key) x.1 id x.2 slot (λ _. x.0) (λ _. ended (step x.1 slot x.0 0 none) x.2 x.0))
+            (λ e. (sym word_is e, sym slots_are e, sym (filled (cell.Finished d) w is) e))
+            (finishes key id r slot near_key (bare 0 left) d (mine ∙ ap (λ (x : Job). some (Some x)) (sym job_is))),
       )
 
       pub give_asks : w ≡ (me.0, (slot, cell.Offered j) ∷ bare 0 left) → (word : ℕ) → word ≡ 1
@@ -117,10 +99,9 @@ module _ (s : Inside) (left : List ℕ) (slot : ℕ) (j : Job)
       give_asks is word word_is = (
         same ∙ board,
         near,
-        subst (λ (x : ℕ). Allows (Orderly key) t.slots id w slot (λ _. x) (λ _. given_back (step t.slots slot x 0 none) w x)) (sym word_is)
-            (subst (λ (x : ℕ). Allows (Orderly key) x id w slot (λ _. 1) (λ _. given_back (step x slot 1 0 none) w 1)) (sym slots_are)
-            (subst (λ (x : Sat). Allows (Orderly key) key id x slot (λ _. 1) (λ _. given_back (step key slot 1 0 none) x 1)) (sym (filled (cell.Offered j) w is))
-            (gives_back key id r slot near_key (bare 0 left) j mine))),
+        subst (λ (x : ℕ × ℕ × Sat). Allows (Orderly key) x.1 id x.2 slot (λ _. x.0) (λ _. given_back (step x.1 slot x.0 0 none) x.2 x.0))
+            (λ e. (sym word_is e, sym slots_are e, sym (filled (cell.Offered j) w is) e))
+            (gives_back key id r slot near_key (bare 0 left) j mine),
       )
 
   -- after the store the seat has the claims that are left
@@ -165,11 +146,9 @@ module _ (z : TableId) (me : Sat) (n : ℕ) (claims : List ℕ) (count cap lanes
   pub try_allowed : (key slots id ready word : ℕ) → slots ≡ key → i < key → ready ≡ 1 → word ≡ 3 + n
       → Allows (Orderly key) slots id me i (λ x. either (eqb x ready) word x) (tried (step slots i ready word none) me)
   try_allowed key slots id ready word sized near ready_is word_is =
-      subst (λ (y : ℕ). Allows (Orderly key) slots id me i (λ x. either (eqb x y) word x) (tried (step slots i y word none) me)) (sym ready_is)
-      (subst (λ (x : ℕ). Allows (Orderly key) x id me i (λ y. either (eqb y 1) word y) (tried (step x i 1 word none) me)) (sym sized)
-      (subst (λ (y : Sat). Allows (Orderly key) key id y i (λ x. either (eqb x 1) word x) (tried (step key i 1 word none) y)) (sym inv.0)
-      (subst (λ (x : ℕ). Allows (Orderly key) key id (Runner r₀, bare 0 claims) i (λ y. either (eqb y 1) x y) (tried (step key i 1 x none) (Runner r₀, bare 0 claims)))
-      (ap (λ (x : ℕ). 3 + x) inv.1 ∙ sym word_is) (tries key id r₀ i near (bare 0 claims)))))
+      subst (λ (x : ℕ × ℕ × Sat × ℕ). Allows (Orderly key) x.1 id x.2 i (λ y. either (eqb y x.0) x.3 y) (tried (step x.1 i x.0 x.3 none) x.2))
+      (λ e. (sym ready_is e, sym sized e, sym inv.0 e, (ap (λ (x : ℕ). 3 + x) inv.1 ∙ sym word_is) e))
+      (tries key id r₀ i near (bare 0 claims))
 
   -- it missed
   module _ (slots word x : ℕ) (w : Sat) (miss : x ≢ 1) (told : tried (step slots i 1 word none) me x w) where

@@ -21,10 +21,7 @@ use Rattle.q_board.specs.declared.view.Running.{Running}
 use Rattle.q_board.specs.declared.view.Holder.{Holder}
 use Rattle.q_board.specs.declared.view.Holder.TheVariants.{Runner}
 use Rattle.q_board.proofs.Moves.{board, at_lt, there, Alike, others, moves}
-use Rattle.q_board.proofs.AskerSteps.{word_is, home_is, home_set, home_same}
-
-some_injective : {A : Type 0} (x y : A) → Some x ≡ Some y → x ≡ y
-some_injective x y e = cc
+use Rattle.q_board.proofs.AskerSteps.{word_is, home_is, home_set, home_same, some_injective}
 
 module _ {A : Type 0} where
   get_or-front : (xs ys : List A) (k : ℕ) (d : A) → k < length xs → get_or (xs ++ ys) k d ≡ get_or xs k d
