@@ -6,3 +6,4 @@ mod Beginnings
 mod Looking
 mod Running
 mod Halting
+mod OnLiterals

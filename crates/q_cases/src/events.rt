@@ -4,7 +4,7 @@ use crate::program::program as certified;
 use q_cluster::Cluster;
 use q_desk::Call;
 use q_history::ClusterEvent;
-use q_script::{Founding, Script, ScriptLine};
+use q_script::{CallLine, Founding, Script, ScriptLine};
 use q_sim::{config_of, event_of};
 use sc_msg::Version;
 use sc_view::Value;
@@ -13,11 +13,11 @@ use std::alloc::Global;
 /// The event of a line, at nodes of this version; none where it is a line of no event.
 fn event(alloc: Global, version: Version, line: &ScriptLine) -> Option<ClusterEvent> {
     match line {
-        ScriptLine::Program { node, code } => Some(ClusterEvent::Call {
+        ScriptLine::Call(CallLine::Program { node, code }) => Some(ClusterEvent::Call {
             node: *node,
             call: Call::Register(certified(alloc, version, code.as_slice())?),
         }),
-        ScriptLine::Store { node, value } => Some(ClusterEvent::Call {
+        ScriptLine::Call(CallLine::Store { node, value }) => Some(ClusterEvent::Call {
             node: *node,
             call: Call::Store(Value::new(value.as_slice()).ok()?),
         }),

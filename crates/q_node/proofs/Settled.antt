@@ -9,11 +9,9 @@ use Rattle.q_held.specs.declared.losses.LossCounts.{LossCounts}
 use Rattle.q_held.specs.declared.losses.Unsent.{Unsent}
 use Rattle.q_net.specs.declared.replies.Reply.{Reply}
 use Rattle.q_net.specs.declared.request.Request.{Request}
-use Rattle.q_kept.specs.State.{RecorderState}
 use Rattle.q_kept.specs.Recording.{Grows, IsRecorded}
 use Rattle.q_kept.specs.Settling.{GivesNone, GivesWritten, Pumps}
 use Rattle.q_kept.specs.declared.letter.Letter.{Letter}
-use Rattle.q_kept.specs.declared.question.Question.{Question}
 use Rattle.q_node.specs.declared.console.Said.{Said}
 use Rattle.q_node.specs.State.{OwnState, outbox_of}
 use Rattle.q_node.specs.Calls.{HearsAndSettles, LeavesAndSettles, RepliedSo, Settles, SettlesAfter}
@@ -38,25 +36,13 @@ some_mapped f (Some x) = refl
 
 -- ---- from an equal state
 
-abbrev pub own_of : BookState → List Message → LossCounts → Unsent → AskerModel → RecorderState → List Question → OwnState
-own_of book waiting lost unsent asker recorder questions = record {
-  book = book;
-  waiting = waiting;
-  lost = lost;
-  unsent = unsent;
-  asker = asker;
-  recorder = recorder;
-  questions = questions;
-}
-
 pub settles_at : (x y : OwnState) (letters : Option (List Letter)) (new : OwnState) → x ≡ y → Settles x letters new → Settles y letters new
 settles_at x y letters new e = subst (λ (o : OwnState). Settles o letters new) e
 
 -- of what is not sent and the seat, which are as they were
-pub settles_from : (book : BookState) (waiting : List Message) (lost : LossCounts) (u v : Unsent) (a z : AskerModel) (r : RecorderState) (questions : List Question) (letters : Option (List Letter)) (new : OwnState)
-    → u ≡ v → a ≡ z → Settles (own_of book waiting lost u a r questions) letters new → Settles (own_of book waiting lost v z r questions) letters new
-settles_from book waiting lost u v a z r questions letters new same seat =
-    subst (λ (o : OwnState). Settles o letters new) (λ i. own_of book waiting lost (same i) (seat i) r questions)
+pub settles_from : {x new : OwnState} {letters : Option (List Letter)} {unsent : Unsent} {seat : AskerModel} → Settles x letters new → x.unsent ≡ unsent → x.asker ≡ seat
+    → Settles (record x { unsent = unsent; asker = seat }) letters new
+settles_from {x} {new} {letters} settled same seats = subst (λ (o : OwnState). Settles o letters new) (λ i. record x { unsent = same i; asker = seats i }) settled
 
 pub hears_at : (bytes : List ℕ) (x y : OwnState) (has_ended : Bool) (letters : Option (List Letter)) (new : OwnState) → x ≡ y → HearsAndSettles bytes x has_ended letters new
     → HearsAndSettles bytes y has_ended letters new
@@ -73,8 +59,8 @@ leaves_at x y told letters new e = subst (λ (o : OwnState). LeavesAndSettles o 
 
 pub counts : (x : OwnState) (book : BookState) (waiting : List Message) (lost : LossCounts) (unsent more : Unsent) (asker : AskerModel) → book ≡ x.book → waiting ≡ x.waiting → lost ≡ x.lost
     → unsent ≡ both_unsent x.unsent more → asker ≡ x.asker
-    → own_of book waiting lost unsent asker x.recorder x.questions ≡ record x { unsent = both_unsent x.unsent more }
-counts x book waiting lost unsent more asker books waits losses counted seat = λ i. own_of (books i) (waits i) (losses i) (counted i) (seat i) x.recorder x.questions
+    → record x { book = book; waiting = waiting; lost = lost; unsent = unsent; asker = asker } ≡ record x { unsent = both_unsent x.unsent more }
+counts x book waiting lost unsent more asker books waits losses counted seat = λ i. record x { book = books i; waiting = waits i; lost = losses i; unsent = counted i; asker = seat i }
 
 pub counts_at : (x y new : OwnState) (more : Unsent) → x ≡ y → new ≡ record x { unsent = both_unsent x.unsent more } → new ≡ record y { unsent = both_unsent y.unsent more }
 counts_at x y new more e = subst (λ (o : OwnState). new ≡ record o { unsent = both_unsent o.unsent more }) e

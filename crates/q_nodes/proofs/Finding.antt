@@ -13,12 +13,13 @@ use Rattle.q_book.specs.State.{BookState}
 use Rattle.q_cluster.specs.Acts.{book_at}
 use Rattle.q_history.specs.Headline.{ClusterState}
 use Rattle.q_history.proofs.Lists.{same_some}
+use Rattle.q_script.specs.declared.call_line.CallLine.TheVariants as line
 use Rattle.q_nodes.specs.Found.{IsOnly}
 use Rattle.q_nodes.specs.Faults.{no_such_node}
-use Rattle.q_nodes.specs.Lines.{IsNode, CallsAt, Has, IsProgramOf, IsQueryOf, IsStoreOf, program_id}
+use Rattle.q_sim.specs.Simulates.{program_id}
+use Rattle.q_nodes.specs.Lines.{IsNode, CallsAt, Has, IsProgramOf, IsQueryOf, IsStoreOf}
 use Rattle.q_nodes.specs.declared.outcome.Outcome.{Outcome}
 use Rattle.q_nodes.specs.declared.outcome.Outcome.TheVariants as outcome
-use Rattle.q_nodes.specs.declared.script.ClusterLine.TheVariants as line
 
 -- ---- programs
 

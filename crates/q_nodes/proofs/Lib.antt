@@ -6,7 +6,6 @@ mod Filing
 mod Finding
 mod Gathering
 mod Truth
-mod Reading
 mod Endings
 mod Untold
 mod NoNode

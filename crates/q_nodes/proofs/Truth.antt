@@ -17,13 +17,14 @@ use Rattle.q_history.specs.Headline as headline
 use Rattle.q_history.specs.Headline.{ClusterState}
 use Rattle.q_history.proofs.Lists.{same_some, no_some}
 use Rattle.q_gather.specs.Gather.{GathersBooks}
+use Rattle.q_script.specs.declared.call_line.CallLine.TheVariants as line
 use Rattle.q_nodes.specs.Headline.{AnswersAreTrue, IsTrueAnswer}
-use Rattle.q_nodes.specs.Lines.{IsQueryOf, IsTold, program_id}
+use Rattle.q_sim.specs.Simulates.{program_id}
+use Rattle.q_nodes.specs.Lines.{IsQueryOf, IsTold}
 use Rattle.q_nodes.specs.Runs.{IsClusterOf, IsFoundedBy, IsWritten}
 use Rattle.q_nodes.specs.declared.report.Report.TheVariants.{Asked}
 use Rattle.q_nodes.specs.declared.report.Tally.{Tally}
 use Rattle.q_nodes.specs.declared.ending.ClusterEnding.TheVariants as ending
-use Rattle.q_nodes.specs.declared.script.ClusterLine.TheVariants as line
 use Rattle.q_nodes.specs.declared.script.ClusterScript.{ClusterScript}
 use Rattle.q_nodes.proofs.Turns.{turn_at, turn_length}
 

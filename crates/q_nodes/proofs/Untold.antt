@@ -16,12 +16,12 @@ use Rattle.q_history.proofs.Lists.{no_some, same_some}
 use Rattle.q_gather.specs.Gather.{Agree, AreRefused, GathersBooks}
 use Rattle.q_gather.specs.declared.fault.GatherFault.{GatherFault}
 use Rattle.q_gather.specs.declared.fault.GatherFault.TheVariants.{Journal, IdUsed, BadFounders, NeverSent, OutOfMemory}
+use Rattle.q_script.specs.declared.call_line.CallLine.TheVariants as line
 use Rattle.q_nodes.specs.Faults.{bad_founders, of_gather}
 use Rattle.q_nodes.specs.Lines.{IsTold}
 use Rattle.q_nodes.specs.Runs.{IsFoundedBy, IsTelling, IsUngathered, TellsAll, TellsApart, ids_to}
 use Rattle.q_nodes.specs.declared.report.Report.TheVariants.{Asked}
 use Rattle.q_nodes.specs.declared.report.Tally.{Tally}
-use Rattle.q_nodes.specs.declared.script.ClusterLine.TheVariants as line
 use Rattle.q_nodes.specs.declared.script.ClusterScript.{ClusterScript}
 use Rattle.q_nodes.proofs.Finding.{other_program}
 

@@ -4,11 +4,11 @@ use Rattle.sc_world.specs.declared.op.Op.{Op}
 use Rattle.sc_world.specs.Records.{Among}
 use Rattle.q_book.specs.State.{BookState}
 use Rattle.q_history.specs.Headline.{ClusterState}
+use Rattle.q_script.specs.declared.call_line.CallLine.{CallLine}
 use Rattle.q_nodes.specs.Lines.{Has, InTurn, IsTold, Lacks}
 use Rattle.q_nodes.specs.Runs.{IsClusterOf, IsUngathered}
 use Rattle.q_nodes.specs.declared.outcome.Outcome.{Outcome}
 use Rattle.q_nodes.specs.declared.report.Report.{Report}
-use Rattle.q_nodes.specs.declared.script.ClusterLine.{ClusterLine}
 use Rattle.q_nodes.specs.declared.script.ClusterScript.{ClusterScript}
 use Rattle.q_nodes.specs.declared.telling.Sought.{Sought}
 use Rattle.q_nodes.specs.declared.telling.Sought.TheVariants.{Told, Ungathered}
@@ -25,12 +25,12 @@ pub record IsOnly (ops : List Op) (node tag : ℕ) (op : Op) : Type 0 where
   pub only : (o : Op) → Among o ops → o.node ≡ node → o.tag ≡ tag → o ≡ op
 
 -- what is found of the call of a line: what the line tells, or that the cluster lacks what the call came to
-abbrev pub Finds : ℕ → ClusterState → ClusterLine → Outcome → Option Report → Type 0
+abbrev pub Finds : ℕ → ClusterState → CallLine → Outcome → Option Report → Type 0
 Finds nodes c l o (Some r) = IsTold nodes c l r
 Finds nodes c l o None = Has c l o → ⊥
 
 -- what is found of the calls of lines
-abbrev pub FindsAll : ℕ → ClusterState → List ClusterLine → Option (List Report) → Type 0
+abbrev pub FindsAll : ℕ → ClusterState → List CallLine → Option (List Report) → Type 0
 FindsAll nodes c ls (Some rs) = InTurn (IsTold nodes c) ls rs
 FindsAll nodes c ls None = Lacks nodes c ls
 

@@ -7,12 +7,13 @@ use Rattle.q_session.specs.declared.ran.Ran.{Ran}
 use Rattle.q_book.specs.State.{BookState}
 use Rattle.q_history.specs.Headline.{ClusterState}
 use Rattle.q_history.specs.Recorded.{HasTrueAnswer}
+use Rattle.q_script.specs.declared.call_line.CallLine.TheVariants as line
+use Rattle.q_sim.specs.Simulates.{program_id}
 use Rattle.q_nodes.specs.Books.{AreBooksOf}
-use Rattle.q_nodes.specs.Lines.{program_id, texts_of}
+use Rattle.q_nodes.specs.Lines.{texts_of}
 use Rattle.q_nodes.specs.Runs.{IsClusterOf}
 use Rattle.q_nodes.specs.declared.report.Report.{Report}
 use Rattle.q_nodes.specs.declared.report.Report.TheVariants.{Asked}
-use Rattle.q_nodes.specs.declared.script.ClusterLine.TheVariants as line
 use Rattle.q_nodes.specs.declared.script.ClusterScript.{ClusterScript}
 
 -- The cluster recorded this answer of the query of this number at the node, which asks for this program from this

@@ -1,6 +1,6 @@
 -- What the calls of a script's lines came to, and what the lines tell of it: looked up in the gathered cluster, or,
 -- where the nodes were not gathered, in their own books.
-use Rattle.std.specs.Prelude.{◌≡◌, ◌⊎◌, ℕ, ◌-◌, ◌^◌, ◌≤◌, min, ◌==◌, ◌&&◌, Bool, true, false, not, is_some, List, [], ◌∷◌, ◌++◌, codes, filter, flat_map, length, Option, Some, None, slice_get}
+use Rattle.std.specs.Prelude.{◌≡◌, ◌⊎◌, ℕ, ◌≤◌, ◌==◌, ◌&&◌, Bool, true, false, not, is_some, List, [], ◌∷◌, ◌++◌, codes, filter, flat_map, length, Option, Some, None, slice_get}
 use Rattle.std.specs.FinMap as fin
 use Rattle.bq_check.specs.Certificate.{Certificate}
 use Rattle.bq_insn.specs.Slots.{spelling}
@@ -16,8 +16,12 @@ use Rattle.q_book.specs.State.{BookState}
 use Rattle.q_cluster.specs.Acts.{book_at}
 use Rattle.q_history.specs.Headline.{ClusterState}
 use Rattle.q_history.specs.declared.event.EventAnswer.TheVariants as told
+use Rattle.q_script.specs.declared.call_line.CallLine.{CallLine}
+use Rattle.q_script.specs.declared.call_line.CallLine.TheVariants as line
+use Rattle.q_script.specs.Line.{node_of}
 use Rattle.q_sim.specs.Printing.{told_lines}
 use Rattle.q_sim.specs.Programs.{IsProgram, IsRefusal}
+use Rattle.q_sim.specs.Simulates.{program_id}
 use Rattle.q_sim.specs.declared.refusal.Refusal.{Refusal}
 use Rattle.q_nodes.specs.Books.{BeginsQuery, BeginsStore, Registers, own_book, recorded}
 use Rattle.q_nodes.specs.Faults.{no_such_node, text}
@@ -28,8 +32,6 @@ use Rattle.q_nodes.specs.declared.outcome.Outcome.TheVariants as outcome
 use Rattle.q_nodes.specs.declared.report.Report.{Report}
 use Rattle.q_nodes.specs.declared.report.Report.TheVariants.{Refused, Registered, Stored, Asked}
 use Rattle.q_nodes.specs.declared.report.Tally.{Tally}
-use Rattle.q_nodes.specs.declared.script.ClusterLine.{ClusterLine}
-use Rattle.q_nodes.specs.declared.script.ClusterLine.TheVariants as line
 
 -- P holds of the elements of two lists, in turn
 abbrev pub InTurn : {A B : Type 0} → (A → B → Type 0) → List A → List B → Type 0
@@ -40,16 +42,6 @@ InTurn P xs ys = ⊥
 -- the nodes are 1 to their number
 abbrev pub IsNode : ℕ → ℕ → Type 0
 IsNode nodes node = (1 ≤ node) × (node ≤ nodes)
-
--- the node that a line names
-abbrev pub node_of : ClusterLine → ℕ
-node_of (line.Program node code) = node
-node_of (line.Store node value) = node
-node_of (line.Ask node program start) = node
-
--- the program of this number; a number that is too large is that of no program
-abbrev pub program_id : ℕ → ℕ
-program_id number = min number (2 ^ 32 - 1)
 
 -- ---- what the call of a line came to
 
@@ -64,7 +56,7 @@ ComesToProgram nodes node code o =
     ⊎ ((program : Certificate) × IsProgram code program × CallsAt nodes node (Registers node program) o)
 
 -- the call of a line came to this
-abbrev pub ComesTo : ℕ → ClusterLine → Outcome → Type 0
+abbrev pub ComesTo : ℕ → CallLine → Outcome → Type 0
 ComesTo nodes (line.Program node code) o = ComesToProgram nodes node code.items o
 ComesTo nodes (line.Store node value) o = CallsAt nodes node (BeginsStore node value.items) o
 ComesTo nodes (line.Ask node program start) o = CallsAt nodes node (BeginsQuery node (program_id program) start) o
@@ -97,7 +89,7 @@ pub record IsQueryOf (c : ClusterState) (node query program start : ℕ) (q : Qu
   pub begins : q.start ≡ start
 
 -- the cluster has what the call of a line came to
-abbrev pub Has : ClusterState → ClusterLine → Outcome → Type 0
+abbrev pub Has : ClusterState → CallLine → Outcome → Type 0
 Has c l (outcome.Refused f) = Unit {0}
 Has c (line.Program node code) (outcome.Registered id) = IsProgramOf c node id code.items
 Has c (line.Store node value) (outcome.Stored tag) = (op : Op) × IsStoreOf c node tag value.items op
@@ -105,8 +97,8 @@ Has c (line.Ask node program start) (outcome.Asked query) = (q : Query) × IsQue
 Has c l o = ⊥
 
 -- it lacks what the call of one of these lines came to
-pub record Lacks (nodes : ℕ) (c : ClusterState) (ls : List ClusterLine) : Type 0 where
-  pub of : ClusterLine
+pub record Lacks (nodes : ℕ) (c : ClusterState) (ls : List CallLine) : Type 0 where
+  pub of : CallLine
   pub among : Among of ls
   pub to : Outcome
   pub came : ComesTo nodes of to
@@ -116,7 +108,7 @@ pub record Lacks (nodes : ℕ) (c : ClusterState) (ls : List ClusterLine) : Type
 
 -- What a line tells of a cluster: the number of its program; the tag of its store, and whether the store has ended; the
 -- number of its query, and the answer that is recorded, if there is one; or why its call was refused.
-abbrev pub IsTold : ℕ → ClusterState → ClusterLine → Report → Type 0
+abbrev pub IsTold : ℕ → ClusterState → CallLine → Report → Type 0
 IsTold nodes c l (Refused f) = ComesTo nodes l (outcome.Refused f)
 IsTold nodes c (line.Program node code) (Registered id) = IsNode nodes node × IsProgramOf c node id code.items
 IsTold nodes c (line.Store node value) (Stored tag ended) =
@@ -127,7 +119,7 @@ IsTold nodes c l r = ⊥
 
 -- The same of nodes whose books make no cluster of the script: what the call came to; and, in the node's own book,
 -- whether the store has ended, and the answer that is recorded, if there is one.
-abbrev pub IsToldApart : ℕ → List BookState → ClusterLine → Report → Type 0
+abbrev pub IsToldApart : ℕ → List BookState → CallLine → Report → Type 0
 IsToldApart nodes books l (Refused f) = ComesTo nodes l (outcome.Refused f)
 IsToldApart nodes books l (Registered id) = ComesTo nodes l (outcome.Registered id)
 IsToldApart nodes books l (Stored tag ended) =

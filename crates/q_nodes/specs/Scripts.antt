@@ -1,29 +1,16 @@
 -- Which texts are scripts of nodes in threads, and what is first wrong with a text that is none.
 use Rattle.std.specs.Prelude.{◌≡◌, ◌⊎◌, ℕ, ◌<◌, ◌≤◌, List}
+use Rattle.q_script.specs.declared.call_line.CallLine.{CallLine}
 use Rattle.q_script.specs.declared.founding.Founding.{Founding}
-use Rattle.q_script.specs.declared.line.ScriptLine.{ScriptLine}
-use Rattle.q_script.specs.declared.line.ScriptLine.TheVariants as event
 use Rattle.q_script.specs.declared.script.ScriptFault.{ScriptFault}
-use Rattle.q_script.specs.Line.{Spells}
+use Rattle.q_script.specs.Line.{SpellsCall}
 use Rattle.q_script.specs.Script.{IsFaultOf, IsScriptOf}
 use Rattle.q_sim.specs.Simulates.{HasFractions, config_of}
 use Rattle.q_sim.specs.declared.refusal.Refusal.TheVariants as refusal
 use Rattle.q_nodes.specs.Faults.{bad_founders}
 use Rattle.q_nodes.specs.declared.fault.ClusterRunFault.{ClusterRunFault}
 use Rattle.q_nodes.specs.declared.fault.ClusterRunFault.TheVariants.{BadCount, Script}
-use Rattle.q_nodes.specs.declared.script.ClusterLine.{ClusterLine}
-use Rattle.q_nodes.specs.declared.script.ClusterLine.TheVariants as line
 use Rattle.q_nodes.specs.declared.script.ClusterScript.{ClusterScript}
-
--- the event that the line is in a script of a simulated cluster
-abbrev pub event_of : ClusterLine → ScriptLine
-event_of (line.Program node code) = event.Program node code
-event_of (line.Store node value) = event.Store node value
-event_of (line.Ask node program start) = event.Ask node program start
-
--- the text spells the line, as it does in such a script
-abbrev pub SpellsLine : List ℕ → ClusterLine → Type 0
-SpellsLine text l = Spells text (event_of l)
 
 -- the founding has good fractions and 1 to 16 nodes, and the script has them
 pub record Fits (founding : Founding) (script : ClusterScript) : Type 0 where
@@ -36,7 +23,7 @@ pub record Fits (founding : Founding) (script : ClusterScript) : Type 0 where
 -- the text spells the script
 pub record IsClusterScript (source : List ℕ) (script : ClusterScript) : Type 0 where
   pub founding : Founding
-  pub parts : IsScriptOf SpellsLine source founding script.lines.items
+  pub parts : IsScriptOf SpellsCall source founding script.lines.items
   pub fits : Fits founding script
 
 -- ---- faults
@@ -55,5 +42,5 @@ IsUnfit f e =
 -- what is first wrong with a text: one of its lines, and then its founding
 abbrev pub IsRefused : List ℕ → ClusterRunFault → Type 0
 IsRefused source e =
-    ((f : ScriptFault) × (e ≡ Script (refusal.Script f)) × IsFaultOf SpellsLine source f)
-    ⊎ ((founding : Founding) × (ls : List ClusterLine) × IsScriptOf SpellsLine source founding ls × IsUnfit founding e)
+    ((f : ScriptFault) × (e ≡ Script (refusal.Script f)) × IsFaultOf SpellsCall source f)
+    ⊎ ((founding : Founding) × (ls : List CallLine) × IsScriptOf SpellsCall source founding ls × IsUnfit founding e)

@@ -6,8 +6,8 @@ ghost use Rattle.q_nodes.specs.Lines.{ComesTo, InTurn, IsNode, IsToldApart};
 
 use crate::outcome::Outcome;
 use crate::report::Report;
-use crate::script::{ClusterLine, node_of};
 use q_book::Book;
+use q_script::CallLine;
 use q_session::Ran;
 use std::alloc::{AllocError, Global};
 
@@ -30,12 +30,12 @@ fn answer(book: &Book, query: usize) -> Option<Ran>
 }
 
 /// What a line tells whose call came to this.
-fn tell_line(books: &[Book], nodes: u64, line: &ClusterLine, outcome: Outcome) -> Report
+fn tell_line(books: &[Book], nodes: u64, line: &CallLine, outcome: Outcome) -> Report
     requires books { AreBooksOf nodes books.now }
     requires came { ComesTo nodes line.now outcome }
     ensures { IsToldApart nodes books.now line.now result }
 {
-    let node = node_of(line);
+    let node = line.node();
     match outcome {
         Outcome::Refused(fault) => Report::Refused(fault),
         Outcome::Registered(id) => Report::Registered(id),
@@ -56,7 +56,7 @@ pub(crate) fn tell_apart(
     alloc: Global,
     books: &[Book],
     nodes: u64,
-    lines: &[ClusterLine],
+    lines: &[CallLine],
     outcomes: &[Outcome],
 ) -> Result<Vec<Report>, AllocError>
     requires books { AreBooksOf nodes books.now }

@@ -12,11 +12,12 @@ use crate::halt::Halt;
 use crate::line::run_lines;
 use crate::node::{Wire, tend, wires};
 use crate::outcome::Outcome;
-use crate::script::{ClusterLine, ClusterScript};
+use crate::script::ClusterScript;
 use q_board::{AskerSeat, Board, RunnerSeat, with_runners};
 use q_book::Book;
 use q_held::{LiveNode, LossCounts, Unsent};
 use q_outside::Transport;
+use q_script::CallLine;
 use sc_members::Config;
 use std::alloc::{AllocError, Global};
 use std::sync::atomic::{AtomicBool, Ordering};
@@ -148,7 +149,7 @@ fn time_lines<R: Wait + Clock, T: Transport + Drop>(
     alloc: Global,
     locks: &[Mutex<LiveNode<'_>>],
     nodes: u64,
-    lines: &[ClusterLine],
+    lines: &[CallLine],
     flight: &mut Flight<'_, T>,
 ) -> Result<Made, Halt>
     ensures came { IfOk result (λ made. InTurn (ComesTo nodes) lines.now made.outcomes.items) }
@@ -174,7 +175,7 @@ fn run_threads<R: Wait + Threads + Clock + Sync, T: Transport + Send + Drop>(
     locks: &[Mutex<LiveNode<'_>>],
     bell: &Bell,
     over: &AtomicBool,
-    lines: &[ClusterLine],
+    lines: &[CallLine],
     in_flight: usize,
     wires: Vec<Wire<T>>,
     end: Option<T>,

@@ -17,10 +17,11 @@ ghost use Rattle.q_nodes.specs.declared.report.Report.TheVariants as report;
 use crate::ops_by_tag::OpsByTag;
 use crate::outcome::Outcome;
 use crate::report::Report;
-use crate::script::{ClusterLine, program_id};
 use bq_insn::encode;
 use q_cluster::Cluster;
+use q_script::CallLine;
 use q_session::{Phase, Ran};
+use q_sim::program_id;
 use q_table::{Program, ProgramId};
 use sc_node::OperationKind;
 use sc_world::Op;
@@ -134,27 +135,27 @@ fn registered(has: bool, id: ProgramId) -> Option<Report>
 fn find_program(
     alloc: Global,
     cluster: &Cluster,
-    line: &ClusterLine,
+    line: &CallLine,
     id: ProgramId,
 ) -> Result<Option<Report>, AllocError>
     ensures { (nodes : ℕ) → ComesTo nodes line.now (outcome.Registered id) → IfOk result (Finds nodes cluster.now line.now (outcome.Registered id)) }
 {
     match line {
-        ClusterLine::Program { node, code } => {
+        CallLine::Program { node, code } => {
             let has = has_program(alloc, cluster, *node, id, code.as_slice())?;
             Ok(registered(has, id))
         }
-        ClusterLine::Store { .. } | ClusterLine::Ask { .. } => Ok(None),
+        CallLine::Store { .. } | CallLine::Ask { .. } => Ok(None),
     }
 }
 
 /// What a line tells that was answered with this tag.
-fn find_store(cluster: &Cluster, places: &OpsByTag, line: &ClusterLine, tag: u64) -> Option<Report>
+fn find_store(cluster: &Cluster, places: &OpsByTag, line: &CallLine, tag: u64) -> Option<Report>
     requires { AreFiled cluster.now.past.ops (get (λ a b. nat_eq a.0 b.0 && nat_eq a.1 b.1) places.now.by_tag) }
     ensures { (nodes : ℕ) → ComesTo nodes line.now (outcome.Stored tag) → Finds nodes cluster.now line.now (outcome.Stored tag) result }
 {
     match line {
-        ClusterLine::Store { node, value } => {
+        CallLine::Store { node, value } => {
             match store_of(cluster, places, *node, tag, value.as_slice()) {
                 Some(op) => Some(Report::Stored {
                     tag,
@@ -163,16 +164,16 @@ fn find_store(cluster: &Cluster, places: &OpsByTag, line: &ClusterLine, tag: u64
                 None => None,
             }
         }
-        ClusterLine::Program { .. } | ClusterLine::Ask { .. } => None,
+        CallLine::Program { .. } | CallLine::Ask { .. } => None,
     }
 }
 
 /// What a line tells that was answered with the query of this number.
-fn find_query(cluster: &Cluster, line: &ClusterLine, query: usize) -> Option<Report>
+fn find_query(cluster: &Cluster, line: &CallLine, query: usize) -> Option<Report>
     ensures { (nodes : ℕ) → ComesTo nodes line.now (outcome.Asked query) → Finds nodes cluster.now line.now (outcome.Asked query) result }
 {
     match line {
-        ClusterLine::Ask {
+        CallLine::Ask {
             node,
             program,
             start,
@@ -184,7 +185,7 @@ fn find_query(cluster: &Cluster, line: &ClusterLine, query: usize) -> Option<Rep
             }),
             None => None,
         },
-        ClusterLine::Program { .. } | ClusterLine::Store { .. } => None,
+        CallLine::Program { .. } | CallLine::Store { .. } => None,
     }
 }
 
@@ -193,7 +194,7 @@ fn find_line(
     alloc: Global,
     cluster: &Cluster,
     places: &OpsByTag,
-    line: &ClusterLine,
+    line: &CallLine,
     outcome: Outcome,
 ) -> Result<Option<Report>, AllocError>
     requires { AreFiled cluster.now.past.ops (get (λ a b. nat_eq a.0 b.0 && nat_eq a.1 b.1) places.now.by_tag) }
@@ -213,7 +214,7 @@ pub(crate) fn find_all(
     alloc: Global,
     cluster: &Cluster,
     nodes: u64,
-    lines: &[ClusterLine],
+    lines: &[CallLine],
     outcomes: &[Outcome],
 ) -> Result<Option<Vec<Report>>, AllocError>
     requires { InTurn (ComesTo nodes) lines.now outcomes.now }

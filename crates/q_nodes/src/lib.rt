@@ -78,6 +78,6 @@ pub use outcome::Outcome;
 pub use own::{are_of_nodes, is_of};
 pub use report::{Report, Tally, texts};
 pub use run::run_cluster;
-pub use script::{ClusterLine, ClusterScript, MOST_NODES, is_node, node_of, program_id};
+pub use script::{ClusterScript, MOST_NODES, is_node};
 pub use sockets::{FileRun, open_sockets, run_file, run_over_sockets};
 pub use telling::{Telling, tell};

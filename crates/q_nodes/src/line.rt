@@ -10,10 +10,11 @@ use crate::flight::Flight;
 use crate::halt::Halt;
 use crate::lock::{self, NodeCall};
 use crate::outcome::Outcome;
-use crate::script::{ClusterLine, is_node, node_of, program_id};
+use crate::script::is_node;
 use q_held::LiveNode;
 use q_outside::Transport;
-use q_sim::certified_code;
+use q_script::CallLine;
+use q_sim::{certified_code, program_id};
 use std::alloc::Global;
 use std::sync::{Mutex, Wait};
 use std::time::Clock;
@@ -66,19 +67,19 @@ fn run_line<R: Wait>(
     alloc: Global,
     locks: &[Mutex<LiveNode<'_>>],
     nodes: u64,
-    line: &ClusterLine,
+    line: &CallLine,
 ) -> Result<Outcome, Halt>
     ensures came { IfOk result (ComesTo nodes line.now) }
     ensures halt { IfErr result (IsHalt nodes) }
 {
     match line {
-        ClusterLine::Program { node, code } => {
+        CallLine::Program { node, code } => {
             run_program(rt, alloc, locks, nodes, *node, code.as_slice())
         }
-        ClusterLine::Store { node, value } => {
+        CallLine::Store { node, value } => {
             call_at(rt, locks, nodes, *node, &NodeCall::Store(value.as_slice()))
         }
-        ClusterLine::Ask {
+        CallLine::Ask {
             node,
             program,
             start,
@@ -97,7 +98,7 @@ pub(crate) fn run_lines<R: Wait + Clock, T: Transport + Drop>(
     alloc: Global,
     locks: &[Mutex<LiveNode<'_>>],
     nodes: u64,
-    lines: &[ClusterLine],
+    lines: &[CallLine],
     flight: &mut Flight<'_, T>,
 ) -> Result<Vec<Outcome>, Halt>
     ensures came { IfOk result (λ outcomes. InTurn (ComesTo nodes) lines.now outcomes.items) }
@@ -109,7 +110,7 @@ pub(crate) fn run_lines<R: Wait + Clock, T: Transport + Drop>(
             Ok(outcome) => outcome,
             Err(halt) => return Err(halt),
         };
-        flight.join(rt, locks, node_of(line), &outcome);
+        flight.join(rt, locks, line.node(), &outcome);
         if outcomes.push(outcome).is_err() {
             return Err(Halt::OutOfMemory);
         }

@@ -17,8 +17,10 @@ ghost use Rattle.q_outside.specs.declared.files.FileFault.TheVariants as file;
 ghost use Rattle.q_gather.specs.Gather.{Agree};
 ghost use Rattle.q_gather.specs.declared.fault.GatherFault.TheVariants as gather;
 ghost use Rattle.q_history.specs.Headline.{ClusterState};
+ghost use Rattle.q_script.specs.declared.call_line.CallLine.TheVariants as line;
 ghost use Rattle.q_script.specs.declared.founding.Founding.{Founding};
 ghost use Rattle.q_script.specs.declared.script.ScriptFault.TheVariants as script_fault;
+ghost use Rattle.q_script.specs.Line.{SpellsCall};
 ghost use Rattle.q_script.specs.Records.{value_bytes};
 ghost use Rattle.q_script.specs.Script.{IsScriptOf};
 ghost use Rattle.q_sim.specs.Simulates.{HasFractions};
@@ -26,9 +28,9 @@ ghost use Rattle.q_sim.specs.declared.refusal.Refusal.TheVariants as refusal;
 ghost use Rattle.q_sim.specs.declared.refusal.RefusalPlace.TheVariants as place;
 ghost use Rattle.q_nodes.specs.Books.{BeginsStore, IsBookOf, Registers};
 ghost use Rattle.q_nodes.specs.Faults as faults;
-ghost use Rattle.q_nodes.specs.Lines.{ComesTo, IsNode, IsQueryOf, IsTold, program_id, refused_line, tally_of, text_of};
+ghost use Rattle.q_nodes.specs.Lines.{ComesTo, IsNode, IsQueryOf, IsTold, refused_line, tally_of, text_of};
 ghost use Rattle.q_nodes.specs.Runs.{IsRefusedAlone, IsTelling, IsWrittenFile, IsWrittenOf, failures_after, ids_to, status_of};
-ghost use Rattle.q_nodes.specs.Scripts.{Fits, IsClusterScript, IsUnfit, SpellsLine};
+ghost use Rattle.q_nodes.specs.Scripts.{Fits, IsClusterScript, IsUnfit};
 ghost use Rattle.q_nodes.specs.declared.ending.ClusterEnding.TheVariants as ending;
 ghost use Rattle.q_nodes.specs.declared.fault.ClusterRunFault.{ClusterRunFault};
 ghost use Rattle.q_nodes.specs.declared.fault.ClusterRunFault.TheVariants.{BadCount, TransportFailed, Script};
@@ -36,7 +38,6 @@ ghost use Rattle.q_nodes.specs.declared.outcome.Outcome.TheVariants as outcome;
 ghost use Rattle.q_nodes.specs.declared.report.Report.{Report as Tells};
 ghost use Rattle.q_nodes.specs.declared.report.Report.TheVariants as report;
 ghost use Rattle.q_nodes.specs.declared.report.Tally.{Tally as Counts};
-ghost use Rattle.q_nodes.specs.declared.script.ClusterLine.TheVariants as line;
 ghost use Rattle.q_nodes.specs.declared.script.ClusterScript.{ClusterScript};
 
 /// As what refusals are told, and how runs end.
@@ -58,9 +59,6 @@ pub fn worked()
     ensures first { IsNode 3 1 }
     ensures last { IsNode 3 3 }
     ensures fourth { IsNode 3 4 → ⊥ }
-
-    // A number that is too large is that of no program.
-    ensures greatest_program { program_id 4294967296 ≡ 4294967295 }
 
     // The ids of the founders.
     ensures three { ids_to 3 ≡ 1 ∷ 2 ∷ 3 ∷ [] }
@@ -125,7 +123,7 @@ pub fn worked_runs()
     ensures none_founds { (f : Founding) (s : ClusterScript) → f.count ≡ 0 → Fits f s → ⊥ }
     ensures too_many { (f : Founding) → f.count ≡ 17 → HasFractions f → IsUnfit f BadCount }
     ensures sixteen { (f : Founding) → f.count ≡ 16 → IsUnfit f BadCount → ⊥ }
-    ensures second_line { (f : Founding) → IsScriptOf SpellsLine (97 ∷ 10 ∷ 98 ∷ []) f [] → ⊥ }
+    ensures second_line { (f : Founding) → IsScriptOf SpellsCall (97 ∷ 10 ∷ 98 ∷ []) f [] → ⊥ }
     ensures refusal_is_told { (f : ClusterRunFault) (t : Counts) (before after : Option (List ℕ)) → IsRefusedAlone f (ending.Gathered t) before after → ⊥ }
     ensures no_script { (source : List ℕ) (t : Counts) (before after : Option (List ℕ)) → ((s : ClusterScript) → IsClusterScript source s → ⊥) → IsWrittenOf source (ending.Gathered t) before after → ⊥ }
     ensures no_file { (name source : List ℕ) (t : Counts) (before after : Option (List ℕ)) → IsWrittenFile (λ (old : ℕ) called read (new : ℕ). read ≡ Err file.Failed) name 0 0 source (ending.Gathered t) before after → ⊥ }

@@ -6,7 +6,7 @@ use crate::rows::{ROWS, Row};
 use q_cluster::Cluster;
 use q_desk::Call;
 use q_history::{ClusterEvent, ClusterFault, ClusterStep, EventAnswer};
-use q_script::{Founding, Script, ScriptLine};
+use q_script::{CallLine, Founding, Script, ScriptLine};
 use q_sim::{Refusal, certified_code, config_of, event_of, print_pairs, print_told};
 use sc_view::Value;
 use sc_world::Op;
@@ -46,8 +46,10 @@ fn registration(rt: &HostRuntime, node: u64, code: &[u8]) -> Option<ClusterEvent
 /// The event of a line; none where it has none of its own.
 fn event(rt: &HostRuntime, line: &ScriptLine) -> Option<ClusterEvent> {
     match line {
-        ScriptLine::Program { node, code } => registration(rt, *node, code.as_slice()),
-        ScriptLine::Store { node, value } => Some(ClusterEvent::Call {
+        ScriptLine::Call(CallLine::Program { node, code }) => {
+            registration(rt, *node, code.as_slice())
+        }
+        ScriptLine::Call(CallLine::Store { node, value }) => Some(ClusterEvent::Call {
             node: *node,
             call: Call::Store(Value::new(value.as_slice()).ok()?),
         }),

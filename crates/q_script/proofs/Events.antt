@@ -2,10 +2,11 @@
 use Rattle.std.proofs.Common.{◌≡◌, ◌≢◌, ℕ, List, ◌∷◌, ◌++◌, Result, Ok, Err, Bool, true, false, inl, inr, ap, sym, ◌∙◌, subst, lit<, string_bytes}
 use Rattle.std.specs.Prelude.{Vec, IsTrue, ◌↔◌}
 use Rattle.std.specs.declared.alloc.Global.{Global}
+use Rattle.q_script.specs.declared.call_line.CallLine.TheVariants.{Program, Store, Ask}
 use Rattle.q_script.specs.declared.command.Command.{Command}
 use Rattle.q_script.specs.declared.command.Command.TheVariants as command
 use Rattle.q_script.specs.declared.line.ScriptLine.{ScriptLine}
-use Rattle.q_script.specs.declared.line.ScriptLine.TheVariants.{Program, Store, Ask, Deliver, Pairs, Journal}
+use Rattle.q_script.specs.declared.line.ScriptLine.TheVariants.{Call, Deliver, Pairs, Journal}
 use Rattle.q_script.specs.declared.line.LineFault.{LineFault}
 use Rattle.q_script.specs.declared.line.LineFault.TheVariants.{Form, OutOfMemory}
 use Rattle.q_script.specs.Words.{Lacks, IsFollowed, IsPair}
@@ -18,11 +19,11 @@ use Rattle.q_script.proofs.Commands.{same_command, name_lacks_space}
 -- ---- operands
 
 pub not_store : (s : List ℕ) → ((p : ℕ × List ℕ) → IsFollowed 32 s p → ⊥) → (line : ScriptLine) → IsStore s line → ⊥
-not_store s n (Store node value) h = n (node, h.0) h.1
+not_store s n (Call (Store node value)) h = n (node, h.0) h.1
 not_store s n _ h = h
 
 pub not_store_value : (s : List ℕ) (p : ℕ × List ℕ) → IsFollowed 32 s p → ((value : Vec ℕ Global) → IsValue p.1 value.items → ⊥) → (line : ScriptLine) → IsStore s line → ⊥
-not_store_value s p f n (Store node value) h =
+not_store_value s p f n (Call (Store node value)) h =
     let same = followed_once 32 s p (node, h.0) (lit< tt) f h.1 in
     n value (subst (λ x. IsValue x value.items) (sym same) h.2)
 not_store_value s p f n _ h = h
@@ -43,21 +44,21 @@ part_fails part whole s t fault r e is same none h =
     subst (Judges whole s) (sym (is ∙ ap (λ (x : LineFault). let y : Result ScriptLine LineFault = Err x in y) same)) (part_told part whole s t fault none h)
 
 pub not_ask : (s : List ℕ) → ((p : ℕ × List ℕ) → IsFollowed 32 s p → ⊥) → (line : ScriptLine) → IsAsk s line → ⊥
-not_ask s n (Ask node program start) h = n (node, h.0) h.1
+not_ask s n (Call (Ask node program start)) h = n (node, h.0) h.1
 not_ask s n _ h = h
 
 pub not_ask_pair : (s : List ℕ) (p : ℕ × List ℕ) → IsFollowed 32 s p → ((q : ℕ × ℕ) → IsPair 32 p.1 q → ⊥) → (line : ScriptLine) → IsAsk s line → ⊥
-not_ask_pair s p f n (Ask node program start) h =
+not_ask_pair s p f n (Call (Ask node program start)) h =
     let same = followed_once 32 s p (node, h.0) (lit< tt) f h.1 in
     n (program, start) (subst (λ x. IsPair 32 x (program, start)) (sym same) h.2)
 not_ask_pair s p f n _ h = h
 
 pub not_program : (s : List ℕ) → ((p : ℕ × List ℕ) → IsFollowed 32 s p → ⊥) → (line : ScriptLine) → IsProgram s line → ⊥
-not_program s n (Program node code) h = n (node, h.0) h.1
+not_program s n (Call (Program node code)) h = n (node, h.0) h.1
 not_program s n _ h = h
 
 not_code : (s : List ℕ) (p : ℕ × List ℕ) → IsFollowed 32 s p → ((code : Vec ℕ Global) → IsCode p.1 code.items → ⊥) → (line : ScriptLine) → IsProgram s line → ⊥
-not_code s p f n (Program node code) h =
+not_code s p f n (Call (Program node code)) h =
     let same = followed_once 32 s p (node, h.0) (lit< tt) f h.1 in
     n code (subst (λ x. IsCode x code.items) (sym same) h.2)
 not_code s p f n _ h = h
@@ -89,11 +90,11 @@ pub not_alone : (s : List ℕ) → (s ≡ name command.Pairs → ⊥) → (line 
 not_alone s n Pairs h = n h
 not_alone s n _ h = h
 
-alone_lacks : (s : List ℕ) (line : ScriptLine) → IsAlone s line → Lacks 32 s
+pub alone_lacks : (s : List ℕ) (line : ScriptLine) → IsAlone s line → Lacks 32 s
 alone_lacks s Pairs h = subst (Lacks 32) (sym h) (name_lacks_space command.Pairs)
 alone_lacks s _ h = absurd h
 
-no_command_there : (s : List ℕ) → Lacks 32 s → (line : ScriptLine) → HasCommand s line → ⊥
+pub no_command_there : (s : List ℕ) → Lacks 32 s → (line : ScriptLine) → HasCommand s line → ⊥
 no_command_there s l line h = never_cut 32 s (name h.command) h.rest l (name_lacks_space h.command, h.parts)
 
 -- a line without a space
@@ -102,7 +103,7 @@ alone_judged s (Ok line) l h = inl h
 alone_judged s (Err Form) l h = λ line p. elim p [ inl a ↦ h line a | inr b ↦ no_command_there s l line b ]
 alone_judged s (Err OutOfMemory) l h = tt
 
-same_word : (s a b : List ℕ) (line : ScriptLine) (h : HasCommand s line) → IsCut 32 s a b → (a ≡ name h.command) × (b ≡ h.rest)
+pub same_word : (s a b : List ℕ) (line : ScriptLine) (h : HasCommand s line) → IsCut 32 s a b → (a ≡ name h.command) × (b ≡ h.rest)
 same_word s a b line h e = cut_once 32 s a b (name h.command) h.rest e (name_lacks_space h.command, h.parts)
 
 -- a line with a space has a command with operands

@@ -3,6 +3,7 @@ pub mod Numbers
 pub mod Pairs
 pub mod Commands
 pub mod Events
+pub mod Calls
 pub mod Foundings
 pub mod Lines
 pub mod Scripts

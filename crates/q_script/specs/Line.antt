@@ -1,10 +1,12 @@
 -- The lines of a script behind its first: which event each spells.
 use Rattle.std.specs.Prelude.{◌≡◌, ◌⊎◌, ℕ, ◌≤◌, List, ◌∷◌, ◌++◌, length, codes, string_bytes, Result, Ok, Err}
 use Rattle.hex.specs.Hex.{decode_of}
+use Rattle.q_script.specs.declared.call_line.CallLine.{CallLine}
+use Rattle.q_script.specs.declared.call_line.CallLine.TheVariants.{Program, Store, Ask}
 use Rattle.q_script.specs.declared.command.Command.{Command}
 use Rattle.q_script.specs.declared.command.Command.TheVariants as command
 use Rattle.q_script.specs.declared.line.ScriptLine.{ScriptLine}
-use Rattle.q_script.specs.declared.line.ScriptLine.TheVariants.{Program, Store, Ask, Deliver, All, Hand, Run, Enter, Leave, Crash, Pairs, Journal}
+use Rattle.q_script.specs.declared.line.ScriptLine.TheVariants.{Call, Deliver, All, Hand, Run, Enter, Leave, Crash, Pairs, Journal}
 use Rattle.q_script.specs.declared.line.LineFault.{LineFault}
 use Rattle.q_script.specs.declared.line.LineFault.TheVariants.{Form, OutOfMemory}
 use Rattle.q_script.specs.Words.{Lacks, IsNumeral, IsPair, IsFollowed}
@@ -22,17 +24,17 @@ IsWord text = (1 ≤ length text) × Lacks 32 text
 
 -- `NODE HEX`
 abbrev pub IsProgram : List ℕ → ScriptLine → Type 0
-IsProgram text (Program node code) = (digits : List ℕ) × IsFollowed 32 text (node, digits) × IsCode digits code.items
+IsProgram text (Call (Program node code)) = (digits : List ℕ) × IsFollowed 32 text (node, digits) × IsCode digits code.items
 IsProgram text _ = ⊥
 
 -- `NODE VALUE`: any number of bytes is a value here
 abbrev pub IsStore : List ℕ → ScriptLine → Type 0
-IsStore text (Store node value) = (rest : List ℕ) × IsFollowed 32 text (node, rest) × IsValue rest value.items
+IsStore text (Call (Store node value)) = (rest : List ℕ) × IsFollowed 32 text (node, rest) × IsValue rest value.items
 IsStore text _ = ⊥
 
 -- `NODE PROGRAM START`
 abbrev pub IsAsk : List ℕ → ScriptLine → Type 0
-IsAsk text (Ask node program start) = (rest : List ℕ) × IsFollowed 32 text (node, rest) × IsPair 32 rest (program, start)
+IsAsk text (Call (Ask node program start)) = (rest : List ℕ) × IsFollowed 32 text (node, rest) × IsPair 32 rest (program, start)
 IsAsk text _ = ⊥
 
 -- `M NODE`
@@ -94,6 +96,16 @@ IsAlone text _ = ⊥
 -- the line spells the event
 abbrev pub Spells : List ℕ → ScriptLine → Type 0
 Spells text line = IsAlone text line ⊎ HasCommand text line
+
+-- the same of a line that calls a node
+abbrev pub SpellsCall : List ℕ → CallLine → Type 0
+SpellsCall text line = Spells text (Call line)
+
+-- the node that such a line names
+abbrev pub node_of : CallLine → ℕ
+node_of (Program node code) = node
+node_of (Store node value) = node
+node_of (Ask node program start) = node
 
 -- What is read is what the text spells, and a fault of form comes only where the text spells nothing.
 abbrev pub Judges : {X : Type 0} → (List ℕ → X → Type 0) → List ℕ → Result X LineFault → Type 0

@@ -6,7 +6,8 @@
 //! - [`Script::read`] reads a script. Its first line founds the cluster, as `nodes 3 4/5 4/5`: founders 1 to 3 and the
 //!   fractions beta and gamma. Each other line is an event ([`ScriptLine`]). Refused is 9 Syntax, with the least line
 //!   that is of another form; an empty text is one empty line.
-//! - [`read_script`] reads the first line and then lines of any other kind ([`Line`]), [`read_lines`] such lines alone.
+//! - [`read_script`] reads the first line and then lines of any other kind ([`Line`]), as those that call a node alone
+//!   ([`CallLine`]); [`read_lines`] reads such lines alone.
 //! - [`read_records`] reads lines `ID SEQ VALUE`, one for each record of a view, and gives the view. An empty text has
 //!   no line. Refused is what is wrong with the least faulty line, with its number: in this order 9 Syntax, 75 Unsorted
 //!   for an id not above the one before, 77 BadField for a sequence number 0, 50 BadValue for a record (16 bytes, and
@@ -50,6 +51,7 @@
 //! good is not judged here. The program that runs scripts stands on this crate.
 #![tactic(auto)]
 
+mod call_line;
 mod command;
 mod fault;
 mod file;
@@ -65,6 +67,7 @@ mod script;
 mod text;
 pub mod worked;
 
+pub use call_line::CallLine;
 pub use fault::ClusterFileFault;
 pub use file::{ClusterFile, read_cluster};
 pub use founding::{Founding, Fraction};

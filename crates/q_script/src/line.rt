@@ -3,6 +3,7 @@
 ghost use Rattle.std.specs.Prelude.{◌≡◌, ℕ, List};
 ghost use Rattle.q_script.specs.Line.{IsAlone, Judges};
 
+use crate::call_line::CallLine;
 use crate::command::Command;
 use crate::text::cut;
 use std::alloc::Global;
@@ -10,29 +11,8 @@ use std::alloc::Global;
 /// An event of a script.
 #[derive(Drop)]
 pub enum ScriptLine {
-    /// `program NODE HEX`: register at a node the program whose bytes are spelled in hexadecimal digits.
-    Program {
-        /// The node.
-        node: u64,
-        /// The program's bytes, one at least.
-        code: Vec<u8>,
-    },
-    /// `store NODE VALUE`: begin to store a value at a node.
-    Store {
-        /// The node.
-        node: u64,
-        /// The bytes of the value, however many.
-        value: Vec<u8>,
-    },
-    /// `ask NODE PROGRAM START`: ask a node for a program's answer.
-    Ask {
-        /// The node.
-        node: u64,
-        /// The program's number at this node.
-        program: u64,
-        /// The accumulator that the program begins with.
-        start: u64,
-    },
+    /// `program`, `store` or `ask`: the line calls a node.
+    Call(CallLine),
     /// `deliver M NODE`: deliver a message to a node.
     Deliver {
         /// The message's number.

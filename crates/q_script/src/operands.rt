@@ -3,6 +3,7 @@ ghost use Rattle.q_script.specs.Line.{IsCode, IsWord, IsProgram, IsStore, IsAsk,
 ghost use Rattle.q_script.specs.Records.{AreDigits, IsNumber, IsValue};
 ghost use Rattle.q_script.specs.Words.{IsNumeral, IsPair};
 
+use crate::call_line::CallLine;
 use crate::line::{LineFault, ScriptLine};
 use crate::numeral::{leading, number, pair};
 use crate::records::value_bytes;
@@ -63,7 +64,7 @@ pub fn program(alloc: Global, text: &str) -> Result<ScriptLine, LineFault>
         return Err(LineFault::Form);
     };
     match code(alloc, digits) {
-        Ok(code) => Ok(ScriptLine::Program { node, code }),
+        Ok(code) => Ok(ScriptLine::Call(CallLine::Program { node, code })),
         Err(fault) => Err(fault),
     }
 }
@@ -76,7 +77,7 @@ pub fn store(alloc: Global, text: &str) -> Result<ScriptLine, LineFault>
         return Err(LineFault::Form);
     };
     let value = value(alloc, rest)?;
-    Ok(ScriptLine::Store { node, value })
+    Ok(ScriptLine::Call(CallLine::Store { node, value }))
 }
 
 /// The event of `ask` with the operands that a text spells.
@@ -87,11 +88,11 @@ pub fn ask(text: &str) -> Result<ScriptLine, LineFault>
         return Err(LineFault::Form);
     };
     let (program, start) = two(rest)?;
-    Ok(ScriptLine::Ask {
+    Ok(ScriptLine::Call(CallLine::Ask {
         node,
         program,
         start,
-    })
+    }))
 }
 
 /// The event of `deliver` with the operands that a text spells.

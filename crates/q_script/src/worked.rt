@@ -12,6 +12,7 @@ ghost use Rattle.q_script.specs.Founding.{SpellsFounding};
 ghost use Rattle.q_script.specs.Script.{IsScriptOf};
 ghost use Rattle.q_script.specs.Records.{AreDigits, AreGood, IsValue, reason, value_bytes};
 ghost use Rattle.q_script.specs.declared.founding.Founding.{Founding};
+ghost use Rattle.q_script.specs.declared.call_line.CallLine.TheVariants as call;
 ghost use Rattle.q_script.specs.declared.line.ScriptLine.TheVariants as line;
 ghost use Rattle.q_script.specs.declared.records.RecordFault.TheVariants as fault;
 ghost use Rattle.q_script.specs.declared.node_line.NodeLine.{NodeLine as Node};
@@ -32,7 +33,7 @@ pub fn worked()
     ensures node_first { Spells (codes "deliver 7 3") (line.Deliver 3 7) → ⊥ }
 
     // Stores: digits behind x are bytes, and each byte has two.
-    ensures stored { (value : _) → value.items ≡ 5 ∷ 255 ∷ [] → Spells (codes "store 1 x05fF") (line.Store 1 value) }
+    ensures stored { (value : _) → value.items ≡ 5 ∷ 255 ∷ [] → Spells (codes "store 1 x05fF") (line.Call (call.Store 1 value)) }
     ensures capital_x { (bytes : List ℕ) → IsValue (codes "X00") bytes → ⊥ }
     ensures odd_digits { (bytes : List ℕ) → IsValue (codes "x123") bytes → ⊥ }
 

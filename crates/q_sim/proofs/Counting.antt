@@ -5,8 +5,9 @@ use Rattle.std.specs.Prelude.{Vec, vec_len}
 use Rattle.std.specs.declared.alloc.Global.{Global}
 use Rattle.q_book.specs.State.{BookState}
 use Rattle.q_cluster.specs.Acts.{book_at}
+use Rattle.q_script.specs.declared.call_line.CallLine.TheVariants.{Program}
 use Rattle.q_script.specs.declared.line.ScriptLine.{ScriptLine}
-use Rattle.q_script.specs.declared.line.ScriptLine.TheVariants.{Program, All, Pairs, Journal}
+use Rattle.q_script.specs.declared.line.ScriptLine.TheVariants.{Call, All, Pairs, Journal}
 use Rattle.q_sim.specs.declared.refusal.RefusedLine.{RefusedLine}
 use Rattle.q_sim.specs.Simulates.{SimState, Writing, is_any, DeliversAll, SavesAny, Does}
 
@@ -31,7 +32,7 @@ saves_line writes (Some b) name s before text t after h = elim h [
 
 -- what a line does leaves its number
 pub same_line : {F : Type 0} (writes : Writing F) (l : ScriptLine) (s : SimState) (before : F) (text : List ℕ) (t : SimState) (after : F) → Does writes l s before text t after → t.line ≡ s.line
-same_line writes (Program node code) s before text t after h = elim h.0 [ inl a ↦ a.2.line | inr r ↦ ap (λ (x : SimState). x.line) r.2 ]
+same_line writes (Call (Program node code)) s before text t after h = elim h.0 [ inl a ↦ a.2.line | inr r ↦ ap (λ (x : SimState). x.line) r.2 ]
 same_line writes (All limit) s before text t after h = delivers_line limit s text t h.0
 same_line writes Pairs s before text t after h = line_of s t h.0.1
 same_line writes (Journal node file) s before text t after h = saves_line writes (book_at s.cluster node) (string_bytes file) s before text t after h

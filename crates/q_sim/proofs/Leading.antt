@@ -7,8 +7,9 @@ use Rattle.reasons.specs.declared.Reason.{Reason}
 use Rattle.reasons.specs.declared.Reason.TheVariants as reasons
 use Rattle.sc_world.proofs.Inverts.{no_refusal, same_answer}
 use Rattle.q_book.specs.State.{BookState}
+use Rattle.q_script.specs.declared.call_line.CallLine.TheVariants.{Program}
 use Rattle.q_script.specs.declared.line.ScriptLine.{ScriptLine}
-use Rattle.q_script.specs.declared.line.ScriptLine.TheVariants.{Program, All, Pairs, Journal}
+use Rattle.q_script.specs.declared.line.ScriptLine.TheVariants.{Call, All, Pairs, Journal}
 use Rattle.q_history.specs.declared.event.ClusterEvent.{ClusterEvent}
 use Rattle.q_desk.specs.declared.journal.Call.TheVariants as call
 use Rattle.q_history.specs.declared.event.ClusterEvent.TheVariants as event
@@ -95,7 +96,7 @@ saves_led writes (Some b) name s before text t after h = elim h [
 -- ---- lines
 
 pub does_led : {F : Type 0} (writes : Writing F) (l : ScriptLine) (s : SimState) (before : F) (text : List ℕ) (t : SimState) (after : F) → Does writes l s before text t after → IsLed s t
-does_led writes (Program node code) s before text t after h = registers_led node code.items s text t h.0
+does_led writes (Call (Program node code)) s before text t after h = registers_led node code.items s text t h.0
 does_led writes (All limit) s before text t after h = delivers_led limit s text t h.0
 does_led writes Pairs s before text t after h = led_itself s t h.0.1
 does_led writes (Journal node file) s before text t after h = saves_led writes (book_at s.cluster node) (string_bytes file) s before text t after h

@@ -1,8 +1,9 @@
 -- What a line does, by its kind.
 use Rattle.std.proofs.Common.{◌≡◌, ℕ, List, Option, Some, refl, sym, ap, subst}
 use Rattle.std.specs.Prelude.{Result, Ok, Err, OnOk}
+use Rattle.q_script.specs.declared.call_line.CallLine.TheVariants.{Program, Store}
 use Rattle.q_script.specs.declared.line.ScriptLine.{ScriptLine}
-use Rattle.q_script.specs.declared.line.ScriptLine.TheVariants.{Program, Store, All, Pairs, Journal}
+use Rattle.q_script.specs.declared.line.ScriptLine.TheVariants.{Call, All, Pairs, Journal}
 use Rattle.q_history.specs.declared.event.ClusterEvent.{ClusterEvent}
 use Rattle.q_sim.specs.declared.simulation.Simulation.{Simulation}
 use Rattle.q_sim.specs.Simulates.{SimState, Writing, Acts, ActsAs, Does, LeavesFiles, event_of}
@@ -20,8 +21,8 @@ performed writes r old new before after line known is h = subst (λ (l : ScriptL
 
 -- what a line does that is an event: it is the event, and the files stay
 pub does_event : {F : Type 0} (writes : Writing F) (line : ScriptLine) (e : ClusterEvent) → event_of line ≡ Some e → Does writes line ≡ LeavesFiles (Acts e)
-does_event writes (Program node code) e is = absurd cc
-does_event writes (Store node value) e is = absurd cc
+does_event writes (Call (Program node code)) e is = absurd cc
+does_event writes (Call (Store node value)) e is = absurd cc
 does_event writes (All limit) e is = absurd cc
 does_event writes Pairs e is = absurd cc
 does_event writes (Journal node file) e is = absurd cc

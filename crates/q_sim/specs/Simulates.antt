@@ -9,8 +9,10 @@ use Rattle.sc_msg.specs.declared.version.Version.TheVariants.{Second}
 use Rattle.reasons.specs.declared.Reason.TheVariants as reasons
 use Rattle.q_book.specs.State.{BookState}
 use Rattle.q_script.specs.declared.founding.Founding.{Founding}
+use Rattle.q_script.specs.declared.call_line.CallLine.{CallLine}
+use Rattle.q_script.specs.declared.call_line.CallLine.TheVariants.{Program, Store, Ask}
 use Rattle.q_script.specs.declared.line.ScriptLine.{ScriptLine}
-use Rattle.q_script.specs.declared.line.ScriptLine.TheVariants.{Program, Store, Ask, Deliver, All, Hand, Run, Enter, Leave, Crash, Pairs, Journal}
+use Rattle.q_script.specs.declared.line.ScriptLine.TheVariants.{Call, Deliver, All, Hand, Run, Enter, Leave, Crash, Pairs, Journal}
 use Rattle.q_script.specs.declared.script.Script.{Script}
 use Rattle.q_history.specs.declared.event.ClusterEvent.{ClusterEvent}
 use Rattle.q_desk.specs.declared.journal.Call.TheVariants as call
@@ -188,9 +190,13 @@ module _ {F : Type 0} (writes : Writing F) where
 abbrev pub LeavesFiles : {F : Type 0} → (SimState → List ℕ → SimState → Type 0) → SimState → F → List ℕ → SimState → F → Type 0
 LeavesFiles does s before text t after = does s text t × (after ≡ before)
 
+-- the program of this number; a number that is too large is that of no program
+abbrev pub program_id : ℕ → ℕ
+program_id number = min number (2 ^ 32 - 1)
+
 -- the event that a line is, and nothing else
 abbrev pub event_of : ScriptLine → Option ClusterEvent
-event_of (Ask node program start) = Some (event.Call node (call.Ask (min program (2 ^ 32 - 1)) start))
+event_of (Call (Ask node program start)) = Some (event.Call node (call.Ask (program_id program) start))
 event_of (Deliver message node) = Some (event.Deliver message node)
 event_of (Hand node) = Some (event.Call node call.HandOut)
 event_of (Run job) = Some (event.Finish job)
@@ -204,10 +210,15 @@ abbrev pub ActsAs : Option ClusterEvent → SimState → List ℕ → SimState �
 ActsAs (Some e) s text t = Acts e s text t
 ActsAs None s text t = ⊥
 
+-- a line that calls a node
+abbrev pub Calls : CallLine → SimState → List ℕ → SimState → Type 0
+Calls (Program node code) = Registers node code.items
+Calls (Store node value) = Acts (event.Call node (call.Store value.items))
+Calls line = ActsAs (event_of (Call line))
+
 module _ {F : Type 0} (writes : Writing F) where
   abbrev pub Does : ScriptLine → SimState → F → List ℕ → SimState → F → Type 0
-  Does (Program node code) = LeavesFiles (Registers node code.items)
-  Does (Store node value) = LeavesFiles (Acts (event.Call node (call.Store value.items)))
+  Does (Call line) = LeavesFiles (Calls line)
   Does (All limit) = LeavesFiles (Spreads limit)
   Does Pairs = LeavesFiles Tells
   Does (Journal node file) = Saves writes node (string_bytes file)

@@ -1,7 +1,7 @@
 //! Scripts, run over a cluster in memory.
 
-ghost use Rattle.std.specs.Prelude.{◌≡◌, ◌≢◌, ℕ, ◌<◌, ◌≤◌, ◌↔◌, ◌++◌, ◌+◌, ◌-◌, ◌^◌, [], length, min, None, IfOk, IfErr, OnOk, OnErr, IsTrue, IsFalse, MatchResult, string_bytes};
-ghost use Rattle.q_sim.specs.Simulates.{HasFractions, IsSimulationFault, Rises, Simulates, TellsFaults, config_of, event_of, first_ids, with_id};
+ghost use Rattle.std.specs.Prelude.{◌≡◌, ◌≢◌, ℕ, ◌<◌, ◌≤◌, ◌↔◌, ◌++◌, ◌+◌, ◌^◌, [], length, min, None, IfOk, IfErr, OnOk, OnErr, IsTrue, IsFalse, MatchResult, string_bytes};
+ghost use Rattle.q_sim.specs.Simulates.{HasFractions, IsSimulationFault, Rises, Simulates, TellsFaults, config_of, event_of, first_ids, program_id, with_id};
 ghost use Rattle.q_sim.specs.Awaited.{AwaitsFrom};
 
 use crate::delivered::Delivered;
@@ -14,7 +14,7 @@ use q_desk::Call;
 use q_history::{ClusterEvent, ClusterFault, ClusterStep};
 use q_outside::{FileFault, Files};
 use q_replay::journal_bytes;
-use q_script::{Founding, Script, ScriptLine};
+use q_script::{CallLine, Founding, Script, ScriptLine};
 use q_table::ProgramId;
 use reasons::Reason;
 use sc_members::{BadFraction, Config};
@@ -153,7 +153,7 @@ impl Simulation {
     ghost use Rattle.std.specs.FinSet as set;
     ghost use Rattle.q_history.specs.Clusters.{live_at};
     ghost use Rattle.q_history.specs.Calls.{Takes};
-    ghost use Rattle.q_sim.specs.Simulates.{Acts, Begins, Does, Registers, Saves, Spreads, Tells, at_next_line, joined, noted, or_refused, refusing};
+    ghost use Rattle.q_sim.specs.Simulates.{Acts, Begins, Calls, Does, Registers, Saves, Spreads, Tells, at_next_line, joined, noted, or_refused, refusing};
     ghost use Rattle.q_sim.specs.Awaited.{Attempts, IsSpread};
     ghost use Rattle.q_sim.specs.Longer.{RefusesLonger};
     ghost use Rattle.q_sim.specs.Printing.{printed};
@@ -206,12 +206,23 @@ impl Simulation {
         ensures { OnOk result (PrintsOver (Does F.write_gives line) self.old files.old self.new files.new) }
     {
         match line {
-            ScriptLine::Program { node, code } => self.register(node, code.as_slice()),
-            ScriptLine::Store { node, value } => self.store(node, value.as_slice()),
+            ScriptLine::Call(call) => self.perform_call(call),
             ScriptLine::All { limit } => self.deliver_all(limit),
             ScriptLine::Pairs => self.tell_pairs(),
             ScriptLine::Journal { node, file } => self.save(node, file.as_str(), files),
             _ => unreachable!(),
+        }
+    }
+
+    /// Runs a line that calls a node, and is not an event and nothing else.
+    fn perform_call(&mut self, line: CallLine) -> Result<(), AllocError>
+        requires { event_of (ScriptLine.Call line) ≡ None }
+        ensures { OnOk result (Prints (Calls line) self.old self.new) }
+    {
+        match line {
+            CallLine::Program { node, code } => self.register(node, code.as_slice()),
+            CallLine::Store { node, value } => self.store(node, value.as_slice()),
+            CallLine::Ask { .. } => unreachable!(),
         }
     }
 
@@ -432,15 +443,7 @@ pub fn event_of(line: &ScriptLine) -> Option<ClusterEvent>
     ensures { result ≡ event_of line.now }
 {
     match line {
-        ScriptLine::Ask {
-            node,
-            program,
-            start,
-        } => {
-            let program = program_id(*program);
-            let start = *start;
-            Some(called(*node, Call::Ask { program, start }))
-        }
+        ScriptLine::Call(line) => event_of_call(line),
         ScriptLine::Deliver { message, node } => Some(ClusterEvent::Deliver {
             message: *message as usize,
             node: *node,
@@ -450,11 +453,25 @@ pub fn event_of(line: &ScriptLine) -> Option<ClusterEvent>
         ScriptLine::Enter { node } => Some(ClusterEvent::Enter(*node)),
         ScriptLine::Leave { node } => Some(called(*node, Call::Leave)),
         ScriptLine::Crash { node } => Some(ClusterEvent::Crash(*node)),
-        ScriptLine::Program { .. }
-        | ScriptLine::Store { .. }
-        | ScriptLine::All { .. }
-        | ScriptLine::Pairs
-        | ScriptLine::Journal { .. } => None,
+        ScriptLine::All { .. } | ScriptLine::Pairs | ScriptLine::Journal { .. } => None,
+    }
+}
+
+/// The same of a line that calls a node.
+fn event_of_call(line: &CallLine) -> Option<ClusterEvent>
+    ensures { result ≡ event_of (ScriptLine.Call line.now) }
+{
+    match line {
+        CallLine::Ask {
+            node,
+            program,
+            start,
+        } => {
+            let program = program_id(*program);
+            let start = *start;
+            Some(called(*node, Call::Ask { program, start }))
+        }
+        CallLine::Program { .. } | CallLine::Store { .. } => None,
     }
 }
 
@@ -465,9 +482,9 @@ fn called(node: u64, call: Call) -> ClusterEvent
     ClusterEvent::Call { node, call }
 }
 
-/// The id of this number. Of a number that is too large it is the greatest id, which no program has.
-fn program_id(number: u64) -> ProgramId
-    ensures { result ≡ min number (2 ^ 32 - 1) }
+/// The id of a program of this number. Of a number that is too large it is the greatest id, which no program has.
+pub fn program_id(number: u64) -> ProgramId
+    ensures { result ≡ program_id number }
 {
     ProgramId::new(u32::try_from(number).unwrap_or(u32::MAX))
 }

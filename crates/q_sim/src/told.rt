@@ -3,13 +3,13 @@
 use crate::refusal::{Refusal, RefusedLine};
 use bq_state::Bounds;
 use q_explain::{explain_bytes, explain_code, of_event, write_shown};
-use q_script::{Line, LineFault as Unread, ScriptLine};
+use q_script::{CallLine, Line, LineFault as Unread, ScriptLine};
 use std::alloc::{AllocError, Global};
 
 /// The bytes of the program that a line registers; none where it registers none.
 fn code_of(alloc: Global, text: &str) -> Result<Vec<u8>, AllocError> {
     match ScriptLine::read(alloc, text) {
-        Ok(ScriptLine::Program { code, .. }) => Ok(code),
+        Ok(ScriptLine::Call(CallLine::Program { code, .. })) => Ok(code),
         Ok(_) | Err(Unread::Form) => Ok(Vec::new(alloc)),
         Err(Unread::OutOfMemory) => Err(AllocError),
     }

@@ -11,19 +11,3 @@ returns-clause-stored c = λ value is. (codes "x05fF", refl, inr (codes "05fF", 
 pub returns-clause-asked : goal.returns-clause-asked
 unfolding digits
 returns-clause-asked c = (codes "3 7", refl, (lit< tt, lit< tt, refl))
-
-pub returns-clause-program : goal.returns-clause-program
-unfolding digits
-returns-clause-program c = λ text is. is
-
-pub returns-clause-tag : goal.returns-clause-tag
-unfolding digits
-returns-clause-tag c = λ text is. is
-
-pub returns-clause-query : goal.returns-clause-query
-unfolding digits
-returns-clause-query c = λ text is. is
-
-pub returns-clause-answer : goal.returns-clause-answer
-unfolding digits
-returns-clause-answer c = λ text is. is

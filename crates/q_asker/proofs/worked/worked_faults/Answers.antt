@@ -1,6 +1,5 @@
--- The digits of numbers, computed; what is told wrongly.
+-- What is told wrongly.
 use Rattle.std.proofs.Common.{ℕ, List, [], ◌∷◌, codes, subst, inl, inr}
-use Rattle.std.specs.Fmt.{digits}
 use Rattle.q_script.specs.Lines.{IsFirst}
 use Rattle.q_asker.specs.Script.{IsOther}
 use Rattle.q_asker.proofs.worked.worked_faults.Goals as goal
@@ -17,14 +16,6 @@ returns-clause-registered c = λ code text notes h. cc h.2
 
 pub returns-clause-unsent : goal.returns-clause-unsent
 returns-clause-unsent c = λ heard hearing h. absurd (cc h.1)
-
-pub returns-clause-lost : goal.returns-clause-lost
-unfolding digits
-returns-clause-lost c = λ after is. is
-
-pub returns-clause-refused : goal.returns-clause-refused
-unfolding digits
-returns-clause-refused c = λ after h. h.1
 
 pub returns-clause-failed_file : goal.returns-clause-failed_file
 returns-clause-failed_file c = λ before after h. absurd (cc h.0)

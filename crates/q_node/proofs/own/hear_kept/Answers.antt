@@ -19,6 +19,6 @@ returns-clause-heard g c =
         waiting = h.waiting.items;
         lost = h.lost;
         happened = (k.heard, k.counted);
-        settled = settles_from h.book h.waiting.items h.lost h.unsent old.held.unsent h.asker old.held.asker old.recorder old.questions.items _ _ k.unsent k.asker c.settle_kept.ensures.settled;
+        settled = settles_from c.settle_kept.ensures.settled k.unsent k.asker;
       };
     }

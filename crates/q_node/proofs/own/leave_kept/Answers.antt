@@ -22,6 +22,6 @@ returns-clause-left g c =
         waiting = h.waiting.items;
         lost = h.lost;
         happened = (k.left, k.lost);
-        settled = settles_from h.book h.waiting.items h.lost h.unsent old.held.unsent h.asker old.held.asker old.recorder old.questions.items _ _ k.unsent k.asker c.settle_kept-letters.ensures.settled;
+        settled = settles_from c.settle_kept-letters.ensures.settled k.unsent k.asker;
       };
     }

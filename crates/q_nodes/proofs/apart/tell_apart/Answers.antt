@@ -2,8 +2,8 @@
 use Rattle.std.proofs.Common.{rules, ◌≡◌, ◌+◌, List, [], ◌∷◌, ◌++◌, take, refl, sym, subst}
 use Rattle.std.proofs.lemmas.List.{take_more}
 use Rattle.std.proofs.lemmas.Option.{slice_get_read}
+use Rattle.q_script.specs.declared.call_line.CallLine.{CallLine}
 use Rattle.q_nodes.specs.Lines.{ComesTo, InTurn, IsToldApart}
-use Rattle.q_nodes.specs.declared.script.ClusterLine.{ClusterLine}
 use Rattle.q_nodes.specs.declared.report.Report.{Report}
 use Rattle.q_nodes.proofs.Turns.{turn_at, turn_behind}
 use Rattle.q_nodes.proofs.apart.tell_apart.Goals as goal
@@ -20,6 +20,6 @@ loop-place-preserved c =
     let i = c.loop-place.place in
     let line = c.index-lines-place.result in
     let more : take (i + 1) lines ≡ take i lines ++ line ∷ [] = search (rules, take_more) in
-    subst (λ (ls : List ClusterLine). InTurn (IsToldApart c.args.nodes c.args.books.now) ls c.push.new.self.items) (sym more)
+    subst (λ (ls : List CallLine). InTurn (IsToldApart c.args.nodes c.args.books.now) ls c.push.new.self.items) (sym more)
     (subst (λ (rs : List Report). InTurn (IsToldApart c.args.nodes c.args.books.now) (take i lines ++ line ∷ []) rs) (sym c.in_ok-push.ensures.items)
     (turn_behind (IsToldApart c.args.nodes c.args.books.now) (take i lines) c.loop-place.reports.items line c.tell_line.result c.loop-place.invariant c.tell_line.ensures))

@@ -11,7 +11,7 @@ returns-in-Stored c = (
   subst (λ (o : Outcome). ComesTo c.args.nodes c.args.line.now o) c.in-Stored.is c.requires.came,
   (
     c.own_book.result.now,
-    subst (λ (node : ℕ). own_book c.args.books.now node ≡ Some c.own_book.result.now) c.node_of-node.ensures (sym c.own_book.ensures),
+    subst (λ (node : ℕ). own_book c.args.books.now node ≡ Some c.own_book.result.now) c.node-node.ensures (sym c.own_book.ensures),
     ap not c.is_open.ensures,
   ),
 )
@@ -19,6 +19,6 @@ returns-in-Stored c = (
 pub returns-in-Asked : goal.returns-in-Asked
 returns-in-Asked c = (
   subst (λ (o : Outcome). ComesTo c.args.nodes c.args.line.now o) c.in-Asked.is c.requires.came,
-  c.node_of-node.ensures,
+  c.node-node.ensures,
   (c.own_book-in-Asked.result.now, sym c.own_book-in-Asked.ensures, c.answer.ensures),
 )

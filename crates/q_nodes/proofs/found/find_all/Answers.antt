@@ -7,10 +7,10 @@ use Rattle.indexmap.specs.IndexMap.{get}
 use Rattle.sc_world.specs.Records.{AreDistinct}
 use Rattle.sc_world.specs.declared.op.Op.{Op}
 use Rattle.sc_world.proofs.Runs.{among_get}
+use Rattle.q_script.specs.declared.call_line.CallLine.{CallLine}
 use Rattle.q_nodes.specs.Found.{AreFiled, Finds}
 use Rattle.q_nodes.specs.Lines.{ComesTo, IsTold}
 use Rattle.q_nodes.specs.Lines.{InTurn}
-use Rattle.q_nodes.specs.declared.script.ClusterLine.{ClusterLine}
 use Rattle.q_nodes.specs.declared.report.Report.{Report}
 use Rattle.q_nodes.proofs.Turns.{turn_at, turn_behind}
 use Rattle.q_nodes.proofs.found.find_all.Goals as goal
@@ -44,6 +44,6 @@ loop-place-preserved c =
     let told : IsTold c.args.nodes c.args.cluster.now line c.in-Some-2.report =
     subst (λ (r : Option Report). Finds c.args.nodes c.args.cluster.now line c.in-Some.outcome.now r) c.in-Some-2.is (c.in_ok-report.ensures c.args.nodes came) in
     let more : take (i + 1) lines ≡ take i lines ++ line ∷ [] = search (rules, take_more) in
-    subst (λ (ls : List ClusterLine). InTurn (IsTold c.args.nodes c.args.cluster.now) ls c.push.new.self.items) (sym more)
+    subst (λ (ls : List CallLine). InTurn (IsTold c.args.nodes c.args.cluster.now) ls c.push.new.self.items) (sym more)
     (subst (λ (rs : List Report). InTurn (IsTold c.args.nodes c.args.cluster.now) (take i lines ++ line ∷ []) rs) (sym c.in_ok-push-in-Some-2.ensures.items)
     (turn_behind (IsTold c.args.nodes c.args.cluster.now) (take i lines) c.loop-place.reports.items line c.in-Some-2.report c.loop-place.invariant told))

@@ -1,8 +1,8 @@
 -- find_query: what a line tells that was answered with the query of this number.
 use Rattle.std.proofs.Common.{ℕ, sym, subst}
 use Rattle.q_session.specs.declared.query.Query.{Query}
+use Rattle.q_script.specs.declared.call_line.CallLine.{CallLine}
 use Rattle.q_nodes.specs.Lines.{Has, IsQueryOf}
-use Rattle.q_nodes.specs.declared.script.ClusterLine.{ClusterLine}
 use Rattle.q_nodes.specs.declared.outcome.Outcome.TheVariants as outcome
 use Rattle.q_nodes.proofs.Finding.{query_lost}
 use Rattle.q_nodes.proofs.found.find_query.Goals as goal
@@ -10,4 +10,4 @@ use Rattle.q_nodes.proofs.found.find_query.Goals as goal
 pub returns-in-None : goal.returns-in-None
 returns-in-None c = λ nodes came.
     let none = subst (λ (p : ℕ). (q : Query) → IsQueryOf c.args.cluster.now c.in-Ask.node c.args.query p c.in-Ask.start q → ⊥) c.program_id.ensures c.in-None.ensures in
-    subst (λ (l : ClusterLine). Has c.args.cluster.now l (outcome.Asked c.args.query) → ⊥) (sym c.in-Ask.is) (query_lost c.args.cluster.now c.in-Ask.node c.in-Ask.program c.in-Ask.start c.args.query none)
+    subst (λ (l : CallLine). Has c.args.cluster.now l (outcome.Asked c.args.query) → ⊥) (sym c.in-Ask.is) (query_lost c.args.cluster.now c.in-Ask.node c.in-Ask.program c.in-Ask.start c.args.query none)

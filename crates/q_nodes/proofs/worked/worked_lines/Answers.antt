@@ -3,13 +3,13 @@ use Rattle.std.proofs.Common.{◌≡◌, ◌∙◌, ℕ, Vec, Global, inl, inr, 
 use Rattle.reasons.specs.declared.Reason.{Reason}
 use Rattle.reasons.specs.declared.Reason.TheVariants.{NoSuchNode, OutOfMemory}
 use Rattle.q_history.specs.Headline.{ClusterState}
+use Rattle.q_script.specs.declared.call_line.CallLine.TheVariants as line
 use Rattle.q_nodes.specs.Faults.{no_such_node, of_fault}
 use Rattle.q_nodes.specs.Lines.{IsNode, IsTold}
 use Rattle.q_nodes.specs.declared.fault.ClusterRunFault.{ClusterRunFault}
 use Rattle.q_nodes.specs.declared.outcome.Outcome.TheVariants as outcome
 use Rattle.q_nodes.specs.declared.report.Report.{Report}
 use Rattle.q_nodes.specs.declared.report.Report.TheVariants.{Refused, Registered, Stored, Asked}
-use Rattle.q_nodes.specs.declared.script.ClusterLine.TheVariants as line
 use Rattle.q_nodes.proofs.NoNode.{store_finds_a_node}
 use Rattle.q_nodes.proofs.Untold.{another_program}
 use Rattle.q_nodes.proofs.worked.worked_lines.Goals as goal

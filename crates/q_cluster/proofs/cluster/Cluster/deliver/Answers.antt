@@ -16,7 +16,7 @@ record-sent-requires-clause-ready c =
     (counted_right c.self.invariant c.self.view_is c.in-Some-get_mut.ensures.book c.in-Some.taken.now c.in_ok-outs.field-0 c.in_ok-outs.ensures c.in_ok-ready.ready past c.in_ok-reserve.ensures.past c.in_ok-ready.ensures)
 
 -- what the ledger then has: the operation that the message moves, and none that begins
-module _ (c : goal.After-record-sent) where
+module _ (c : goal.After-told) where
   records : c.record-sent.new.self.past ≡ recorded c.reserve.new.self.past (world_event.Deliver c.args.message c.args.id) c.args.id c.in_ok-outs.field-0.outs c.in_ok-outs.field-0.progress None
   records = c.record-sent.ensures.past ∙ (λ i. recorded c.reserve.new.self.past (world_event.Deliver c.args.message c.args.id) c.args.id c.in_ok-outs.field-0.outs (c.by_message.ensures.moves i) (c.by_message.ensures.begun i))
 
