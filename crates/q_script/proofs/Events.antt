@@ -90,11 +90,11 @@ pub not_alone : (s : List ℕ) → (s ≡ name command.Pairs → ⊥) → (line 
 not_alone s n Pairs h = n h
 not_alone s n _ h = h
 
-pub alone_lacks : (s : List ℕ) (line : ScriptLine) → IsAlone s line → Lacks 32 s
+alone_lacks : (s : List ℕ) (line : ScriptLine) → IsAlone s line → Lacks 32 s
 alone_lacks s Pairs h = subst (Lacks 32) (sym h) (name_lacks_space command.Pairs)
 alone_lacks s _ h = absurd h
 
-pub no_command_there : (s : List ℕ) → Lacks 32 s → (line : ScriptLine) → HasCommand s line → ⊥
+no_command_there : (s : List ℕ) → Lacks 32 s → (line : ScriptLine) → HasCommand s line → ⊥
 no_command_there s l line h = never_cut 32 s (name h.command) h.rest l (name_lacks_space h.command, h.parts)
 
 -- a line without a space
@@ -103,7 +103,7 @@ alone_judged s (Ok line) l h = inl h
 alone_judged s (Err Form) l h = λ line p. elim p [ inl a ↦ h line a | inr b ↦ no_command_there s l line b ]
 alone_judged s (Err OutOfMemory) l h = tt
 
-pub same_word : (s a b : List ℕ) (line : ScriptLine) (h : HasCommand s line) → IsCut 32 s a b → (a ≡ name h.command) × (b ≡ h.rest)
+same_word : (s a b : List ℕ) (line : ScriptLine) (h : HasCommand s line) → IsCut 32 s a b → (a ≡ name h.command) × (b ≡ h.rest)
 same_word s a b line h e = cut_once 32 s a b (name h.command) h.rest e (name_lacks_space h.command, h.parts)
 
 -- a line with a space has a command with operands
