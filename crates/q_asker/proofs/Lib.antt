@@ -6,4 +6,3 @@ mod Beginnings
 mod Looking
 mod Running
 mod Halting
-mod OnLiterals

@@ -19,7 +19,7 @@ ghost use Rattle.q_asker.specs.declared.replies.ReplyKind.TheVariants as kind;
 ghost use Rattle.q_asker.specs.declared.script.ClientLine.TheVariants as line;
 
 /// What the definitions say of telling lines, replies, steps and endings.
-#[tactic(auto, unfolding(spelling::specs::Numbers::number_bytes, crate::proofs::OnLiterals::digits_on_literals))]
+#[tactic(auto, unfolding(spelling::specs::Numbers::number_bytes, q_script::proofs::OnLiterals::digits_on_literals))]
 pub fn worked()
     // Lines: no node stands in them, and an empty text has none.
     ensures stored { (value : _) → value.items ≡ 5 ∷ 255 ∷ [] → SpellsLine (codes "store x05fF") (line.Store value) }
@@ -61,7 +61,7 @@ pub fn worked()
 {}
 
 /// What the definitions say of lines and replies that are told wrongly, and of the last line of a run.
-#[tactic(auto, unfolding(spelling::specs::Numbers::number_bytes, crate::proofs::OnLiterals::digits_on_literals))]
+#[tactic(auto, unfolding(spelling::specs::Numbers::number_bytes, q_script::proofs::OnLiterals::digits_on_literals))]
 pub fn worked_faults()
     // A text of one line is not refused at its second, and what is registered is the program's own bytes.
     ensures second_of_one { (source : List ℕ) → record_lines source ≡ codes "x" ∷ []

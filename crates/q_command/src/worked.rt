@@ -26,6 +26,7 @@ ghost use Rattle.q_command.specs.declared.refused_command.RefusedCommand.{Refuse
 ghost use Rattle.q_command.specs.declared.perform.CommandEnding.TheVariants as ending;
 
 /// What the definitions say of programs, journals, answers, refusals and ends, over files in memory.
+#[tactic(auto, unfolding(q_script::proofs::OnLiterals::digits_on_literals))]
 pub fn worked()
     // Programs and their listings.
     ensures of_the_text { (source : List ℕ) (text : List Insn) → IsProgram source text → IsSource source text }

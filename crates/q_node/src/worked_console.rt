@@ -22,6 +22,7 @@ ghost use Rattle.q_node.specs.declared.ending.NodeEnding.TheVariants as ending;
 ghost use Rattle.q_node.specs.declared.fault.StartFault.TheVariants as fault;
 
 /// The lines that are printed and read.
+#[tactic(auto, unfolding(q_script::proofs::OnLiterals::digits_on_literals))]
 pub fn worked()
     ensures status { status_line (record { joined = true; present = 3; events = 4142; queries = 82; underway = 0 }) ≡ codes "status joined true present 3 events 4142 of 65536 queries 82 of 4096 open 0\n" }
     ensures journal { journal_line 4142 ≡ codes "journal 4142 events\n" }
@@ -46,6 +47,7 @@ pub fn worked()
 {}
 
 /// How a run ends.
+#[tactic(auto, unfolding(q_script::proofs::OnLiterals::digits_on_literals))]
 pub fn worked_endings()
     ensures ended { (events : ℕ) → status_of (ending.Ended events) ≡ 0 }
     ensures mute { status_of (ending.Stopped unrecorded.Failed) ≡ 1 }

@@ -78,6 +78,7 @@ pub fn worked()
 {}
 
 /// Which lines are printed.
+#[tactic(auto, unfolding(q_script::proofs::OnLiterals::digits_on_literals))]
 pub fn worked_texts()
     ensures refused { refused_line faults.no_such_node ≡ codes "refused 81 NoSuchNode\n" }
     ensures refused_count { refused_line BadCount ≡ codes "refused 62 BadCount\n" }

@@ -4,6 +4,7 @@ pub mod Pairs
 pub mod Commands
 pub mod Events
 pub mod Calls
+pub mod OnLiterals
 pub mod Foundings
 pub mod Lines
 pub mod Scripts

@@ -36,6 +36,7 @@ ghost use Rattle.sc_world.specs.Operations.{IsMeeting};
 ghost use Rattle.sc_world.specs.declared.op.Op.{Op};
 
 /// What the definitions say of programs, deliveries, refusals, printed lines and scripts, over files in memory.
+#[tactic(auto, unfolding(q_script::proofs::OnLiterals::digits_on_literals))]
 pub fn worked()
     // Programs: the bytes are those of the program, and it may read 16 bytes of a record without a look at its length.
     ensures lengths { program_lengths ≡ between 16 128 }

@@ -69,14 +69,6 @@ pub returns-clause-checked_as_bytes : goal.returns-clause-checked_as_bytes
 returns-clause-checked_as_bytes c = λ asked source lines unsaved old new is h.
     (h.text, (subst (λ (held : ProgramForm). Spells held source h.text) is h.verified.program).1)
 
-pub returns-clause-accepted_alone : goal.returns-clause-accepted_alone
-unfolding digits
-returns-clause-accepted_alone c = λ text notes. refl
-
-pub returns-clause-accepted_with_states : goal.returns-clause-accepted_with_states
-unfolding digits
-returns-clause-accepted_with_states c = refl
-
 pub returns-clause-unasked : goal.returns-clause-unasked
 unfolding digits
 returns-clause-unasked c = λ asked source lines unsaved old new states none h one.

@@ -1,22 +1,9 @@
--- The digits of numbers, computed; what a book did that left.
-use Rattle.std.proofs.Common.{List, ap, refl, sym}
-use Rattle.std.specs.Fmt.{digits}
+-- worked: what a book did that left.
+use Rattle.std.proofs.Common.{List, ap, sym}
 use Rattle.sc_msg.specs.declared.message.Message.{Message}
 use Rattle.q_book.specs.State.{BookState}
 use Rattle.q_book.proofs.Parts.{left-parts}
 use Rattle.q_node.proofs.worked_console.worked.Goals as goal
-
-pub returns-clause-status : goal.returns-clause-status
-unfolding digits
-returns-clause-status c = refl
-
-pub returns-clause-journal : goal.returns-clause-journal
-unfolding digits
-returns-clause-journal c = refl
-
-pub returns-clause-refused : goal.returns-clause-refused
-unfolding digits
-returns-clause-refused c = refl
 
 pub returns-clause-left : goal.returns-clause-left
 returns-clause-left c = λ node h.

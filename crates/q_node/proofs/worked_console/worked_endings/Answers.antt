@@ -1,18 +1,9 @@
--- The digits of numbers, computed; what stands in a file, and before a last line.
+-- worked_endings: what stands in a file, and before a last line.
 use Rattle.std.proofs.Common.{◌≡◌, ◌<◌, ℕ, List, [], ◌∷◌, ◌++◌, get_or, length, ap, sym, arith, length-append}
-use Rattle.std.specs.Fmt.{digits}
 use Rattle.std.specs.List.{flat_map}
 use Rattle.q_node.specs.Console.{said_line}
 use Rattle.q_node.specs.Runs.{IsFront, journal_line}
 use Rattle.q_node.proofs.worked_console.worked_endings.Goals as goal
-
-pub returns-clause-alone : goal.returns-clause-alone
-unfolding digits
-returns-clause-alone c = λ node greeting after is. is
-
-pub returns-clause-line : goal.returns-clause-line
-unfolding digits
-returns-clause-line c = λ node greeting after is. is
 
 pub returns-clause-unwritten : goal.returns-clause-unwritten
 returns-clause-unwritten c = λ node events h.

@@ -1,8 +1,7 @@
 -- worked: what the definitions say of programs, deliveries, refusals, printed lines and scripts, over files in
 -- memory.
-use Rattle.std.proofs.Common.{◌≡◌, ◌≢◌, ℕ, List, ◌∷◌, [], Some, Result, Ok, Err, ◌+◌, ◌++◌, append-nil, length, true≢false, refl, ap, sym, ◌∙◌, inl, inr, subst, arith}
+use Rattle.std.proofs.Common.{◌≡◌, ◌≢◌, ℕ, List, ◌∷◌, [], Some, Result, Ok, Err, ◌+◌, ◌++◌, append-nil, length, true≢false, ap, sym, ◌∙◌, inl, inr, subst, arith}
 use Rattle.std.specs.FinSet as set
-use Rattle.std.specs.Fmt.{digits}
 use Rattle.bq_insn.specs.Insn.{unit_bytes}
 use Rattle.bq_insn.specs.Slots.{spelling}
 use Rattle.q_outside.specs.Memory.{Writes}
@@ -74,18 +73,6 @@ returns-clause-refused_delivery c = λ s t h. h.faults
 
 pub returns-clause-first_event : goal.returns-clause-first_event
 returns-clause-first_event c = λ f s h. ap (λ n. n + 1) h.line
-
-pub returns-clause-want_of_memory_is_told : goal.returns-clause-want_of_memory_is_told
-unfolding digits
-returns-clause-want_of_memory_is_told c = refl
-
-pub returns-clause-answer : goal.returns-clause-answer
-unfolding digits
-returns-clause-answer c = refl
-
-pub returns-clause-message : goal.returns-clause-message
-unfolding digits
-returns-clause-message c = refl
 
 pub returns-clause-meeting : goal.returns-clause-meeting
 returns-clause-meeting c = λ store collect text h. (h.least, h.meeting, h.says)
