@@ -1,13 +1,13 @@
 //! Jobs to be run, and how long they took.
 
 ghost use Rattle.std.specs.Prelude.{◌≡◌};
-ghost use Rattle.q_sim.specs.Programs.{program_lengths};
+ghost use Rattle.q_told.specs.Programs.{program_lengths};
 
 use anyhow::{Context, Result, anyhow};
 use q_session::laws::records_of_values;
 use q_session::{Job, Phase, Query};
-use q_sim::certified_code;
 use q_table::{Program, ProgramId};
+use q_told::certified_code;
 use sc_view::{Stored, VALUE_LENGTH, Value, View};
 use std::alloc::Global;
 use std::time::Duration;

@@ -1,7 +1,7 @@
 -- The steps of lines, and what begins them.
 use Rattle.std.proofs.Common.{◌≡◌, List, [], ◌∷◌, ◌++◌, inl, refl, ap, sym, ◌∙◌, subst, append_assoc, append-nil}
 use Rattle.reasons.specs.declared.Reason.TheVariants as reasons
-use Rattle.q_sim.specs.declared.refusal.RefusalPlace.TheVariants.{Untold}
+use Rattle.q_told.specs.declared.refusal.RefusalPlace.TheVariants.{Untold}
 use Rattle.q_asker.specs.Steps.{AreOf, AreOfAll, BeginAll, Step, Unmade}
 use Rattle.q_asker.specs.declared.script.ClientLine.{ClientLine}
 

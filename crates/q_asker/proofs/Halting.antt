@@ -2,8 +2,8 @@
 use Rattle.std.proofs.Common.{◌≡◌, ℕ, List, Option, None, Err, refl, ap, sym, ◌∙◌, subst}
 use Rattle.std.specs.Io.KnownBytes.{Appends}
 use Rattle.reasons.specs.declared.Reason.TheVariants as reasons
-use Rattle.q_sim.specs.Line.{line_of}
-use Rattle.q_sim.specs.declared.refusal.RefusalPlace.TheVariants.{Untold}
+use Rattle.q_told.specs.Line.{line_of}
+use Rattle.q_told.specs.declared.refusal.RefusalPlace.TheVariants.{Untold}
 use Rattle.q_asker.specs.declared.connection.ExchangeFault.TheVariants.{Unheard}
 use Rattle.q_asker.specs.declared.ending.ClientEnding.{ClientEnding}
 use Rattle.q_asker.specs.declared.ending.ClientEnding.TheVariants as ending

@@ -4,8 +4,8 @@ use Rattle.std.specs.Io.KnownBytes.{Appends, Consumes}
 use Rattle.std.proofs.KnownBytes.{Appends-nil, Appends-trans, Consumes-nil, Consumes-trans}
 use Rattle.std.proofs.lemmas.List.Concat.{flat_map-append}
 use Rattle.reasons.specs.declared.Reason.{Reason}
-use Rattle.q_sim.specs.Line.{line_of}
-use Rattle.q_sim.specs.declared.refusal.RefusalPlace.{RefusalPlace}
+use Rattle.q_told.specs.Line.{line_of}
+use Rattle.q_told.specs.declared.refusal.RefusalPlace.{RefusalPlace}
 use Rattle.q_net.specs.declared.request.Request.{Request}
 use Rattle.q_asker.specs.declared.connection.ExchangeFault.{ExchangeFault}
 use Rattle.q_asker.specs.declared.connection.ExchangeFault.TheVariants.{OutOfMemory}

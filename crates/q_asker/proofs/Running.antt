@@ -4,8 +4,8 @@ use Rattle.std.specs.Prelude.{IfOk, IsErrAnd}
 use Rattle.std.proofs.Math.Bool.{and_comm, and-true}
 use Rattle.std.proofs.lemmas.List.Folds.{list_all-append}
 use Rattle.reasons.specs.declared.Reason.{Reason}
-use Rattle.q_sim.specs.Line.{line_of}
-use Rattle.q_sim.specs.declared.refusal.RefusalPlace.{RefusalPlace}
+use Rattle.q_told.specs.Line.{line_of}
+use Rattle.q_told.specs.declared.refusal.RefusalPlace.{RefusalPlace}
 use Rattle.q_net.specs.declared.replies.Reply.{Reply}
 use Rattle.q_net.specs.declared.replies.Reply.TheVariants as reply
 use Rattle.q_net.specs.declared.request.Request.{Request}

@@ -5,11 +5,11 @@ use Rattle.reasons.specs.declared.Reason.TheVariants as reasons
 use Rattle.bq_check.specs.Certificate.{Certificate}
 use Rattle.bq_check.specs.Spelling.{notes_bytes}
 use Rattle.bq_check.specs.declared.form.NotesForm.TheVariants as form
-use Rattle.q_sim.specs.Programs.{IsProgram, IsRefusal}
-use Rattle.q_sim.specs.Refusal as refusal
-use Rattle.q_sim.specs.declared.refusal.RefusalPlace.{RefusalPlace}
-use Rattle.q_sim.specs.declared.refusal.RefusalPlace.TheVariants.{Untold}
-use Rattle.q_sim.specs.declared.refusal.Refusal.{Refusal}
+use Rattle.q_told.specs.Programs.{IsProgram, IsRefusal}
+use Rattle.q_told.specs.Refusal as refusal
+use Rattle.q_told.specs.declared.refusal.RefusalPlace.{RefusalPlace}
+use Rattle.q_told.specs.declared.refusal.RefusalPlace.TheVariants.{Untold}
+use Rattle.q_told.specs.declared.refusal.Refusal.{Refusal}
 use Rattle.q_net.specs.declared.request.Request.{Request}
 use Rattle.q_net.specs.declared.request.Request.TheVariants as request
 use Rattle.q_asker.specs.declared.script.ClientLine.{ClientLine}

@@ -4,12 +4,12 @@ use Rattle.std.specs.Prelude.{Option, Some, None, Result, Ok, Err}
 use Rattle.std.specs.Io.KnownBytes.{Appends, Consumes}
 use Rattle.reasons.specs.declared.Reason.TheVariants as reasons
 use Rattle.q_outside.specs.declared.files.FileFault.{FileFault}
-use Rattle.q_sim.specs.Line.{line_of}
+use Rattle.q_told.specs.Line.{line_of}
 use Rattle.q_script.specs.declared.script.ScriptFault.{ScriptFault}
-use Rattle.q_sim.specs.Refusal.{refusal_line, refusal_of}
-use Rattle.q_sim.specs.declared.refusal.RefusalPlace.TheVariants.{Untold}
-use Rattle.q_sim.specs.declared.refusal.Refusal.{Refusal}
-use Rattle.q_sim.specs.declared.refusal.Refusal.TheVariants as refusal
+use Rattle.q_told.specs.Refusal.{refusal_line, refusal_of}
+use Rattle.q_told.specs.declared.refusal.RefusalPlace.TheVariants.{Untold}
+use Rattle.q_told.specs.declared.refusal.Refusal.{Refusal}
+use Rattle.q_told.specs.declared.refusal.Refusal.TheVariants as refusal
 use Rattle.q_net.specs.declared.replies.Reply.{Reply}
 use Rattle.q_net.specs.declared.request.Request.{Request}
 use Rattle.q_outside.specs.Counts.{one_more}

@@ -5,9 +5,9 @@ use Rattle.std.specs.Io.KnownBytes.{Appends, Consumes}
 use Rattle.std.specs.List.{flat_map, list_all}
 use Rattle.reasons.specs.Table.{number}
 use Rattle.reasons.specs.declared.Reason.{Reason}
-use Rattle.q_sim.specs.Line.{line_of}
-use Rattle.q_sim.specs.declared.refusal.RefusalPlace.{RefusalPlace}
-use Rattle.q_sim.specs.declared.refusal.RefusalPlace.TheVariants.{Untold}
+use Rattle.q_told.specs.Line.{line_of}
+use Rattle.q_told.specs.declared.refusal.RefusalPlace.{RefusalPlace}
+use Rattle.q_told.specs.declared.refusal.RefusalPlace.TheVariants.{Untold}
 use Rattle.q_net.specs.Replies.{reply_bytes}
 use Rattle.q_net.specs.Requests.{spelling}
 use Rattle.q_net.specs.declared.replies.Reply.{Reply}

@@ -10,7 +10,7 @@ use crate::notes::note_unconnected;
 use crate::run::{print_lost, run_lines};
 use crate::script::{ClientLine, read_client_script};
 use q_outside::{Counted, Files, LONGEST_TEXT};
-use q_sim::Refusal;
+use q_told::Refusal;
 use std::alloc::Global;
 use std::io::{Read, Write};
 use std::net::Net;

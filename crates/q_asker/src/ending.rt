@@ -4,7 +4,7 @@ ghost use Rattle.std.specs.Prelude.{◌≡◌};
 ghost use Rattle.q_asker.specs.Runs.{IsRefusedAlone, failures_after, status_of};
 
 use q_outside::Counted;
-use q_sim::{Refusal, put_refusal};
+use q_told::{Refusal, put_refusal};
 use std::io::Write;
 
 /// How a run ended.

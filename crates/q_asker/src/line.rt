@@ -12,7 +12,7 @@ use crate::script::ClientLine;
 use crate::step::{Cause, Halt, LineEnd, end_of, refuse_line, tell_exchange};
 use q_net::{Reply, Request};
 use q_outside::Counted;
-use q_sim::RefusalPlace;
+use q_told::RefusalPlace;
 use reasons::Reason;
 use std::alloc::Global;
 use std::io::{Read, Write};

@@ -1,12 +1,12 @@
 //! The requests that lines make.
 
 ghost use Rattle.std.specs.Prelude.{◌≡◌, ◌<◌, length, IfErr, IfOk, MatchOption};
-ghost use Rattle.q_sim.specs.Programs.{IsRefusal};
+ghost use Rattle.q_told.specs.Programs.{IsRefusal};
 ghost use Rattle.q_asker.specs.Makes.{IsRegistration, program_number, most_value};
 ghost use Rattle.q_net.specs.declared.request.Request.TheVariants as request;
 
 use q_net::{Blob, Request, Short};
-use q_sim::{Refusal, certified_code};
+use q_told::{Refusal, certified_code};
 use std::alloc::Global;
 
 /// The request that registers the program of these bytes, with the notes that the verifier finds for records of 16 to

@@ -7,7 +7,7 @@ use crate::step::{Cause, LineEnd};
 use bq_state::Bounds;
 use q_explain::{explain_bytes, explain_code, of_event, write_shown};
 use q_script::LineFault;
-use q_sim::Refusal;
+use q_told::Refusal;
 use reasons::Reason;
 use std::alloc::{AllocError, Global};
 use std::io;

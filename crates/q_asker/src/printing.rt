@@ -3,7 +3,7 @@
 ghost use Rattle.std.specs.Prelude.{◌≡◌, ℕ, List, OnOk, OnErr};
 ghost use Rattle.std.specs.Io.KnownBytes.{Appends};
 ghost use Rattle.q_outside.specs.Counts.{count_after};
-ghost use Rattle.q_sim.specs.Line.{line_of};
+ghost use Rattle.q_told.specs.Line.{line_of};
 ghost use Rattle.reasons.specs.Table as table;
 ghost use Rattle.reasons.specs.declared.Reason.{Reason as Why};
 ghost use Rattle.q_asker.specs.Replies.{IsRefusal, MayReply};
@@ -12,7 +12,7 @@ ghost use Rattle.q_asker.specs.Steps.{Tells, number_word, query_of};
 use crate::replies::reason_of;
 use q_net::{Reply, Request};
 use q_outside::{Counted, Piece, TransportFailed};
-use q_sim::{RefusalPlace, put_line};
+use q_told::{RefusalPlace, put_line};
 use std::io::Write;
 
 /// The word before a number that a request is replied to.

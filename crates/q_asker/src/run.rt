@@ -12,7 +12,7 @@ use crate::notes::{note_line, note_lost};
 use crate::script::{ClientLine, read_client_script};
 use crate::step::{Halt, LineEnd};
 use q_outside::Counted;
-use q_sim::{Refusal, RefusalPlace, put_line};
+use q_told::{Refusal, RefusalPlace, put_line};
 use reasons::Reason;
 use std::alloc::Global;
 use std::io::{Read, Write};

@@ -1,7 +1,7 @@
 //! The steps of a run: what was sent, heard and printed.
 
 ghost use Rattle.std.specs.Prelude.{◌≡◌, IfOk, false};
-ghost use Rattle.q_sim.specs.Line.{line_of};
+ghost use Rattle.q_told.specs.Line.{line_of};
 ghost use Rattle.q_asker.specs.Runs.{Prints, Takes, count_after, is_done_end};
 ghost use Rattle.q_asker.specs.Steps.{is_done_reply, streams, unanswered_line};
 
@@ -9,7 +9,7 @@ use crate::connection::{Connection, ExchangeFault, exchange};
 use crate::printing::put_told;
 use q_net::{Reply, Request};
 use q_outside::{Counted, TransportFailed};
-use q_sim::{Refusal, RefusalPlace, put_line};
+use q_told::{Refusal, RefusalPlace, put_line};
 use reasons::Reason;
 use std::alloc::Global;
 use std::io::{Read, Write};

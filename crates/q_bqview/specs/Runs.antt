@@ -3,9 +3,9 @@ use Rattle.std.specs.Prelude.{◌≡◌, ◌⊎◌, ℕ, Bool, List, Option, Ok,
 use Rattle.std.specs.Io.KnownBytes.{Appends}
 use Rattle.std.specs.declared.io.Error as io
 use Rattle.q_outside.specs.Files.{Reading}
-use Rattle.q_sim.specs.Refusal.{refusal_line}
+use Rattle.q_told.specs.Refusal.{refusal_line}
 use Rattle.q_sim.specs.Simulates.{Writing}
-use Rattle.q_sim.specs.declared.refusal.Refusal.TheVariants as refusal
+use Rattle.q_told.specs.declared.refusal.Refusal.TheVariants as refusal
 use Rattle.q_outside.specs.Counts.{one_more}
 use Rattle.q_outside.specs.declared.counted.Counted.{Counted}
 use Rattle.q_command.specs.Words.{Reads, TellsUngiven, exit_status}

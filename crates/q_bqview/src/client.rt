@@ -2,7 +2,7 @@
 
 use q_explain::write_shown;
 use q_script::ScriptFault;
-use q_sim::Refusal;
+use q_told::Refusal;
 use std::alloc::{AllocError, Global};
 use std::str;
 

@@ -14,7 +14,7 @@ use q_command::{
 use q_nodes::{ClusterEnding, ClusterRunFault, FileRun, run_file};
 use q_outside::{Counted, Files};
 use q_script::NodeWords;
-use q_sim::{Refusal, put_refusal};
+use q_told::{Refusal, put_refusal};
 use std::alloc::{AllocError, Global};
 use std::convert::AsStr;
 use std::env::Args;

@@ -3,9 +3,9 @@ use Rattle.std.proofs.Common.{ℕ, List}
 use Rattle.bq_insn.specs.declared.insn.Insn.{Insn}
 use Rattle.bq_range.specs.Interval.{Interval}
 use Rattle.bq_check.specs.declared.fault.CheckFault.{CheckFault}
-use Rattle.q_sim.specs.Programs.{IsUncertified}
-use Rattle.q_sim.specs.declared.refusal.Refusal.{Refusal}
-use Rattle.q_sim.specs.declared.refusal.Refusal.TheVariants.{Program, OutOfMemory}
+use Rattle.q_told.specs.Programs.{IsUncertified}
+use Rattle.q_told.specs.declared.refusal.Refusal.{Refusal}
+use Rattle.q_told.specs.declared.refusal.Refusal.TheVariants.{Program, OutOfMemory}
 use Rattle.q_command.specs.declared.words.ProgramForm.{ProgramForm}
 use Rattle.q_command.specs.declared.words.ProgramForm.TheVariants.{Text, Bytes}
 use Rattle.q_command.specs.Perform.{IsUnaccepted, IsUnspelled, Spells}

@@ -4,8 +4,8 @@ use Rattle.std.specs.Prelude.{IsUtf8}
 use Rattle.q_script.specs.Script.{IsScript}
 use Rattle.q_script.specs.declared.script.Script.{Script as Events}
 use Rattle.q_sim.specs.Simulates.{IsSimulationFault}
-use Rattle.q_sim.specs.declared.refusal.Refusal.{Refusal}
-use Rattle.q_sim.specs.declared.refusal.Refusal.TheVariants.{FileFailed, Script}
+use Rattle.q_told.specs.declared.refusal.Refusal.{Refusal}
+use Rattle.q_told.specs.declared.refusal.Refusal.TheVariants.{FileFailed, Script}
 use Rattle.q_command.specs.Perform.{IsUnsimulated, Refuses}
 use Rattle.q_command.specs.declared.refused_command.RefusedCommand.{RefusedCommand}
 use Rattle.q_outside.specs.Files.{Reading}

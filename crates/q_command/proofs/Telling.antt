@@ -14,7 +14,7 @@ use Rattle.q_history.proofs.EveryHistory.{kept_true}
 use Rattle.q_history.proofs.Histories.{history_kept}
 use Rattle.q_history.proofs.Lists.{no_some}
 use Rattle.q_gather.specs.Gather.{GathersBooks}
-use Rattle.q_sim.specs.Printing.{TellsPairs, AddsPairs, ended_pairs_of}
+use Rattle.q_told.specs.Printing.{TellsPairs, AddsPairs, ended_pairs_of}
 use Rattle.q_command.specs.GatheredLines.{answers_of}
 use Rattle.q_command.specs.Tells.{Tells}
 use Rattle.q_command.specs.Truth.{AnswersAreTrue}

@@ -1,9 +1,9 @@
 -- Of which refusals a person is told something.
 use Rattle.std.specs.Prelude.{◌≢◌, ◌==◌, List, ℕ, Bool, true, false, Option, Some, None, IsUtf8}
 use Rattle.reasons.specs.Table.{number}
-use Rattle.q_sim.specs.Refusal.{reason}
-use Rattle.q_sim.specs.declared.refusal.Refusal.{Refusal}
-use Rattle.q_sim.specs.declared.refusal.Refusal.TheVariants.{FileFailed, Script, Fraction, Cluster}
+use Rattle.q_told.specs.Refusal.{reason}
+use Rattle.q_told.specs.declared.refusal.Refusal.{Refusal}
+use Rattle.q_told.specs.declared.refusal.Refusal.TheVariants.{FileFailed, Script, Fraction, Cluster}
 
 -- The refusal of these bytes is none for want of memory; and where a file failed, it is for bytes that are no text.
 abbrev pub IsExplained : Refusal → List ℕ → Type 0

@@ -7,8 +7,8 @@ use Rattle.q_desk.specs.Desks.{answer_in}
 use Rattle.q_book.specs.State.{BookState}
 use Rattle.q_replay.specs.Journal.{journal_of, IsJournalled}
 use Rattle.q_replay.specs.Replayed.{IsFault}
-use Rattle.q_sim.specs.declared.refusal.Refusal.{Refusal}
-use Rattle.q_sim.specs.declared.refusal.Refusal.TheVariants as refusal
+use Rattle.q_told.specs.declared.refusal.Refusal.{Refusal}
+use Rattle.q_told.specs.declared.refusal.Refusal.TheVariants as refusal
 
 -- the answer of the query of this number, if it is recorded
 abbrev pub answer_line : ℕ → Option Ran → List ℕ

@@ -8,9 +8,9 @@ use Rattle.q_gather.specs.Gather.{AreRefused}
 use Rattle.q_gather.specs.declared.fault.GatherFault.{GatherFault}
 use Rattle.q_history.specs.Headline.{ClusterState}
 use Rattle.q_replay.specs.declared.fault.ReplayFault.{ReplayFault}
-use Rattle.q_sim.specs.Refusal.{refusal_line, refusal_of}
-use Rattle.q_sim.specs.declared.refusal.Refusal.{Refusal}
-use Rattle.q_sim.specs.declared.refusal.Refusal.TheVariants as refusal
+use Rattle.q_told.specs.Refusal.{refusal_line, refusal_of}
+use Rattle.q_told.specs.declared.refusal.Refusal.{Refusal}
+use Rattle.q_told.specs.declared.refusal.Refusal.TheVariants as refusal
 use Rattle.q_outside.specs.Counts.{one_more}
 use Rattle.q_command.specs.Beginning.{IsBeginning, IsRefused}
 use Rattle.q_command.specs.GatheredLines.{journal_line}

@@ -23,10 +23,10 @@ use Rattle.q_script.specs.Records.{IsView}
 use Rattle.q_script.specs.Script as scripts
 use Rattle.q_script.specs.Script.{IsScript}
 use Rattle.q_script.specs.declared.script.Script.{Script}
-use Rattle.q_sim.specs.declared.refusal.Refusal.{Refusal}
-use Rattle.q_sim.specs.declared.refusal.Refusal.TheVariants as refusal
-use Rattle.q_sim.specs.Programs.{IsUncertified}
-use Rattle.q_sim.specs.Refusal.{refusal_line, refusal_of}
+use Rattle.q_told.specs.declared.refusal.Refusal.{Refusal}
+use Rattle.q_told.specs.declared.refusal.Refusal.TheVariants as refusal
+use Rattle.q_told.specs.Programs.{IsUncertified}
+use Rattle.q_told.specs.Refusal.{refusal_line, refusal_of}
 use Rattle.q_sim.specs.Simulates.{IsSimulationFault, Simulates, Writing}
 use Rattle.q_command.specs.Audit.{Audits, IsUnaudited}
 use Rattle.q_command.specs.Listing.{listing_of}

@@ -6,9 +6,9 @@ use Rattle.q_gather.specs.declared.fault.GatherFault.{GatherFault}
 use Rattle.q_gather.specs.declared.fault.GatherFault.TheVariants as gather
 use Rattle.q_history.specs.Headline.{ClusterState}
 use Rattle.reasons.specs.declared.Reason.TheVariants as reasons
-use Rattle.q_sim.specs.Printing.{TellsPairs, ended_pairs_of}
-use Rattle.q_sim.specs.declared.refusal.Refusal.{Refusal}
-use Rattle.q_sim.specs.declared.refusal.Refusal.TheVariants as refusal
+use Rattle.q_told.specs.Printing.{TellsPairs, ended_pairs_of}
+use Rattle.q_told.specs.declared.refusal.Refusal.{Refusal}
+use Rattle.q_told.specs.declared.refusal.Refusal.TheVariants as refusal
 use Rattle.q_command.specs.GatheredLines.{answers_of}
 use Rattle.q_command.specs.Truth.{AnswersAreTrue}
 

@@ -17,7 +17,7 @@ use q_explain::{
 };
 use q_replay::ReplayFault;
 use q_script::{RecordFault, RecordsFault, ScriptFault};
-use q_sim::Refusal;
+use q_told::Refusal;
 use std::alloc::{AllocError, Global};
 use std::str;
 

@@ -7,7 +7,7 @@ ghost use Rattle.q_command.specs.Audit.{Audits, IsUnaudited, answer_line, answer
 use q_book::Book;
 use q_replay::replay;
 use q_session::{Phase, Query};
-use q_sim::Refusal;
+use q_told::Refusal;
 use std::alloc::{AllocError, Global};
 
 /// Prints the answer of the query of this number, if it is recorded.

@@ -10,7 +10,8 @@ use bq_check::{Certified, Notes};
 use bq_state::Bounds;
 use q_explain::states;
 use q_outside::{FileFault, Files};
-use q_sim::{Printed, Refusal};
+use q_sim::Printed;
+use q_told::Refusal;
 use std::alloc::{AllocError, Global};
 
 /// What `check` is asked of the program in a file.

@@ -3,7 +3,7 @@
 ghost use Rattle.std.specs.Prelude.{◌≡◌};
 ghost use Rattle.q_command.specs.JournalFiles.{status_of};
 
-use q_sim::Refusal;
+use q_told::Refusal;
 
 /// How gathering files ended.
 #[derive(Clone, Copy)]

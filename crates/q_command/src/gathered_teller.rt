@@ -3,7 +3,7 @@
 ghost use Rattle.std.specs.Prelude.{◌≡◌, ◌++◌, ℕ, List, [], IfOk, IfErr, OnOk, codes, string_bytes, if◌then◌else◌};
 ghost use Rattle.q_gather.specs.Gather.{AreRefused, GathersBooks};
 ghost use Rattle.q_history.specs.Headline.{ClusterState};
-ghost use Rattle.q_sim.specs.Printing.{AddsPairs, ended_pairs_of};
+ghost use Rattle.q_told.specs.Printing.{AddsPairs, ended_pairs_of};
 ghost use Rattle.q_command.specs.Tells.{Tells};
 
 use crate::gathered_answers::print_answers;
@@ -11,7 +11,7 @@ use crate::laws::every_gathered_answer_is_true;
 use q_book::Book;
 use q_cluster::Cluster;
 use q_gather::{GatherFault, gather_books};
-use q_sim::print_ended_pairs;
+use q_told::print_ended_pairs;
 use sc_world::Op;
 use std::alloc::{AllocError, Global};
 

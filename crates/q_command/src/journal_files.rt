@@ -12,7 +12,7 @@ use crate::gathered_teller::gathered;
 use crate::journal_notes::note_gather;
 use crate::journal_sources::{Sources, of_gather, read_all};
 use q_outside::{Counted, Files};
-use q_sim::{Refusal, put_refusal};
+use q_told::{Refusal, put_refusal};
 use std::alloc::Global;
 use std::io::Write;
 

@@ -12,7 +12,7 @@ use crate::journal_notes::note_journal;
 use q_book::Book;
 use q_gather::GatherFault;
 use q_outside::Files;
-use q_sim::Refusal;
+use q_told::Refusal;
 use reasons::Reason;
 use std::alloc::{AllocError, Global};
 use std::io::Write;

@@ -20,7 +20,8 @@ use bq_state::Bounds;
 use q_outside::{Counted, Files, LONGEST_TEXT};
 use q_script::{Script, read_records};
 use q_session::run_fold;
-use q_sim::{Printed, Refusal, put_refusal, simulate};
+use q_sim::{Printed, simulate};
+use q_told::{Refusal, put_refusal};
 use std::alloc::Global;
 use std::io::Write;
 

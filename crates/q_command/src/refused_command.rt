@@ -1,6 +1,6 @@
 //! A command that was refused.
 
-use q_sim::Refusal;
+use q_told::Refusal;
 
 /// Why a command was refused, and what was read of the file that it was refused for.
 #[derive(Drop)]

@@ -11,7 +11,7 @@ use bq_asm::assemble;
 use bq_check::Certified;
 use bq_insn::{Text, decode};
 use bq_state::Bounds;
-use q_sim::{Refusal, certified_text};
+use q_told::{Refusal, certified_text};
 use std::alloc::Global;
 use std::str;
 

@@ -5,7 +5,7 @@ use crate::answer::Answer;
 use crate::line::text_of;
 use crate::refused_command::RefusedCommand;
 use crate::words::FileCommand;
-use q_sim::{RefusedLine, write_refused_line};
+use q_told::{RefusedLine, write_refused_line};
 use std::alloc::{AllocError, Global};
 use std::io::Write;
 

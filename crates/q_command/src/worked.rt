@@ -9,7 +9,7 @@ ghost use Rattle.q_desk.specs.Desks.{answer_in};
 ghost use Rattle.q_outside.specs.Memory.{Reads, Writes, bytes_of, fails_next};
 ghost use Rattle.q_outside.specs.declared.memory_files.MemoryFiles.{MemoryFiles as Memory};
 ghost use Rattle.q_session.specs.declared.query.Query.{Query};
-ghost use Rattle.q_sim.specs.declared.refusal.Refusal.TheVariants as refused;
+ghost use Rattle.q_told.specs.declared.refusal.Refusal.TheVariants as refused;
 ghost use Rattle.q_command.specs.declared.words.FileCommand.{FileCommand};
 ghost use Rattle.q_command.specs.declared.words.FileCommand.TheVariants as command;
 ghost use Rattle.q_command.specs.declared.words.ProgramForm.TheVariants as form;

@@ -8,10 +8,10 @@ use Rattle.reasons.specs.declared.Reason.{Reason}
 use Rattle.reasons.specs.declared.Reason.TheVariants as reasons
 use Rattle.sc_members.specs.Members.{present}
 use Rattle.sc_msg.specs.declared.message.Message.{Message}
-use Rattle.q_sim.specs.declared.refusal.RefusalPlace.TheVariants.{Untold}
+use Rattle.q_told.specs.declared.refusal.RefusalPlace.TheVariants.{Untold}
 use Rattle.q_book.specs.State.{BookState}
 use Rattle.q_held.specs.LiveNodes.{Leaves}
-use Rattle.q_sim.specs.Line.{line_of}
+use Rattle.q_told.specs.Line.{line_of}
 use Rattle.q_doors.specs.Books.{IsBookOf}
 use Rattle.q_node.specs.declared.status.Status.{Status}
 use Rattle.q_node.specs.declared.console.Command.{Command}

@@ -3,8 +3,8 @@ use Rattle.std.specs.Prelude.{◌≡◌, ◌≢◌, ◌≤◌, ℕ, true, None, 
 use Rattle.reasons.specs.declared.Reason.{Reason}
 use Rattle.reasons.specs.declared.Reason.TheVariants as reasons
 use Rattle.sc_msg.specs.declared.version.Version.TheVariants.{Second}
-use Rattle.q_sim.specs.declared.refusal.RefusalPlace.{RefusalPlace}
-use Rattle.q_sim.specs.declared.refusal.RefusalPlace.TheVariants.{Untold, Line}
+use Rattle.q_told.specs.declared.refusal.RefusalPlace.{RefusalPlace}
+use Rattle.q_told.specs.declared.refusal.RefusalPlace.TheVariants.{Untold, Line}
 use Rattle.q_outside.specs.declared.files.FileFault.{FileFault}
 use Rattle.q_outside.specs.declared.files.FileFault.TheVariants as file_fault
 use Rattle.q_book.specs.Books.{founded}

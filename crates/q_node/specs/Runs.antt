@@ -3,8 +3,8 @@ use Rattle.std.specs.Prelude.{◌≡◌, ◌⊎◌, ℕ, List, [], ◌∷◌, �
 use Rattle.std.specs.Fmt.{decimal}
 use Rattle.std.specs.List.{AllByRecursion, flat_map}
 use Rattle.std.specs.Io.KnownBytes.{Appends}
-use Rattle.q_sim.specs.declared.refusal.RefusalPlace.TheVariants.{Untold}
-use Rattle.q_sim.specs.Line.{line_of}
+use Rattle.q_told.specs.declared.refusal.RefusalPlace.TheVariants.{Untold}
+use Rattle.q_told.specs.Line.{line_of}
 use Rattle.q_outside.specs.Counts.{one_more}
 use Rattle.q_kept.specs.Faults as recorder
 use Rattle.q_kept.specs.declared.fault.Unrecorded.{Unrecorded}

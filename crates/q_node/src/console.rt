@@ -8,7 +8,7 @@ ghost use Rattle.q_node.specs.Console.{command_of, said_line, status_line, truth
 use crate::status::Status;
 use q_desk::{MOST_EVENTS, MOST_QUERIES};
 use q_outside::{Counted, Piece, TransportFailed};
-use q_sim::{RefusalPlace, put_line};
+use q_told::{RefusalPlace, put_line};
 use reasons::Reason;
 use std::io::Write;
 

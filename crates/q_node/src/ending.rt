@@ -2,9 +2,9 @@
 
 ghost use Rattle.std.specs.Prelude.{◌≡◌, ℕ, List, Option, OnOk, OnErr};
 ghost use Rattle.std.specs.Io.KnownBytes.{Appends};
-ghost use Rattle.q_sim.specs.Line.{line_of};
+ghost use Rattle.q_told.specs.Line.{line_of};
 ghost use Rattle.q_kept.specs.Faults as recorder;
-ghost use Rattle.q_sim.specs.declared.refusal.RefusalPlace.TheVariants.{Untold};
+ghost use Rattle.q_told.specs.declared.refusal.RefusalPlace.TheVariants.{Untold};
 ghost use Rattle.q_outside.specs.Counts.{count_after};
 ghost use Rattle.q_node.specs.Journal.{IsKept};
 ghost use Rattle.q_node.specs.Runs.{Closes, EndsRefused, IsJournal, IsWritten, failures_after, journal_line, status_of};
@@ -16,7 +16,7 @@ use crate::fault::StartFault;
 use crate::talk_end::Talk;
 use q_kept::Unrecorded;
 use q_outside::{Counted, Piece, TransportFailed};
-use q_sim::{RefusalPlace, put_line};
+use q_told::{RefusalPlace, put_line};
 use std::io::Write;
 
 /// How the run of a node ended.

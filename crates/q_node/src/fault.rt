@@ -7,7 +7,7 @@ ghost use Rattle.q_node.specs.declared.fault.StartFault.TheVariants.{OutOfMemory
 use q_book::BookFault;
 use q_outside::FileFault;
 use q_script::ClusterFileFault;
-use q_sim::RefusalPlace;
+use q_told::RefusalPlace;
 use reasons::Reason;
 use std::alloc::AllocError;
 

@@ -7,7 +7,7 @@ ghost use Rattle.q_script.specs.declared.file.ClusterFile.{ClusterFile as File};
 ghost use Rattle.q_script.specs.declared.fault.ClusterFileFault.TheVariants as cluster_fault;
 ghost use Rattle.q_kept.specs.declared.fault.Unrecorded.TheVariants as unrecorded;
 ghost use Rattle.q_kept.specs.Sample.{leave};
-ghost use Rattle.q_sim.specs.declared.refusal.RefusalPlace.TheVariants as place;
+ghost use Rattle.q_told.specs.declared.refusal.RefusalPlace.TheVariants as place;
 ghost use Rattle.q_book.specs.State.{BookState};
 ghost use Rattle.q_doors.specs.Books.{IsBookOf};
 ghost use Rattle.q_node.specs.Console as console;

@@ -9,7 +9,7 @@ use q_command::{beginning, gathered};
 use q_node::run_file;
 use q_outside::{Counted, Files, MemoryFiles, Transport};
 use q_script::NodeWords;
-use q_sim::Refusal;
+use q_told::Refusal;
 use std::fs::Files as SystemFiles;
 use std::io::{Eprint, Write};
 use std::net::{Net, TcpListener, TcpStream};

@@ -5,10 +5,10 @@ use Rattle.reasons.specs.declared.Reason.{Reason}
 use Rattle.reasons.specs.declared.Reason.TheVariants as reasons
 use Rattle.q_gather.specs.declared.fault.GatherFault.{GatherFault}
 use Rattle.q_gather.specs.declared.fault.GatherFault.TheVariants as gather
-use Rattle.q_sim.specs.Refusal as refusal_text
-use Rattle.q_sim.specs.declared.refusal.Refusal.TheVariants as refusal
-use Rattle.q_sim.specs.declared.refusal.RefusalPlace.{RefusalPlace}
-use Rattle.q_sim.specs.declared.refusal.RefusalPlace.TheVariants.{Untold}
+use Rattle.q_told.specs.Refusal as refusal_text
+use Rattle.q_told.specs.declared.refusal.Refusal.TheVariants as refusal
+use Rattle.q_told.specs.declared.refusal.RefusalPlace.{RefusalPlace}
+use Rattle.q_told.specs.declared.refusal.RefusalPlace.TheVariants.{Untold}
 use Rattle.q_nodes.specs.declared.fault.ClusterRunFault.{ClusterRunFault}
 use Rattle.q_nodes.specs.declared.fault.ClusterRunFault.TheVariants.{BadCount, TransportFailed, Script}
 

@@ -19,10 +19,10 @@ use Rattle.q_history.specs.declared.event.EventAnswer.TheVariants as told
 use Rattle.q_script.specs.declared.call_line.CallLine.{CallLine}
 use Rattle.q_script.specs.declared.call_line.CallLine.TheVariants as line
 use Rattle.q_script.specs.Line.{node_of}
-use Rattle.q_sim.specs.Printing.{told_lines}
-use Rattle.q_sim.specs.Programs.{IsProgram, IsRefusal}
+use Rattle.q_told.specs.Printing.{told_lines}
+use Rattle.q_told.specs.Programs.{IsProgram, IsRefusal}
 use Rattle.q_sim.specs.Simulates.{program_id}
-use Rattle.q_sim.specs.declared.refusal.Refusal.{Refusal}
+use Rattle.q_told.specs.declared.refusal.Refusal.{Refusal}
 use Rattle.q_nodes.specs.Books.{BeginsQuery, BeginsStore, Registers, own_book, recorded}
 use Rattle.q_nodes.specs.Faults.{no_such_node, text}
 use Rattle.q_nodes.specs.declared.fault.ClusterRunFault.{ClusterRunFault}

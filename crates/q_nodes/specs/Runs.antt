@@ -8,8 +8,8 @@ use Rattle.q_gather.specs.Gather.{AreRefused, GathersBooks}
 use Rattle.q_gather.specs.declared.fault.GatherFault.{GatherFault}
 use Rattle.q_history.specs.Calls.{IsHistory}
 use Rattle.q_history.specs.Headline.{ClusterState}
-use Rattle.q_sim.specs.Refusal.{refusal_of}
-use Rattle.q_sim.specs.declared.refusal.Refusal.TheVariants as refusal
+use Rattle.q_told.specs.Refusal.{refusal_of}
+use Rattle.q_told.specs.declared.refusal.Refusal.TheVariants as refusal
 use Rattle.q_outside.specs.Counts.{one_more}
 use Rattle.q_nodes.specs.Books.{AreBooksOf, IsOther}
 use Rattle.q_nodes.specs.Faults.{bad_founders, of_gather, reason}

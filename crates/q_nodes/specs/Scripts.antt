@@ -6,7 +6,7 @@ use Rattle.q_script.specs.declared.script.ScriptFault.{ScriptFault}
 use Rattle.q_script.specs.Line.{SpellsCall}
 use Rattle.q_script.specs.Script.{IsFaultOf, IsScriptOf}
 use Rattle.q_sim.specs.Simulates.{HasFractions, config_of}
-use Rattle.q_sim.specs.declared.refusal.Refusal.TheVariants as refusal
+use Rattle.q_told.specs.declared.refusal.Refusal.TheVariants as refusal
 use Rattle.q_nodes.specs.Faults.{bad_founders}
 use Rattle.q_nodes.specs.declared.fault.ClusterRunFault.{ClusterRunFault}
 use Rattle.q_nodes.specs.declared.fault.ClusterRunFault.TheVariants.{BadCount, Script}

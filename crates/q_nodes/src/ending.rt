@@ -8,7 +8,7 @@ use crate::report::Tally;
 use crate::script::ClusterScript;
 use crate::telling::Telling;
 use q_outside::Counted;
-use q_sim::put_line;
+use q_told::put_line;
 use std::io::Write;
 
 /// How a run ended.

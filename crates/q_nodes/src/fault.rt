@@ -2,11 +2,11 @@
 
 ghost use Rattle.std.specs.Prelude.{◌≡◌, Some};
 ghost use Rattle.q_nodes.specs.Faults.{bad_founders, no_such_node, place, reason, text, of_fault, memory, of_gather};
-ghost use Rattle.q_sim.specs.Refusal.{refusal_of};
+ghost use Rattle.q_told.specs.Refusal.{refusal_of};
 
 use q_gather::GatherFault;
 use q_outside::FileFault;
-use q_sim::{Refusal, RefusalPlace};
+use q_told::{Refusal, RefusalPlace};
 use reasons::{Reason, told};
 use std::alloc::AllocError;
 use std::fmt;

@@ -6,8 +6,8 @@ ghost use Rattle.q_nodes.specs.Lines.{answer_text, end_text, is_clean, is_refusa
 use crate::fault::ClusterRunFault;
 use q_history::{Answer, EventAnswer};
 use q_session::Ran;
-use q_sim::print_told;
 use q_table::ProgramId;
+use q_told::print_told;
 use std::alloc::{AllocError, Global};
 
 /// What a line tells.

@@ -16,7 +16,7 @@ use crate::script::ClusterScript;
 use crate::telling::{Telling, tell};
 use q_held::Unsent;
 use q_outside::{Counted, Transport};
-use q_sim::{RefusedLine, write_refused_line};
+use q_told::{RefusedLine, write_refused_line};
 use std::alloc::{AllocError, Global};
 use std::io::Write;
 use std::sync::Wait;

@@ -7,7 +7,7 @@ ghost use Rattle.q_nodes.specs.Scripts.{Fits, IsClusterScript, IsRefused, IsUnfi
 
 use crate::fault::ClusterRunFault;
 use q_script::{CallLine, Founding, read_script};
-use q_sim::Refusal;
+use q_told::Refusal;
 use sc_members::Config;
 use std::alloc::Global;
 

@@ -9,7 +9,7 @@ use crate::fault::ClusterRunFault;
 use crate::run::run_cluster;
 use crate::script::ClusterScript;
 use q_outside::{Counted, Files, LONGEST_TEXT, Peer, UdpTransport};
-use q_sim::Refusal;
+use q_told::Refusal;
 use std::alloc::Global;
 use std::io::Write;
 use std::net::Net;

@@ -2,7 +2,7 @@
 
 use q_board::OpenFault;
 use q_script::ScriptFault;
-use q_sim::Refusal;
+use q_told::Refusal;
 use reasons::Reason;
 use std::alloc::AllocError;
 use std::io;

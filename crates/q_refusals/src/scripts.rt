@@ -3,7 +3,8 @@
 use crate::rows::{ROWS, Row};
 use q_outside::MemoryFiles;
 use q_script::Script;
-use q_sim::{Printed, Refusal, simulate};
+use q_sim::{Printed, simulate};
+use q_told::Refusal;
 use std::io;
 
 /// Runs a script over files, where it puts its journals.

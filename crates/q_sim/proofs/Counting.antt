@@ -8,7 +8,7 @@ use Rattle.q_cluster.specs.Acts.{book_at}
 use Rattle.q_script.specs.declared.call_line.CallLine.TheVariants.{Program}
 use Rattle.q_script.specs.declared.line.ScriptLine.{ScriptLine}
 use Rattle.q_script.specs.declared.line.ScriptLine.TheVariants.{Call, All, Pairs, Journal}
-use Rattle.q_sim.specs.declared.refusal.RefusedLine.{RefusedLine}
+use Rattle.q_told.specs.declared.refusal.RefusedLine.{RefusedLine}
 use Rattle.q_sim.specs.Simulates.{SimState, Writing, is_any, DeliversAll, SavesAny, Does}
 
 line_of : (s t : SimState) → t ≡ s → t.line ≡ s.line

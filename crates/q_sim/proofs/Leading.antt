@@ -19,9 +19,9 @@ use Rattle.q_history.specs.Calls.{Reaches, Takes}
 use Rattle.q_history.specs.Clusters.{start}
 use Rattle.q_history.proofs.Histories.{reaches_on}
 use Rattle.q_cluster.specs.Acts.{book_at}
-use Rattle.q_sim.specs.declared.refusal.RefusedLine.{RefusedLine}
-use Rattle.q_sim.specs.declared.refusal.Refusal.{Refusal}
-use Rattle.q_sim.specs.declared.refusal.Refusal.TheVariants.{FileFailed, Cluster, OutOfMemory}
+use Rattle.q_told.specs.declared.refusal.RefusedLine.{RefusedLine}
+use Rattle.q_told.specs.declared.refusal.Refusal.{Refusal}
+use Rattle.q_told.specs.declared.refusal.Refusal.TheVariants.{FileFailed, Cluster, OutOfMemory}
 use Rattle.q_sim.specs.Simulates.{SimState, Writing, at_next_line, is_any, no_such_node, refusing, or_refused, with_fault, Acts, Registers, Tries, DeliversAll, SavesAny, Does, Plays}
 
 -- some accepted events lead from one cluster to another

@@ -1,15 +1,12 @@
--- Deliveries in their order, lines in turn, what is printed, and what is true of it.
+-- Deliveries in their order, lines in turn, and what is true of what they print.
 mod Pairs
 mod Goes
 mod Awaiting
 mod Attempting
 mod Spreading
 mod Playing
-mod Lines
-mod Uncertified
 mod Founders
 mod Ids
-mod Pairing
 mod PairsTold
 mod Performing
 mod Storing

@@ -2,7 +2,7 @@
 use Rattle.std.proofs.Common.{◌≡◌, List, ℕ, ◌++◌, refl, subst}
 use Rattle.std.specs.Prelude.{Result, Ok, Err, OnOk}
 use Rattle.sc_world.specs.declared.op.Op.{Op}
-use Rattle.q_sim.specs.Printing.{TellsPairs, AddsPairs, pairs_of}
+use Rattle.q_told.specs.Printing.{TellsPairs, AddsPairs, pairs_of}
 use Rattle.q_sim.specs.Simulates.{SimState, Tells}
 
 -- all pairs of a cluster

@@ -9,8 +9,8 @@ use Rattle.std.specs.FinSet as set
 use Rattle.q_history.specs.Clusters.{live_at}
 use Rattle.q_history.specs.declared.event.ClusterEvent.TheVariants as event
 use Rattle.q_sim.specs.Delivered.{Deliveries}
-use Rattle.q_sim.specs.Refusal.{refusal_line}
-use Rattle.q_sim.specs.declared.refusal.Refusal.TheVariants as refusal
+use Rattle.q_told.specs.Refusal.{refusal_line}
+use Rattle.q_told.specs.declared.refusal.Refusal.TheVariants as refusal
 use Rattle.q_sim.specs.Simulates.{SimState, refusing, Rises, Awaits, AwaitsNone, IsNext, Tries, DeliversAll}
 use Rattle.q_sim.specs.Awaited.{AwaitsFrom, IsOnward}
 use Rattle.q_sim.proofs.Pairs.{in_itself}

@@ -23,8 +23,8 @@ use Rattle.q_desk.specs.declared.journal.Call.TheVariants as call
 use Rattle.q_history.specs.declared.event.ClusterEvent.TheVariants as event
 use Rattle.q_cluster.specs.Acts.{book_at}
 use Rattle.q_cluster.proofs.Coming.{live_none}
-use Rattle.q_sim.specs.declared.refusal.Refusal.TheVariants as refusal
-use Rattle.q_sim.specs.Refusal.{refusal_line}
+use Rattle.q_told.specs.declared.refusal.Refusal.TheVariants as refusal
+use Rattle.q_told.specs.Refusal.{refusal_line}
 use Rattle.q_sim.specs.Simulates.{SimState, refusing, Acts}
 use Rattle.q_sim.specs.Longer.{RefusesLonger}
 

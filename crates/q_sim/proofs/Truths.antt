@@ -16,8 +16,8 @@ use Rattle.reasons.specs.declared.Reason.{Reason}
 use Rattle.q_history.specs.Headline.{ClusterState, AnswersAreTrue, AnswersStay}
 use Rattle.q_history.specs.Calls.{Reaches, Takes}
 use Rattle.q_history.specs.Clusters.{start}
-use Rattle.q_sim.specs.declared.refusal.Refusal.TheVariants.{Cluster}
-use Rattle.q_sim.specs.Printing.{told_lines, message_lines, printed}
+use Rattle.q_told.specs.declared.refusal.Refusal.TheVariants.{Cluster}
+use Rattle.q_told.specs.Printing.{told_lines, message_lines, printed}
 use Rattle.q_sim.specs.Simulates.{SimState, Writing, at_next_line, is_any, or_refused, Does, Plays, Simulates, config_of, founders_of}
 use Rattle.q_sim.specs.Truths.{IsTrueAnswer, IsTrueLine, AreTrueLines}
 use Rattle.q_sim.proofs.Leading.{Leads, any_with, leads_itself, leads_on, IsLed, acts_led, does_led, plays_led, founded_is}

@@ -1,9 +1,9 @@
 -- Inner words, of the private functions of `all` alone: how it goes from message to message.
 use Rattle.std.specs.Prelude.{◌≡◌, ℕ, ◌≤◌, ◌+◌, Bool, true, false, List, [], length}
-use Rattle.q_sim.specs.declared.refusal.Refusal.TheVariants as refusal
+use Rattle.q_told.specs.declared.refusal.Refusal.TheVariants as refusal
 use Rattle.q_sim.specs.declared.simulation.Spread.{Spread}
 use Rattle.q_sim.specs.declared.simulation.Spread.TheVariants as spread
-use Rattle.q_sim.specs.Refusal.{refusal_line}
+use Rattle.q_told.specs.Refusal.{refusal_line}
 use Rattle.q_sim.specs.Simulates.{SimState, refusing, Awaits, Tries, DeliversAll}
 
 -- no message before this one awaits a delivery

@@ -1,11 +1,6 @@
 pub mod Awaited
 pub mod Delivered
 pub mod Longer
-pub mod Meetings
-pub mod Printing
-pub mod Programs
-pub mod Refusal
 pub mod Seen
 pub mod Simulates
 pub mod Truths
-pub mod Line

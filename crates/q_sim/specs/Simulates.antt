@@ -28,13 +28,13 @@ use Rattle.q_cluster.specs.Acts.{book_at}
 use Rattle.q_replay.specs.Journal.{journal_of}
 use Rattle.q_outside.specs.declared.files.FileFault.{FileFault}
 use Rattle.q_outside.specs.declared.files.FileFault.TheVariants.{Failed}
-use Rattle.q_sim.specs.declared.refusal.RefusedLine.{RefusedLine}
-use Rattle.q_sim.specs.declared.refusal.Refusal.{Refusal}
-use Rattle.q_sim.specs.declared.refusal.Refusal.TheVariants as refusal
+use Rattle.q_told.specs.declared.refusal.RefusedLine.{RefusedLine}
+use Rattle.q_told.specs.declared.refusal.Refusal.{Refusal}
+use Rattle.q_told.specs.declared.refusal.Refusal.TheVariants as refusal
 use Rattle.q_sim.specs.Delivered.{Deliveries}
-use Rattle.q_sim.specs.Programs.{IsProgram, IsRefusal}
-use Rattle.q_sim.specs.Printing.{printed, journal_line, pairs_of, TellsPairs}
-use Rattle.q_sim.specs.Refusal.{refusal_line}
+use Rattle.q_told.specs.Programs.{IsProgram, IsRefusal}
+use Rattle.q_told.specs.Printing.{printed, journal_line, pairs_of, TellsPairs}
+use Rattle.q_told.specs.Refusal.{refusal_line}
 
 -- a cluster that a script runs
 pub record SimState : Type 0 where

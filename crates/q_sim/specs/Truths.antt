@@ -9,9 +9,9 @@ use Rattle.q_history.specs.Headline.{ClusterState}
 use Rattle.q_history.specs.Recorded.{HasTrueAnswer}
 use Rattle.q_history.specs.declared.event.EventAnswer.TheVariants as told
 use Rattle.reasons.specs.declared.Reason.{Reason}
-use Rattle.q_sim.specs.declared.refusal.Refusal.TheVariants.{Cluster}
-use Rattle.q_sim.specs.Printing.{told_lines}
-use Rattle.q_sim.specs.Refusal.{refusal_line}
+use Rattle.q_told.specs.declared.refusal.Refusal.TheVariants.{Cluster}
+use Rattle.q_told.specs.Printing.{told_lines}
+use Rattle.q_told.specs.Refusal.{refusal_line}
 
 -- the text is the `answer` line of a query of this cluster, which has this answer recorded, and the answer is true
 pub record IsTrueAnswer (c : ClusterState) (text : List ℕ) : Type 0 where

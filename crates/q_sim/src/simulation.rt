@@ -5,10 +5,6 @@ ghost use Rattle.q_sim.specs.Simulates.{HasFractions, IsSimulationFault, Rises, 
 ghost use Rattle.q_sim.specs.Awaited.{AwaitsFrom};
 
 use crate::delivered::Delivered;
-use crate::meetings::print_pairs;
-use crate::printing::{print_messages, print_told};
-use crate::program::certified_code;
-use crate::refusal::{Refusal, RefusedLine};
 use q_cluster::Cluster;
 use q_desk::Call;
 use q_history::{ClusterEvent, ClusterFault, ClusterStep};
@@ -16,6 +12,7 @@ use q_outside::{FileFault, Files};
 use q_replay::journal_bytes;
 use q_script::{CallLine, Founding, Script, ScriptLine};
 use q_table::ProgramId;
+use q_told::{Refusal, RefusedLine, certified_code, print_messages, print_pairs, print_told};
 use reasons::Reason;
 use sc_members::{BadFraction, Config};
 use sc_view::Value;
@@ -156,8 +153,8 @@ impl Simulation {
     ghost use Rattle.q_sim.specs.Simulates.{Acts, Begins, Calls, Does, Registers, Saves, Spreads, Tells, at_next_line, joined, noted, or_refused, refusing};
     ghost use Rattle.q_sim.specs.Awaited.{Attempts, IsSpread};
     ghost use Rattle.q_sim.specs.Longer.{RefusesLonger};
-    ghost use Rattle.q_sim.specs.Printing.{printed};
-    ghost use Rattle.q_sim.specs.Refusal.{refusal_line};
+    ghost use Rattle.q_told.specs.Printing.{printed};
+    ghost use Rattle.q_told.specs.Refusal.{refusal_line};
     ghost use Rattle.q_sim.specs.Seen.{Prints, PrintsOver, seen};
 
     /// The cluster of the founders; nothing is delivered or printed.

@@ -1,7 +1,7 @@
 -- run_line: makes the requests of a line, and tells their replies.
 use Rattle.std.proofs.Common.{refl}
 use Rattle.reasons.specs.declared.Reason.TheVariants as reasons
-use Rattle.q_sim.specs.declared.refusal.RefusalPlace.TheVariants.{Untold}
+use Rattle.q_told.specs.declared.refusal.RefusalPlace.TheVariants.{Untold}
 use Rattle.q_asker.specs.declared.script.ClientLine.TheVariants as line
 use Rattle.q_asker.proofs.Running.{line_requested, line_unmade}
 use Rattle.q_asker.proofs.line.run_line.Goals as goal

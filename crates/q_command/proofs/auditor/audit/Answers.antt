@@ -2,8 +2,8 @@
 use Rattle.std.proofs.Common.{◌≡◌, ◌++◌, ℕ, List, Result, Ok, Err, IfOk, IfErr, codes, sym, subst, string_bytes}
 use Rattle.q_book.specs.State.{BookState}
 use Rattle.q_replay.specs.Journal.{journal_of, IsJournalled}
-use Rattle.q_sim.specs.declared.refusal.Refusal.{Refusal}
-use Rattle.q_sim.specs.declared.refusal.Refusal.TheVariants.{OutOfMemory}
+use Rattle.q_told.specs.declared.refusal.Refusal.{Refusal}
+use Rattle.q_told.specs.declared.refusal.Refusal.TheVariants.{OutOfMemory}
 use Rattle.q_command.specs.Audit.{Audits, IsUnaudited, answer_lines}
 use Rattle.q_command.proofs.auditor.audit.Goals as goal
 

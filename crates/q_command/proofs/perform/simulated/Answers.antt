@@ -4,7 +4,7 @@ use Rattle.std.specs.Prelude.{Result, Ok, Err, IfOk, IfErr, IsUtf8}
 use Rattle.q_script.specs.Script.{IsScript}
 use Rattle.q_script.specs.declared.script.Script.{Script}
 use Rattle.q_sim.specs.Simulates.{IsSimulationFault, Simulates, Writing}
-use Rattle.q_sim.specs.declared.refusal.Refusal.{Refusal}
+use Rattle.q_told.specs.declared.refusal.Refusal.{Refusal}
 use Rattle.q_sim.specs.declared.simulation.Printed.{Printed}
 use Rattle.q_command.specs.Perform.{IsSimulated, IsUnsimulated}
 use Rattle.q_command.proofs.Refused.{unsimulated_script}

@@ -14,8 +14,8 @@ use Rattle.q_outside.specs.Memory.{IsNoneWithin, Reads, Writes, bytes_of, fails_
 use Rattle.q_outside.specs.declared.files.FileFault.{FileFault}
 use Rattle.q_outside.specs.declared.files.FileFault.TheVariants.{Failed, OutOfMemory}
 use Rattle.q_outside.specs.declared.memory_files.MemoryFiles.{MemoryFiles}
-use Rattle.q_sim.specs.Refusal.{refusal_of}
-use Rattle.q_sim.specs.declared.refusal.Refusal.TheVariants.{FileFailed}
+use Rattle.q_told.specs.Refusal.{refusal_of}
+use Rattle.q_told.specs.declared.refusal.Refusal.TheVariants.{FileFailed}
 use Rattle.q_command.specs.Audit.{answer_line, answer_lines}
 use Rattle.q_command.specs.Perform.{Answers, IsUnspelled, RefusesFile, SavesNotes, Spells, acceptance, end_of, longest_text}
 use Rattle.q_command.specs.declared.perform.CommandEnding.TheVariants.{Answered}

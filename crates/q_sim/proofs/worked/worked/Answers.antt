@@ -1,9 +1,6 @@
--- worked: what the definitions say of programs, deliveries, refusals, printed lines and scripts, over files in
--- memory.
-use Rattle.std.proofs.Common.{◌≡◌, ◌≢◌, ℕ, List, ◌∷◌, [], Some, Result, Ok, Err, ◌+◌, ◌++◌, append-nil, length, true≢false, ap, sym, ◌∙◌, inl, inr, subst, arith}
+-- worked: what the definitions say of deliveries, refused lines and scripts, over files in memory.
+use Rattle.std.proofs.Common.{◌≡◌, ◌≢◌, ℕ, List, ◌∷◌, [], Some, Result, Ok, Err, ◌+◌, ◌++◌, append-nil, true≢false, ap, sym, ◌∙◌, inl, inr, subst}
 use Rattle.std.specs.FinSet as set
-use Rattle.bq_insn.specs.Insn.{unit_bytes}
-use Rattle.bq_insn.specs.Slots.{spelling}
 use Rattle.q_outside.specs.Memory.{Writes}
 use Rattle.q_outside.specs.declared.memory_files.MemoryFiles.{MemoryFiles as Memory}
 use Rattle.q_desk.proofs.Accepted.{no_refusal, same_answer}
@@ -23,12 +20,6 @@ use Rattle.q_sim.specs.Truths.{IsTrueAnswer}
 use Rattle.q_sim.proofs.Pairs.{in_itself, pair_cmp_total}
 use Rattle.q_sim.proofs.Performing.{does_event}
 use Rattle.q_sim.proofs.worked.worked.Goals as goal
-
-pub returns-clause-other_bytes : goal.returns-clause-other_bytes
-unfolding unit_bytes
-returns-clause-other_bytes c = λ code certificate is long h.
-    let short : length code ≡ 8 = ap length (h.spelled ∙ ap spelling is) in
-    omega (arith, short, long)
 
 pub returns-clause-delivered : goal.returns-clause-delivered
 returns-clause-delivered c = set.contains-insert pair_cmp_total set.empty (7, 3) (7, 3)
@@ -73,9 +64,6 @@ returns-clause-refused_delivery c = λ s t h. h.faults
 
 pub returns-clause-first_event : goal.returns-clause-first_event
 returns-clause-first_event c = λ f s h. ap (λ n. n + 1) h.line
-
-pub returns-clause-meeting : goal.returns-clause-meeting
-returns-clause-meeting c = λ store collect text h. (h.least, h.meeting, h.says)
 
 -- an event that is a line's
 event_taken : (l : ScriptLine) (e : ClusterEvent) (s t : SimState) (before after : Memory) (text : List ℕ) → event_of l ≡ Some e
