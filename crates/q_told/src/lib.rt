@@ -8,16 +8,16 @@
 //!   writer counts, a part of the line may have been written.
 //! - [`print_told`] and [`print_messages`] print the lines of what an accepted event tells and of its messages.
 //! - [`print_pairs`] and [`print_ended_pairs`] print where stores and collects met.
-//! - [`certified_code`] and [`certified_text`] make programs with their certificates, from their bytes and from their
-//!   instructions: with the least notes that pass, or refused with what the verifier refuses.
+//! - [`certified_code`] and [`certified_text`] make programs with their certificates, of bytes and of instructions: with
+//!   the least notes that pass, or refused with what decoding and then the verifier refuse, or with 99.
 //! - [`write_refused_line`] tells a person of a line of a script that was refused: it takes memory, and no contract
 //!   speaks of its words.
 //!
-//! Each contract says which text is written, to the last byte: the definitions of the lines are in `specs/Printing`,
-//! `specs/Refusal` and `specs/Line`, and those of which programs get a certificate in `specs/Programs`.
+//! Each other contract of a line says what is written, to the last byte, by `specs/Printing`, `Refusal` and `Line`; which
+//! programs get a certificate, and why one is refused, is `specs/Programs`.
 //!
-//! Scripts that are run over a cluster in memory stand on it, as do nodes in threads, nodes apart, their clients, and
-//! the command line of `bqview`.
+//! Scripts that are run over a cluster in memory stand on it (`q_sim`), and so do nodes in threads, nodes apart, their
+//! clients and the command line of `bqview`, which need no script of a cluster in memory for what they print.
 #![tactic(auto)]
 
 mod line;
