@@ -1,5 +1,5 @@
-//! What is told, as lines: refusals, what an event tells, its messages, where stores and collects met. And programs with
-//! their certificates, or why there is none.
+//! What is told, as lines: refusals, what an event tells, its messages, where stores and collects met. And programs
+//! with their certificates, or why there is none.
 //!
 //! - [`Refusal`] is each reason for which an event or a command is refused, with the line that is printed of it;
 //!   [`RefusalPlace`] is where it arose, as its line tells it, and [`RefusedLine`] a line of a script with its refusal.
@@ -8,13 +8,13 @@
 //!   writer counts, a part of the line may have been written.
 //! - [`print_told`] and [`print_messages`] print the lines of what an accepted event tells and of its messages.
 //! - [`print_pairs`] and [`print_ended_pairs`] print where stores and collects met.
-//! - [`certified_code`] and [`certified_text`] make programs with their certificates, of bytes and of instructions: with
-//!   the least notes that pass, or refused with what decoding and then the verifier refuse, or with 99.
+//! - [`certified_code`] and [`certified_text`] make programs with their certificates, of bytes and of instructions:
+//!   with the least notes that pass, or refused with what decoding and then the verifier refuse, or with 99.
 //! - [`write_refused_line`] tells a person of a line of a script that was refused: it takes memory, and no contract
 //!   speaks of its words.
 //!
-//! Each other contract of a line says what is written, to the last byte, by `specs/Printing`, `Refusal` and `Line`; which
-//! programs get a certificate, and why one is refused, is `specs/Programs`.
+//! Each other contract of a line says what is written, to the last byte, by `specs/Printing`, `Refusal` and `Line`;
+//! which programs get a certificate, and why one is refused, is `specs/Programs`.
 //!
 //! Scripts that are run over a cluster in memory stand on it (`q_sim`), and so do nodes in threads, nodes apart, their
 //! clients and the command line of `bqview`, which need no script of a cluster in memory for what they print.
