@@ -2,7 +2,7 @@
 use Rattle.std.proofs.Common.{◌≡◌, ℕ, ◌^◌, ◌<◌, List, ◌∷◌, ◌++◌, refl, ap, sym, ◌∙◌, subst, arith, lit<}
 use Rattle.std.specs.Fmt.{decimal}
 use Rattle.std.proofs.lemmas.Fmt.{decimal_injective}
-use Rattle.q_script.specs.declared.founding.Fraction.{Fraction}
+use Rattle.sc_members.specs.declared.config.Fraction.{Fraction}
 use Rattle.q_script.specs.Words.{Lacks, IsFollowed, IsPair}
 use Rattle.q_script.specs.Founding.{SpellsFraction, SpellsFirst}
 use Rattle.q_script.proofs.Parts.{IsCut, cut_once, never_cut, lacks_append}

@@ -10,7 +10,8 @@ use Rattle.q_script.specs.declared.file.ClusterFile.{ClusterFile}
 use Rattle.q_script.specs.declared.fault.ClusterFileFault.{ClusterFileFault}
 use Rattle.q_script.specs.declared.fault.ClusterFileFault.TheVariants.{Syntax, BadFraction, BadFounders, IdUsed, OutOfMemory}
 use Rattle.q_script.specs.NodeLine.{SpellsNode}
-use Rattle.q_script.specs.File.{AreApart, AreFractions, HasFault, IsFault, IsFaulty, IsListOf, Spells, config_of, founder_ids}
+use Rattle.sc_members.specs.Members.{AreFractions, config_of}
+use Rattle.q_script.specs.File.{AreApart, HasFault, IsFault, IsFaulty, IsListOf, Spells, founder_ids}
 use Rattle.q_script.proofs.Lists.{not_faulty}
 use Rattle.q_script.proofs.Once.{list_once}
 
@@ -96,7 +97,7 @@ one_fault text IdUsed IdUsed x y p q = refl
 
 -- ---- files
 
-nothing_wrong : (d : Heading) (nodes : List NodeLine) (f : ClusterFileFault) → AreFractions d → are_founders (founder_ids nodes) ≡ true → AreApart nodes → HasFault d nodes f → ⊥
+nothing_wrong : (d : Heading) (nodes : List NodeLine) (f : ClusterFileFault) → AreFractions d.beta d.gamma → are_founders (founder_ids nodes) ≡ true → AreApart nodes → HasFault d nodes f → ⊥
 nothing_wrong d nodes BadFraction x y z h = h x
 nothing_wrong d nodes BadFounders x y z h = true_false _ y h.1
 nothing_wrong d nodes IdUsed x y z h = h.2 z
@@ -116,4 +117,4 @@ not_refused text file IdUsed s x = absurd (not_wrong text file IdUsed s x)
 pub one_file : (text : List ℕ) (a b : ClusterFile) → Spells text a → Spells text b → (a.number ≡ b.number) × (a.config ≡ b.config) × (a.nodes.items ≡ b.nodes.items)
 one_file text a b h k =
     let same = list_once text h.heading k.heading a.nodes.items b.nodes.items h.list k.list in
-    (h.number ∙ ap (λ d. d.number) same.0 ∙ sym k.number, h.config ∙ ap config_of same.0 ∙ sym k.config, same.1)
+    (h.number ∙ ap (λ d. d.number) same.0 ∙ sym k.number, h.config ∙ ap (λ d. config_of d.beta d.gamma) same.0 ∙ sym k.config, same.1)

@@ -15,8 +15,7 @@
 //!   which the writer counts, a part of the line may have been written.
 //! - [`write_refused_line`] tells a person of a line of a script that was refused: it takes memory, and no contract
 //!   speaks of its words.
-//! - [`config_of`] is the fractions of a founding, [`event_of`] the event that a line of a script is, and [`program_id`]
-//!   the id of the program that it names.
+//! - [`event_of`] is the event that a line of a script is.
 //! - [`Delivered`] is the set of deliveries that were made or tried.
 //!
 //! The command line of `bqview` stands on it.
@@ -40,5 +39,5 @@ pub use meetings::{print_ended_pairs, print_pairs};
 pub use printing::{print_messages, print_told};
 pub use program::{certified_code, certified_text};
 pub use refusal::{Refusal, RefusalPlace, RefusedLine};
-pub use simulation::{Printed, config_of, event_of, program_id, simulate};
+pub use simulation::{Printed, event_of, simulate};
 pub use told::write_refused_line;
