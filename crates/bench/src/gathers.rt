@@ -13,8 +13,7 @@ use std::time::Clock;
 
 /// The book of a founder.
 fn founder(alloc: Global, id: u64, founders: &[u64]) -> Result<Book> {
-    let config = Config::new(4, 5, 4, 5).map_err(|_| anyhow!("no fractions"))?;
-    Book::founder(alloc, config, id, founders).map_err(|_| anyhow!("no book"))
+    Book::founder(alloc, Config::default(), id, founders).map_err(|_| anyhow!("no book"))
 }
 
 /// The books of these founders.

@@ -53,8 +53,7 @@ fn registration(alloc: Global) -> Result<Vec<u8>> {
 
 /// The book of a node that is alone.
 fn book(alloc: Global) -> Result<Book> {
-    let config = Config::new(4, 5, 4, 5).map_err(|_| anyhow!("no fractions"))?;
-    Book::founder(alloc, config, 1, &[1]).map_err(|_| anyhow!("no book"))
+    Book::founder(alloc, Config::default(), 1, &[1]).map_err(|_| anyhow!("no book"))
 }
 
 /// How long it takes to serve requests to a book, which sends no message for them.

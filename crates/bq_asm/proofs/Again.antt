@@ -180,7 +180,8 @@ listed_ends (x ∷ y ∷ xs) text w h =
     (ends_append (x ++ h.0) h.1 (listed_starts (y ∷ xs) h.1 tt w.1 h.3) (listed_ends (y ∷ xs) h.1 w.1 h.3))
 
 -- no operand has the byte k, nor has a comma
-pub listed_lacks : (k : ℕ) → ((s : List ℕ) → Word s → Lacks k s) → eqb 32 k ≡ false → eqb 44 k ≡ false → (xs : List (List ℕ)) (text : List ℕ) → Words xs → AreListed xs text → Lacks k text
+pub listed_lacks : (k : ℕ) → ((s : List ℕ) → Word s → Lacks k s) → eqb 32 k ≡ false → eqb 44 k ≡ false → (xs : List (List ℕ)) (text : List ℕ)
+    → Words xs → AreListed xs text → Lacks k text
 listed_lacks k f a b [] text w h = subst (Lacks k) (sym h) tt
 listed_lacks k f a b (x ∷ []) text w h = subst (Lacks k) (sym h) (f x w.0)
 listed_lacks k f a b (x ∷ y ∷ xs) text w h =
@@ -191,7 +192,8 @@ listed_lacks k f a b (x ∷ y ∷ xs) text w h =
     (listed_lacks k f a b (y ∷ xs) h.1 w.1 h.3)))
 
 -- the first operand, and the others
-pub pair_listed : (x y : List ℕ) (ys : List (List ℕ)) (text : List ℕ) → Words (x ∷ y ∷ ys) → AreListed (x ∷ y ∷ ys) text → (rest : List ℕ) × (pair_at text ≡ Some (x, rest)) × AreListed (y ∷ ys) rest
+pub pair_listed : (x y : List ℕ) (ys : List (List ℕ)) (text : List ℕ) → Words (x ∷ y ∷ ys) → AreListed (x ∷ y ∷ ys) text
+    → (rest : List ℕ) × (pair_at text ≡ Some (x, rest)) × AreListed (y ∷ ys) rest
 unfolding pair_at
 pair_listed x y ys text w h =
     let c = h.2 in
@@ -211,7 +213,8 @@ pair_two x y text v w h = let p = pair_listed x y [] text (v, (w, tt)) h in p.1 
 
 -- ---- statements
 
-jump_again : (j : Jump) (target text : List ℕ) (s : Statement) → IsJump j → Word target → target_at j target ≡ Some s → AreListed (jump_operands j target) text → statement_at (jump_mnemonic j) text ≡ Some s
+jump_again : (j : Jump) (target text : List ℕ) (s : Statement) → IsJump j → Word target → target_at j target ≡ Some s
+    → AreListed (jump_operands j target) text → statement_at (jump_mnemonic j) text ≡ Some s
 unfolding statement_at
 jump_again jumps.Always target text s h w e l = ap (target_at jumps.Always) l ∙ e
 jump_again jumps.Far target text s h w e l = ap (target_at jumps.Far) l ∙ e
@@ -220,7 +223,8 @@ jump_again (jumps.Branch v r d x) target text s h w e l =
     let q : pair_at p.0 ≡ Some (operand x, target) = pair_two (operand x) target p.0 (operand_word x h.1) w p.2 in
     rw (p.1, q, register_again d h.0, operand_again x h.1) e
 
-pub statement_again : (s : Statement) (text : List ℕ) → IsStatement s → AreListed (statement_operands s) text → statement_at (statement_mnemonic s) text ≡ Some s
+pub statement_again : (s : Statement) (text : List ℕ) → IsStatement s → AreListed (statement_operands s) text
+    → statement_at (statement_mnemonic s) text ≡ Some s
 unfolding statement_at
 statement_again (Complete (insns.Alu w op d x)) text h l = rw (pair_two (register d) (operand x) text (register_word d h.0) (operand_word x h.1) l, register_again d h.0, operand_again x h.1) refl
 statement_again (Complete (insns.Negate w d)) text h l = rw (l, register_again d h) refl

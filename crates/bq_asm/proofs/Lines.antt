@@ -11,12 +11,14 @@ use Rattle.bq_asm.specs.Source.{IsUnreadable}
 use Rattle.bq_asm.specs.Reading.{line_at}
 use Rattle.bq_asm.proofs.Said.{line_sound, unreadable}
 
-pub pieces_at : {A : Type 0} (all front : List A) (i : ℕ) (x : A) → front ≡ take i all → i < length all → x ≡ get_or all i x → all ≡ front ++ (x ∷ drop (i + 1) all)
+pub pieces_at : {A : Type 0} (all front : List A) (i : ℕ) (x : A) → front ≡ take i all → i < length all → x ≡ get_or all i x
+    → all ≡ front ++ (x ∷ drop (i + 1) all)
 pieces_at all front i x f l e =
     sym (take-append-drop i all) ∙ ap (λ u. u ++ drop i all) (sym f)
     ∙ ap (λ u. front ++ u) (drop_more all i x l ∙ ap (λ y. y ∷ drop (i + 1) all) (sym e))
 
-first_from : (before done : List (List ℕ)) (v : List Line) (t : List ℕ) (rest : List (List ℕ)) → AllZip Spells done v → ((w : Line) → Spells t w → ⊥) → IsFirstLine IsUnreadable before (done ++ t ∷ rest) (length before + length v + 1)
+first_from : (before done : List (List ℕ)) (v : List Line) (t : List ℕ) (rest : List (List ℕ)) → AllZip Spells done v → ((w : Line) → Spells t w → ⊥)
+    → IsFirstLine IsUnreadable before (done ++ t ∷ rest) (length before + length v + 1)
 first_from before [] [] t rest h n = inl (n, omega arith)
 first_from before [] (y ∷ v) t rest h n = absurd h
 first_from before (x ∷ done) [] t rest h n = absurd h
@@ -44,7 +46,8 @@ first_readable x rest w s h = elim h [
   | inr later ↦ let more = behind (x ∷ []) rest 1 later.1 in omega (arith, more)
 ]
 
-front_readable : (done : List (List ℕ)) (v : List Line) (t : List ℕ) (rest : List (List ℕ)) (w : Line) → AllZip Spells done v → Spells t w → IsFirstLine IsUnreadable [] (done ++ t ∷ rest) 1 → ⊥
+front_readable : (done : List (List ℕ)) (v : List Line) (t : List ℕ) (rest : List (List ℕ)) (w : Line) → AllZip Spells done v → Spells t w
+    → IsFirstLine IsUnreadable [] (done ++ t ∷ rest) 1 → ⊥
 front_readable [] v t rest w z s h = first_readable t rest w s h
 front_readable (x ∷ done) [] t rest w z s h = absurd z
 front_readable (x ∷ done) (y ∷ v) t rest w z s h = first_readable x (done ++ t ∷ rest) y z.0 h
@@ -56,11 +59,13 @@ none_first view texts done items t i x f l e z read h =
     front_readable done (map view items) t (drop (i + 1) texts) (view x) z (line_sound t (view x) read)
     (subst (λ u. IsFirstLine IsUnreadable [] u 1) (pieces_at texts done i t f l e) h)
 
-pushed : {X E : Type 0} (items new : List X) (x : X) (r : Result (Unit {0}) E) → new ≡ cond (is_ok r) (items ++ x ∷ []) items → is_err r ≡ false → new ≡ items ++ x ∷ []
+pushed : {X E : Type 0} (items new : List X) (x : X) (r : Result (Unit {0}) E) → new ≡ cond (is_ok r) (items ++ x ∷ []) items → is_err r ≡ false
+    → new ≡ items ++ x ∷ []
 pushed items new x (Ok u) e f = e
 pushed items new x (Err d) e f = absurd cc
 
-pub all_read : {X : Type 0} (view : X → Line) (texts done : List (List ℕ)) (items : List X) → done ≡ texts → AllZip Spells done (map view items) → AllZip Spells texts (map view items)
+pub all_read : {X : Type 0} (view : X → Line) (texts done : List (List ℕ)) (items : List X) → done ≡ texts → AllZip Spells done (map view items)
+    → AllZip Spells texts (map view items)
 all_read view texts done items e h = subst (λ u. AllZip Spells u (map view items)) e h
 
 pub read_more : {X E : Type 0} (view : X → Line) (done : List (List ℕ)) (t : List ℕ) (items new : List X) (x : X) (r : Result (Unit {0}) E) → AllZip Spells done (map view items) → line_at t ≡ Some (view x)

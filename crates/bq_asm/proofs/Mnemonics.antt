@@ -31,7 +31,8 @@ chosen : (t : Bool) (m : Mnemonic) (r : Option Mnemonic) (n : Mnemonic) → cond
 chosen true m r n e = inl (refl, cc)
 chosen false m r n e = inr e
 
-found : (text : List ℕ) (q : Mnemonic → Bool) (ms : List Mnemonic) (n : Mnemonic) → list_all q ms ≡ true → find (λ m. bytes_eq (name m) text) ms ≡ Some n → (text ≡ name n) × (q n ≡ true)
+found : (text : List ℕ) (q : Mnemonic → Bool) (ms : List Mnemonic) (n : Mnemonic) → list_all q ms ≡ true
+    → find (λ m. bytes_eq (name m) text) ms ≡ Some n → (text ≡ name n) × (q n ≡ true)
 found text q [] n h e = absurd cc
 found text q (m ∷ ms) n h e =
     let k = and_parts _ _ h in

@@ -27,7 +27,9 @@ pub cut_at : (c : ℕ) (xs ys : List ℕ) → Lacks c xs → cut c (xs ++ (c ∷
 cut_at c [] ys h = cond-true (eqb c c) _ _ (eq-eqb c c refl)
 cut_at c (d ∷ ds) ys h = cond-false (eqb d c) _ _ h.0 ∙ ap (option_map (λ (p : List ℕ × List ℕ). (d ∷ p.0, p.1))) (cut_at c ds ys h.1)
 
-pub gives_cut : (c : ℕ) (s : List ℕ) (r : Option (Bor (List ℕ) × Bor (List ℕ))) → MatchOption r ((i : ℕ) → i < length s → get_or s i 0 ≢ c) (λ x. (s ≡ x.0.now ++ (c ∷ x.1.now)) × ((i : ℕ) → i < length x.0.now → get_or x.0.now i 0 ≢ c)) → Gives (λ p. (p.0.now, p.1.now)) r (cut c s)
+pub gives_cut : (c : ℕ) (s : List ℕ) (r : Option (Bor (List ℕ) × Bor (List ℕ)))
+    → MatchOption r ((i : ℕ) → i < length s → get_or s i 0 ≢ c) (λ x. (s ≡ x.0.now ++ (c ∷ x.1.now)) × ((i : ℕ) → i < length x.0.now → get_or x.0.now i 0 ≢ c))
+    → Gives (λ p. (p.0.now, p.1.now)) r (cut c s)
 gives_cut c s None h = cut_none c s (lacks_from c s h)
 gives_cut c s (Some x) h = ap (cut c) h.0 ∙ cut_at c x.0.now x.1.now (lacks_from c x.0.now h.1)
 
@@ -40,7 +42,8 @@ strip_none c (d ∷ ds) h = cond-false (eqb d c) _ _ (ne_eqb d c (λ e. h ds (ap
 pub strip_at : (c : ℕ) (rest : List ℕ) → strip c (c ∷ rest) ≡ Some rest
 strip_at c rest = cond-true (eqb c c) _ _ (eq-eqb c c refl)
 
-pub gives_strip : (c : ℕ) (s : List ℕ) (r : Option (Bor (List ℕ))) → MatchOption r ((rest : List ℕ) → s ≢ c ∷ rest) (λ x. s ≡ c ∷ x.now) → Gives (λ rest. rest.now) r (strip c s)
+pub gives_strip : (c : ℕ) (s : List ℕ) (r : Option (Bor (List ℕ))) → MatchOption r ((rest : List ℕ) → s ≢ c ∷ rest) (λ x. s ≡ c ∷ x.now)
+    → Gives (λ rest. rest.now) r (strip c s)
 gives_strip c s None h = strip_none c s h
 gives_strip c s (Some x) h = ap (strip c) h ∙ strip_at c x.now
 

@@ -57,7 +57,8 @@ cond_or true c = refl
 cond_or false c = refl
 
 module _ {S : Type 0} (all before after : List Line) where
-  pub repeats : (names : HashSet (Bor (List ℕ)) S) (q : Bor (List ℕ)) → Keeps names all before (Label q.now ∷ after) → contains_by (λ k. bytes_eq q.now k.now) names ≡ true → IsFirstLine IsRepeated [] all (length before + 1)
+  pub repeats : (names : HashSet (Bor (List ℕ)) S) (q : Bor (List ℕ)) → Keeps names all before (Label q.now ∷ after)
+      → contains_by (λ k. bytes_eq q.now k.now) names ≡ true → IsFirstLine IsRepeated [] all (length before + 1)
   repeats names q k e = going_found IsRepeated all before (Label q.now) after (defined_from q.now before (sym (k.known q) ∙ e)) k.going
 
   pub keeps_new : (names new : HashSet (Bor (List ℕ)) S) (q : Bor (List ℕ)) → Keeps names all before (Label q.now ∷ after) → contains_by (λ k. bytes_eq q.now k.now) names ≡ false
@@ -67,7 +68,8 @@ module _ {S : Type 0} (all before after : List Line) where
     going = going_on IsRepeated all before (Label q.now) after (λ h. false≢true (sym e ∙ k.known q ∙ defined_to q.now before h)) k.going;
   }
 
-  pub keeps_other : (names : HashSet (Bor (List ℕ)) S) (line : Line) → ((q : List ℕ) → line ≡ Label q → ⊥) → Keeps names all before (line ∷ after) → Keeps names all (before ++ line ∷ []) after
+  pub keeps_other : (names : HashSet (Bor (List ℕ)) S) (line : Line) → ((q : List ℕ) → line ≡ Label q → ⊥) → Keeps names all before (line ∷ after)
+      → Keeps names all (before ++ line ∷ []) after
   keeps_other names (Label q) n k = absurd (n q refl)
   keeps_other names Blank n k = record { known = λ p. k.known p ∙ sym (defines_push p.now before Blank); going = going_on IsRepeated all before Blank after (λ h. h) k.going }
   keeps_other names (Instruction s) n k = record { known = λ p. k.known p ∙ sym (defines_push p.now before (Instruction s)); going = going_on IsRepeated all before (Instruction s) after (λ h. h) k.going }
@@ -83,7 +85,8 @@ module _ {S : Type 0} (names : HashSet (Bor (List ℕ)) S) (xs : List code.Line)
   here : Keeps names (map line_view xs) (map line_view (take i xs)) (line_view x ∷ map line_view (drop (i + 1) xs))
   here = subst (λ u. Keeps names (map line_view xs) (map line_view (take i xs)) u) (at line_view xs i x l e).rest k
 
-  pub found_repeated : (q : Bor (List ℕ)) → x ≡ said.Label q → contains_by (λ k. bytes_eq q.now k.now) names ≡ true → IsFirstLine IsRepeated [] (map line_view xs) (i + 1)
+  pub found_repeated : (q : Bor (List ℕ)) → x ≡ said.Label q → contains_by (λ k. bytes_eq q.now k.now) names ≡ true
+      → IsFirstLine IsRepeated [] (map line_view xs) (i + 1)
   found_repeated q f c =
       subst (λ n. IsFirstLine IsRepeated [] (map line_view xs) (n + 1)) (at line_view xs i x l e).len
       (repeats (map line_view xs) (map line_view (take i xs)) (map line_view (drop (i + 1) xs)) names q
@@ -96,7 +99,8 @@ module _ {S : Type 0} (names : HashSet (Bor (List ℕ)) S) (xs : List code.Line)
       (keeps_new (map line_view xs) (map line_view (take i xs)) (map line_view (drop (i + 1) xs)) names new q
       (subst (λ y. Keeps names (map line_view xs) (map line_view (take i xs)) (line_view y ∷ map line_view (drop (i + 1) xs))) f here) c u)
 
-  pub more_other : ((q : Bor (List ℕ)) → x ≡ said.Label q → ⊥) → Keeps names (map line_view xs) (map line_view (take (i + 1) xs)) (map line_view (drop (i + 1) xs))
+  pub more_other : ((q : Bor (List ℕ)) → x ≡ said.Label q → ⊥)
+      → Keeps names (map line_view xs) (map line_view (take (i + 1) xs)) (map line_view (drop (i + 1) xs))
   more_other n =
       subst (λ v. Keeps names (map line_view xs) v (map line_view (drop (i + 1) xs))) (sym (at line_view xs i x l e).front)
       (keeps_other (map line_view xs) (map line_view (take i xs)) (map line_view (drop (i + 1) xs)) names (line_view x) (no_label x n) here)

@@ -17,12 +17,14 @@ use Rattle.bq_asm.proofs.Repeating.{bytes_eq_sym}
 abbrev Places : List ℕ → ℕ → List Line → Option ℕ → Type 0
 Places q total lines o = MatchOption o (units_before q lines ≡ None) (λ behind. (behind ≤ total) × (units_before q lines ≡ Some (total - behind)))
 
-placed_label : (q label : List ℕ) (total : ℕ) (lines : List Line) (old : Option ℕ) (b : Bool) → bytes_eq q label ≡ b → Places q total lines old → Places q total (Label label ∷ lines) (cond b (Some total) old)
+placed_label : (q label : List ℕ) (total : ℕ) (lines : List Line) (old : Option ℕ) (b : Bool) → bytes_eq q label ≡ b → Places q total lines old
+    → Places q total (Label label ∷ lines) (cond b (Some total) old)
 placed_label q label total lines old true e p = (omega arith, cond-true (bytes_eq q label) _ _ e ∙ ap Some (omega arith))
 placed_label q label total lines None false e p = cond-false (bytes_eq q label) _ _ e ∙ p
 placed_label q label total lines (Some n) false e p = (p.0, cond-false (bytes_eq q label) _ _ e ∙ p.1)
 
-placed_more : (q : List ℕ) (total : ℕ) (lines : List Line) (s : Statement) (o : Option ℕ) → Places q total lines o → Places q (total + statement_units s) (Instruction s ∷ lines) o
+placed_more : (q : List ℕ) (total : ℕ) (lines : List Line) (s : Statement) (o : Option ℕ) → Places q total lines o
+    → Places q (total + statement_units s) (Instruction s ∷ lines) o
 placed_more q total lines s None p = ap (option_map (λ d. statement_units s + d)) p
 placed_more q total lines s (Some n) p =
     let l : n ≤ total = p.0 in
@@ -57,11 +59,14 @@ pub record Solves {S : Type 0} (all items : List code.Line) (labels : HashMap (B
   pub few : total ≤ 2 * length later
   pub finds : Finds (map line_view items) (map line_view later) found unresolved
 
-skips : (before later : List Line) (line : Line) (found : List Insn) (o : Option ℕ) → (IsUnresolved before line later → ⊥) → (Mean later (reverse found) → Mean (line ∷ later) (reverse found)) → Finds (before ++ line ∷ []) later found o → Finds before (line ∷ later) found o
+skips : (before later : List Line) (line : Line) (found : List Insn) (o : Option ℕ) → (IsUnresolved before line later → ⊥)
+    → (Mean later (reverse found) → Mean (line ∷ later) (reverse found)) → Finds (before ++ line ∷ []) later found o
+    → Finds before (line ∷ later) found o
 skips before later line found None n m f = ((n, f.0), m f.1)
 skips before later line found (Some k) n m f = inr (n, f)
 
-solved : (before later : List Line) (s : Statement) (found : List Insn) (i : Insn) (o : Option ℕ) → Means s later i → Finds (before ++ Instruction s ∷ []) later found o → Finds before (Instruction s ∷ later) (found ++ i ∷ []) o
+solved : (before later : List Line) (s : Statement) (found : List Insn) (i : Insn) (o : Option ℕ) → Means s later i
+    → Finds (before ++ Instruction s ∷ []) later found o → Finds before (Instruction s ∷ later) (found ++ i ∷ []) o
 solved before later s found i None m f = ((λ n. n i m, f.0), subst (Mean (Instruction s ∷ later)) (sym (reverse-append found (i ∷ []))) (m, f.1))
 solved before later s found i (Some k) m f = inr (λ n. n i m, f)
 
@@ -102,7 +107,8 @@ module _ {S : Type 0} (all items front : List code.Line) (x : code.Line) (labels
   placed_next s f p = subst (λ y. Places p.now (total + statement_units s) (y ∷ map line_view k.later) (get_by (λ c. bytes_eq p.now c.now) labels)) (sym f)
       (placed_more p.now total (map line_view k.later) s (get_by (λ c. bytes_eq p.now c.now) labels) (k.placed p))
 
-  pub solve_some : (s : Statement) (i : Insn) → line_view x ≡ Instruction s → ((later : List Line) → IsPlaced labels total later → Means s later i) → Solves all front labels (total + statement_units s) (found ++ i ∷ []) unresolved
+  pub solve_some : (s : Statement) (i : Insn) → line_view x ≡ Instruction s → ((later : List Line) → IsPlaced labels total later → Means s later i)
+      → Solves all front labels (total + statement_units s) (found ++ i ∷ []) unresolved
   solve_some s i f m = record {
     later = x ∷ k.later;
     parts = parts;
@@ -112,7 +118,9 @@ module _ {S : Type 0} (all items front : List code.Line) (x : code.Line) (labels
         (solved (map line_view front) (map line_view k.later) s found i unresolved (m (map line_view k.later) k.placed) (here (Instruction s) f));
   }
 
-  pub solve_none : (s : Statement) (n : ℕ) → n ≡ length front → line_view x ≡ Instruction s → ((later : List Line) → IsPlaced labels total later → (i : Insn) → Means s later i → ⊥) → Solves all front labels (total + statement_units s) found (Some (n + 1))
+  pub solve_none : (s : Statement) (n : ℕ) → n ≡ length front → line_view x ≡ Instruction s
+      → ((later : List Line) → IsPlaced labels total later → (i : Insn) → Means s later i → ⊥)
+      → Solves all front labels (total + statement_units s) found (Some (n + 1))
   solve_none s n d f m = record {
     later = x ∷ k.later;
     parts = parts;

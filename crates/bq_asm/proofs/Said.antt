@@ -38,7 +38,8 @@ nil_parts : (a b : List ℕ) → [] ≡ a ++ b → (a ≡ []) × (b ≡ [])
 nil_parts [] b e = (refl, sym e)
 nil_parts (c ∷ a) b e = absurd cc
 
-code_alone : (text : List ℕ) (s : Statement) (xs : List (List ℕ)) → xs ≡ statement_operands s → IsStatement s → trimmed text ≡ name (statement_mnemonic s) → Words xs → Spread xs (trimmed []) → Code text s
+code_alone : (text : List ℕ) (s : Statement) (xs : List (List ℕ)) → xs ≡ statement_operands s → IsStatement s
+    → trimmed text ≡ name (statement_mnemonic s) → Words xs → Spread xs (trimmed []) → Code text s
 code_alone text s [] e h t w p =
     let a = trimmed_of text in
     record {
@@ -61,7 +62,8 @@ code_alone text s (x ∷ xs) e h t w p =
 rest_parts : (a n b c l d e f : List ℕ) → a ++ ((n ++ (32 ∷ (b ++ ((c ++ (l ++ d)) ++ e)))) ++ f) ≡ a ++ (n ++ ((32 ∷ (b ++ c)) ++ (l ++ (d ++ (e ++ f)))))
 rest_parts a n b c l d e f = simp append_assoc
 
-code_rest : (text rest : List ℕ) (s : Statement) (xs : List (List ℕ)) → xs ≡ statement_operands s → IsStatement s → trimmed text ≡ name (statement_mnemonic s) ++ (32 ∷ rest) → Spread xs (trimmed rest) → Code text s
+code_rest : (text rest : List ℕ) (s : Statement) (xs : List (List ℕ)) → xs ≡ statement_operands s → IsStatement s
+    → trimmed text ≡ name (statement_mnemonic s) ++ (32 ∷ rest) → Spread xs (trimmed rest) → Code text s
 code_rest text rest s [] e h t p =
     let a = trimmed_of text in
     let b = trimmed_of rest in
@@ -132,7 +134,8 @@ words_empty text e =
     let a = trimmed_of text in
     subst AreSpaces (sym (a.parts ∙ ap (λ (u : List ℕ). a.before ++ (u ++ a.after)) e)) (spaces_append a.before a.after a.spaces_before a.spaces_after)
 
-words_cases : (text : List ℕ) (v : Line) (b : Bool) → eqb (length (trimmed text)) 0 ≡ b → cond b (Some Blank) (words_else (trimmed text) (cut 32 (trimmed text))) ≡ Some v → IsCode text v
+words_cases : (text : List ℕ) (v : Line) (b : Bool) → eqb (length (trimmed text)) 0 ≡ b
+    → cond b (Some Blank) (words_else (trimmed text) (cut 32 (trimmed text))) ≡ Some v → IsCode text v
 words_cases text v true z e = inl (cc, words_empty text (nil_from_length (trimmed text) (eqb-true _ 0 z)))
 words_cases text v false z e = words_by text v (cut 32 (trimmed text)) refl e
 

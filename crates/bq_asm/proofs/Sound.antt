@@ -119,7 +119,8 @@ pub record IsPlace (text : List ℕ) (p : ℕ × ℤ) : Type 0 where
   pub offset : FitsSigned w16 p.1
   pub parts : text ≡ register p.0 ++ distance p.1
 
-place_of_sound : (base digits : List ℕ) (z : Option ℤ) (sign : ℕ) (p : ℕ × ℤ) → ((o : ℤ) → z ≡ Some o → sign ∷ digits ≡ distance o) → place_of base z ≡ Some p → IsPlace (base ++ (sign ∷ digits)) p
+place_of_sound : (base digits : List ℕ) (z : Option ℤ) (sign : ℕ) (p : ℕ × ℤ) → ((o : ℤ) → z ≡ Some o → sign ∷ digits ≡ distance o)
+    → place_of base z ≡ Some p → IsPlace (base ++ (sign ∷ digits)) p
 place_of_sound base digits z sign p f e =
     let b = bind_some (register_at base) (λ r. z >>= λ o. fitting 16 o >>= λ d. Some (r, d)) p e in
     let o = bind_some z (λ o. fitting 16 o >>= λ d. Some (b.0, d)) p b.2 in
@@ -224,7 +225,8 @@ spread_one x text e = record { before = []; list = x; after = []; spaces_before 
 spread_none : (text : List ℕ) → text ≡ [] → Spread [] text
 spread_none text e = record { before = []; list = []; after = []; spaces_before = tt; spaces_after = tt; listed = refl; parts = e }
 
-pair_sound : (text : List ℕ) (p : List ℕ × List ℕ) → pair_at text ≡ Some p → (q : List ℕ × List ℕ) × (text ≡ q.0 ++ (44 ∷ q.1)) × (trimmed q.0 ≡ p.0) × (trimmed q.1 ≡ p.1)
+pair_sound : (text : List ℕ) (p : List ℕ × List ℕ) → pair_at text ≡ Some p
+    → (q : List ℕ × List ℕ) × (text ≡ q.0 ++ (44 ∷ q.1)) × (trimmed q.0 ≡ p.0) × (trimmed q.1 ≡ p.1)
 unfolding pair_at
 pair_sound text p e =
     let b = bind_some (cut 44 text) (λ q. Some (trimmed q.0, trimmed q.1)) p e in
@@ -234,7 +236,8 @@ pair_sound text p e =
 spread_parts : (a x b c d l e f : List ℕ) → (a ++ (x ++ b)) ++ (44 ∷ (c ++ ((d ++ (l ++ e)) ++ f))) ≡ a ++ ((x ++ ((b ++ (44 ∷ (c ++ d))) ++ l)) ++ (e ++ f))
 spread_parts a x b c d l e f = simp append_assoc
 
-spread_pair : (x z : List ℕ) (zs : List (List ℕ)) (text : List ℕ) (p : List ℕ × List ℕ) → pair_at text ≡ Some p → p.0 ≡ x → Spread (z ∷ zs) p.1 → Spread (x ∷ z ∷ zs) text
+spread_pair : (x z : List ℕ) (zs : List (List ℕ)) (text : List ℕ) (p : List ℕ × List ℕ) → pair_at text ≡ Some p → p.0 ≡ x → Spread (z ∷ zs) p.1
+    → Spread (x ∷ z ∷ zs) text
 spread_pair x z zs text p e f s =
     let q = pair_sound text p e in
     let a = trimmed_of q.0.0 in

@@ -143,7 +143,8 @@ trimmed_of s =
 
 -- ---- what was cut
 
-cut_by : (c d : ℕ) (s : List ℕ) (p : List ℕ × List ℕ) → ((q : List ℕ × List ℕ) → cut c s ≡ Some q → s ≡ q.0 ++ (c ∷ q.1)) → (o : Option (List ℕ × List ℕ)) → cut c s ≡ o → (eqb d c ≡ true) ⊎ (eqb d c ≡ false) → cut c (d ∷ s) ≡ Some p → d ∷ s ≡ p.0 ++ (c ∷ p.1)
+cut_by : (c d : ℕ) (s : List ℕ) (p : List ℕ × List ℕ) → ((q : List ℕ × List ℕ) → cut c s ≡ Some q → s ≡ q.0 ++ (c ∷ q.1))
+    → (o : Option (List ℕ × List ℕ)) → cut c s ≡ o → (eqb d c ≡ true) ⊎ (eqb d c ≡ false) → cut c (d ∷ s) ≡ Some p → d ∷ s ≡ p.0 ++ (c ∷ p.1)
 cut_by c d s p f o e (inl k) h =
     let g : ◌≡◌ {A = Option (List ℕ × List ℕ)} (Some ([], s)) (Some p) = sym (cond-true (eqb d c) _ _ k) ∙ h in
     let q : ◌≡◌ {A = List ℕ × List ℕ} ([], s) p = cc in

@@ -22,7 +22,8 @@ words_blank : (s : List ℕ) → AreSpaces s → words_at s ≡ Some Blank
 unfolding words_at
 words_blank s h = rw (trimmed_spaces s h) refl
 
-instruction_is : (s : Statement) (rest list : List ℕ) → IsStatement s → AreListed (statement_operands s) list → trimmed rest ≡ list → instruction_at (name (statement_mnemonic s)) rest ≡ Some (Instruction s)
+instruction_is : (s : Statement) (rest list : List ℕ) → IsStatement s → AreListed (statement_operands s) list → trimmed rest ≡ list
+    → instruction_at (name (statement_mnemonic s)) rest ≡ Some (Instruction s)
 unfolding instruction_at
 instruction_is s rest list h l e = rw (mnemonic_again (statement_mnemonic s), e, statement_again s list h l) refl
 
@@ -38,7 +39,8 @@ name_is_word s = record { clean = name_clean (statement_mnemonic s); some = name
 core_starts : (s : Statement) (core gap list : List ℕ) → Core s core gap list → Starts core
 core_starts s core gap list k = subst Starts (sym k.parts) (starts_append (name (statement_mnemonic s)) (gap ++ list) (word_starts _ (name_is_word s)))
 
-core_ends_by : (s : Statement) (core gap list : List ℕ) (xs : List (List ℕ)) → Core s core gap list → xs ≡ statement_operands s → IsGap xs gap → AreListed xs list → Words xs → Ends core
+core_ends_by : (s : Statement) (core gap list : List ℕ) (xs : List (List ℕ)) → Core s core gap list → xs ≡ statement_operands s → IsGap xs gap
+    → AreListed xs list → Words xs → Ends core
 core_ends_by s core gap list [] k e g l w =
     subst Ends (sym (k.parts ∙ ap (λ (t : List ℕ). name (statement_mnemonic s) ++ (t ++ list)) g ∙ ap (λ (t : List ℕ). name (statement_mnemonic s) ++ t) l ∙ append-nil (name (statement_mnemonic s))))
     (clean_ends _ (name_clean (statement_mnemonic s)))
@@ -53,13 +55,15 @@ gap_lacks : (k : ℕ) (xs : List (List ℕ)) (gap : List ℕ) → eqb 32 k ≡ f
 gap_lacks k [] gap e g = subst (Lacks k) (sym g) tt
 gap_lacks k (x ∷ xs) gap e g = spaces_lack k gap e g.0
 
-core_lacks : (k : ℕ) → ((c : ℕ) → is_clean c ≡ true → eqb c k ≡ false) → eqb 32 k ≡ false → eqb 44 k ≡ false → (s : Statement) (core gap list : List ℕ) → Core s core gap list → Lacks k core
+core_lacks : (k : ℕ) → ((c : ℕ) → is_clean c ≡ true → eqb c k ≡ false) → eqb 32 k ≡ false → eqb 44 k ≡ false
+    → (s : Statement) (core gap list : List ℕ) → Core s core gap list → Lacks k core
 core_lacks k f a b s core gap list c =
     subst (Lacks k) (sym c.parts) (lacks_append k (name (statement_mnemonic s)) (gap ++ list) (clean_lacks k _ f (name_clean (statement_mnemonic s)))
     (lacks_append k gap list (gap_lacks k (statement_operands s) gap a c.gaps)
     (listed_lacks k (λ t w. clean_lacks k t f w.clean) a b (statement_operands s) list (operands_words s c.legal) c.listed)))
 
-words_core_by : (s : Statement) (core gap list : List ℕ) (xs : List (List ℕ)) → Core s core gap list → xs ≡ statement_operands s → IsGap xs gap → AreListed xs list → Words xs → words_else core (cut 32 core) ≡ Some (Instruction s)
+words_core_by : (s : Statement) (core gap list : List ℕ) (xs : List (List ℕ)) → Core s core gap list → xs ≡ statement_operands s → IsGap xs gap
+    → AreListed xs list → Words xs → words_else core (cut 32 core) ≡ Some (Instruction s)
 words_core_by s core gap list [] k e g l w =
     let m = name (statement_mnemonic s) in
     let same : core ≡ m = k.parts ∙ ap (λ (t : List ℕ). m ++ (t ++ list)) g ∙ ap (λ (t : List ℕ). m ++ t) l ∙ append-nil m in
@@ -86,7 +90,8 @@ words_statement s code core gap list k e =
 -- ---- lines
 
 -- a line whose code has no `#` and no colon, with a comment or none
-read_words : (code comment : List ℕ) (v : Line) → Lacks 35 code → cut 58 (trimmed code) ≡ None → IsComment comment → words_at code ≡ Some v → line_at (code ++ comment) ≡ Some v
+read_words : (code comment : List ℕ) (v : Line) → Lacks 35 code → cut 58 (trimmed code) ≡ None → IsComment comment → words_at code ≡ Some v
+    → line_at (code ++ comment) ≡ Some v
 unfolding line_at
 read_words code [] v h n c e =
     let same : code ++ [] ≡ code = append-nil code in

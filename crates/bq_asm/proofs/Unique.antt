@@ -60,7 +60,8 @@ rest_of (Label label) lines t m = (t, m)
 rest_of (Instruction s) lines [] m = absurd m
 rest_of (Instruction s) lines (i ∷ t) m = (t, m.1)
 
-no_label_fault : (before lines : List Line) (t : List Insn) (n : ℕ) → NoLine IsRepeated before lines → Mean lines t → IsFirstLine HasLabelFault before lines n → ⊥
+no_label_fault : (before lines : List Line) (t : List Insn) (n : ℕ) → NoLine IsRepeated before lines → Mean lines t
+    → IsFirstLine HasLabelFault before lines n → ⊥
 no_label_fault before [] t n h m f = f
 no_label_fault before (line ∷ lines) t n h m (inr f) = no_label_fault (before ++ line ∷ []) lines (rest_of line lines t m).0 n h.1 (rest_of line lines t m).1 f.1
 no_label_fault before (Blank ∷ lines) t n h m (inl (inl r, e)) = r
@@ -103,7 +104,8 @@ readable source lines n says f = no_unreadable [] (lines_of source) lines n says
 pub may_run_out : (source : List ℕ) (lines : List Line) → Says source lines → IsFault source faults.OutOfMemory
 may_run_out source lines says = λ f. readable source lines 1 says f
 
-pub run_out : {A : Type 0} (source : List ℕ) (r : Result A AsmFault) → IsFault source faults.OutOfMemory → IsErr r → IsErrAnd r (λ e. e ≡ faults.OutOfMemory) → IfErr r (IsFault source)
+pub run_out : {A : Type 0} (source : List ℕ) (r : Result A AsmFault) → IsFault source faults.OutOfMemory → IsErr r
+    → IsErrAnd r (λ e. e ≡ faults.OutOfMemory) → IfErr r (IsFault source)
 run_out source (Ok a) out h k = tt
 run_out source (Err e) out h k = subst (IsFault source) (sym k) out
 
@@ -143,7 +145,8 @@ one_fault source (faults.Label m) faults.OutOfMemory p q no_d no_e = absurd (no_
 one_fault source faults.BadLength faults.OutOfMemory p q no_d no_e = absurd (no_e refl)
 one_fault source faults.TooLong faults.OutOfMemory p q no_d no_e = absurd (no_e refl)
 
-pub all_from : (r : Result (List Insn) AsmFault) (source : List ℕ) (t : List Insn) → IsText t → IsSource source t → IfOk r (λ u. IsSource source u) → IfErr r (IsFault source) → MatchResult r (λ u. u ≡ t) (λ e. e ≡ faults.OutOfMemory)
+pub all_from : (r : Result (List Insn) AsmFault) (source : List ℕ) (t : List Insn) → IsText t → IsSource source t → IfOk r (λ u. IsSource source u)
+    → IfErr r (IsFault source) → MatchResult r (λ u. u ≡ t) (λ e. e ≡ faults.OutOfMemory)
 all_from (Ok u) source t x h s f = one_text source u t s h
 all_from (Err e) source t x h s f = no_fault source t e x h f
 
@@ -184,20 +187,23 @@ Repeats lines o = MatchOption o (NoLine IsRepeated [] lines) (IsFirstLine IsRepe
 abbrev pub Resolves : List Line → List Insn → Option ℕ → Type 0
 Resolves lines t o = MatchOption o (NoLine IsUnresolved [] lines × Mean lines t) (IsFirstLine IsUnresolved [] lines)
 
-pub label_fault : (lines : List Line) (t : List Insn) (a b : Option ℕ) (n : ℕ) → Repeats lines a → Resolves lines t b → least a b ≡ Some n → IsFirstLine HasLabelFault [] lines n
+pub label_fault : (lines : List Line) (t : List Insn) (a b : Option ℕ) (n : ℕ) → Repeats lines a → Resolves lines t b → least a b ≡ Some n
+    → IsFirstLine HasLabelFault [] lines n
 label_fault lines t None None n h k e = absurd cc
 label_fault lines t None (Some m) n h k e = let f : m ≡ n = cc in subst (IsFirstLine HasLabelFault [] lines) f (first_right IsRepeated IsUnresolved [] lines m h k)
 label_fault lines t (Some m) None n h k e = let f : m ≡ n = cc in subst (IsFirstLine HasLabelFault [] lines) f (first_left IsRepeated IsUnresolved [] lines m h k.0)
 label_fault lines t (Some m) (Some l) n h k e = let f : min m l ≡ n = cc in subst (IsFirstLine HasLabelFault [] lines) f (first_both IsRepeated IsUnresolved [] lines m l h k)
 
-pub no_label : (lines : List Line) (t : List Insn) (a b : Option ℕ) → Repeats lines a → Resolves lines t b → least a b ≡ None → NoLine IsRepeated [] lines × Mean lines t
+pub no_label : (lines : List Line) (t : List Insn) (a b : Option ℕ) → Repeats lines a → Resolves lines t b → least a b ≡ None
+    → NoLine IsRepeated [] lines × Mean lines t
 no_label lines t None None h k e = (h, k.1)
 no_label lines t None (Some m) h k e = absurd cc
 no_label lines t (Some m) None h k e = absurd cc
 no_label lines t (Some m) (Some l) h k e = absurd cc
 
 -- what is wrong with the instructions' length is wrong with the source that means them
-pub length_fault : (source : List ℕ) (lines : List Line) (t : List Insn) (r : Result (List Insn) AsmFault) → Says source lines → NoLine IsRepeated [] lines × Mean lines t → IfErr r (IsLengthFault t) → IfErr r (IsFault source)
+pub length_fault : (source : List ℕ) (lines : List Line) (t : List Insn) (r : Result (List Insn) AsmFault) → Says source lines
+    → NoLine IsRepeated [] lines × Mean lines t → IfErr r (IsLengthFault t) → IfErr r (IsFault source)
 length_fault source lines t (Ok u) says h k = tt
 length_fault source lines t (Err (faults.Syntax n)) says h k = absurd k
 length_fault source lines t (Err (faults.Label n)) says h k = absurd k

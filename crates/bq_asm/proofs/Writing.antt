@@ -23,7 +23,9 @@ use Rattle.bq_asm.proofs.Again.{Words, operands_words}
 
 -- ---- unit by unit
 
-pub line_more : (t : List Insn) (k : ℕ) (o : Option Insn) (before after : List ℕ) → k < length (slots t) → o ≡ get_or (slots t) k None → before ≡ disassembly (begun (take k (slots t))) → after ≡ before ++ disassembly (begun (o ∷ [])) → after ≡ disassembly (begun (take (k + 1) (slots t)))
+pub line_more : (t : List Insn) (k : ℕ) (o : Option Insn) (before after : List ℕ) → k < length (slots t) → o ≡ get_or (slots t) k None
+    → before ≡ disassembly (begun (take k (slots t))) → after ≡ before ++ disassembly (begun (o ∷ []))
+    → after ≡ disassembly (begun (take (k + 1) (slots t)))
 line_more t k o before after l e b a =
     let s : take (k + 1) (slots t) ≡ take k (slots t) ++ o ∷ [] = take_more (slots t) k None l ∙ ap (λ (p : Option Insn). take k (slots t) ++ p ∷ []) (sym e) in
     a ∙ ap (λ (u : List ℕ). u ++ disassembly (begun (o ∷ []))) b ∙ sym (flat_map-append insn_line (begun (take k (slots t))) (begun (o ∷ [])))
@@ -59,7 +61,8 @@ text_lacks : (i : Insn) → IsInsn i → Lacks 10 (text_of i)
 text_lacks i h = lacks_append 10 (name (mnemonic_of i)) (spaced (operands_of i)) (clean_lacks 10 _ no_line_feed (name_clean (mnemonic_of i))) (spaced_lacks (operands_of i) (operands_words (Complete i) h))
 
 -- a line with nothing before its instruction and nothing behind it
-bare : (i : Insn) (line gap list : List ℕ) → IsInsn i → IsGap (operands_of i) gap → AreListed (operands_of i) list → line ≡ name (mnemonic_of i) ++ (gap ++ (list ++ [])) → Spells line (Instruction (Complete i))
+bare : (i : Insn) (line gap list : List ℕ) → IsInsn i → IsGap (operands_of i) gap → AreListed (operands_of i) list
+    → line ≡ name (mnemonic_of i) ++ (gap ++ (list ++ [])) → Spells line (Instruction (Complete i))
 bare i line gap list h before_list listed_so parts = record {
   before = [];
   gap = gap;

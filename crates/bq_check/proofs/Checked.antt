@@ -23,7 +23,9 @@ not_copied (Some x) state none is = absurd (none x refl)
 module _ (text : List Insn) (notes : List (Option StateKinds)) where
   -- ---- units
 
-  pub fine_more : (unit : ℕ) → AllFine text notes unit → ((state : StateKinds) (i : Insn) → note_at notes unit ≡ Some state → insn_at text unit ≡ Some i → IsFine notes unit i state) → AllFine text notes (unit + 1)
+  pub fine_more : (unit : ℕ) → AllFine text notes unit
+      → ((state : StateKinds) (i : Insn) → note_at notes unit ≡ Some state → insn_at text unit ≡ Some i → IsFine notes unit i state)
+      → AllFine text notes (unit + 1)
   fine_more unit h here = record { each = λ u state i l noted there. each u state i l noted there }
     where
       each : (u : ℕ) (state : StateKinds) (i : Insn) → u < unit + 1 → note_at notes u ≡ Some state → insn_at text u ≡ Some i → IsFine notes u i state
@@ -40,12 +42,14 @@ module _ (text : List Insn) (notes : List (Option StateKinds)) where
   same_insn : (i j : Insn) (o : Option Insn) → o ≡ Some i → o ≡ Some j → i ≡ j
   same_insn i j o p q = let e : Some i ≡ Some j = sym p ∙ q in cc
 
-  pub fine_here : (unit : ℕ) (state : StateKinds) (i : Insn) → note_at notes unit ≡ Some state → insn_at text unit ≡ Some i → IsFine notes unit i state → (s : StateKinds) (j : Insn) → note_at notes unit ≡ Some s → insn_at text unit ≡ Some j → IsFine notes unit j s
+  pub fine_here : (unit : ℕ) (state : StateKinds) (i : Insn) → note_at notes unit ≡ Some state → insn_at text unit ≡ Some i
+      → IsFine notes unit i state → (s : StateKinds) (j : Insn) → note_at notes unit ≡ Some s → insn_at text unit ≡ Some j → IsFine notes unit j s
   fine_here unit state i noted there fine s j noted_too there_too =
       subst (λ x. IsFine notes unit x s) (same_insn i j (insn_at text unit) there there_too)
       (subst (λ x. IsFine notes unit i x) (same_state state s (note_at notes unit) noted noted_too) fine)
 
-  pub first_fault : (l : Interval) (unit : ℕ) (state : StateKinds) (i : Insn) (f : CheckFault) → IsOpened l text notes → AllFine text notes unit → note_at notes unit ≡ Some state → insn_at text unit ≡ Some i → IsUnitFault notes unit i state f → IsFirstFault l text notes f
+  pub first_fault : (l : Interval) (unit : ℕ) (state : StateKinds) (i : Insn) (f : CheckFault) → IsOpened l text notes → AllFine text notes unit
+      → note_at notes unit ≡ Some state → insn_at text unit ≡ Some i → IsUnitFault notes unit i state f → IsFirstFault l text notes f
   first_fault l unit state i WrongCount opened below noted there fault = absurd fault
   first_fault l unit state i (Flow at rule) opened below noted there fault = absurd fault
   first_fault l unit state i (NoteForm at) opened below noted there fault = absurd fault
@@ -65,7 +69,8 @@ module _ (text : List Insn) (notes : List (Option StateKinds)) where
   flow_fault l flows.OutOfMemory count fault = tt
 
 module _ (bounds : Interval) (text : List Insn) (notes : List (Option StateKinds)) where
-  pub stand_more : (unit : ℕ) → AllMayHaveStates bounds text notes unit → ((state : StateKinds) → note_at notes unit ≡ Some state → MayHaveState bounds text unit state) → AllMayHaveStates bounds text notes (unit + 1)
+  pub stand_more : (unit : ℕ) → AllMayHaveStates bounds text notes unit
+      → ((state : StateKinds) → note_at notes unit ≡ Some state → MayHaveState bounds text unit state) → AllMayHaveStates bounds text notes (unit + 1)
   stand_more unit h here = record { each = λ u state l noted. each u state l noted }
     where
       each : (u : ℕ) (state : StateKinds) → u < unit + 1 → note_at notes u ≡ Some state → MayHaveState bounds text u state

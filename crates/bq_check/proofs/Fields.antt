@@ -61,7 +61,8 @@ span_parts = record {
   known = λ a b p q lo hi. known a b (are_offsets a p) (are_offsets b q) lo hi;
 }
   where
-    known : (a b : Span) → IsOffset a.lo × IsOffset a.hi → IsOffset b.lo × IsOffset b.hi → cast_unsigned w32 a.lo ≡ cast_unsigned w32 b.lo → cast_unsigned w32 a.hi ≡ cast_unsigned w32 b.hi → a ≡ b
+    known : (a b : Span) → IsOffset a.lo × IsOffset a.hi → IsOffset b.lo × IsOffset b.hi → cast_unsigned w32 a.lo ≡ cast_unsigned w32 b.lo
+        → cast_unsigned w32 a.hi ≡ cast_unsigned w32 b.hi → a ≡ b
     known a b p q lo hi = λ i. record { lo = offset_once a.lo b.lo p.0 q.0 lo i; hi = offset_once a.hi b.hi p.1 q.1 hi i }
 
 pub spans_are_code : IsPrefixCode span_bytes IsSpan

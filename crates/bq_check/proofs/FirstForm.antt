@@ -33,7 +33,8 @@ first_note : (o : Option StateKinds) → IsNote Second o → ((s : StateKinds) �
 first_note None h fits = tt
 first_note (Some s) h fits = first_state s h (fits s refl)
 
-first_each : (ns : List (Option StateKinds)) → AllByRecursion (IsNote Second) ns → ((unit : ℕ) (s : StateKinds) → note_at ns unit ≡ Some s → FitsLengths view_lengths s) → AllByRecursion (IsNote First) ns
+first_each : (ns : List (Option StateKinds)) → AllByRecursion (IsNote Second) ns
+    → ((unit : ℕ) (s : StateKinds) → note_at ns unit ≡ Some s → FitsLengths view_lengths s) → AllByRecursion (IsNote First) ns
 first_each [] h fits = tt
 first_each (o ∷ ns) h fits = (first_note o h.0 (fits 0), first_each ns h.1 (λ unit. fits (suc unit)))
 
@@ -50,7 +51,8 @@ module _ (bounds : Interval) (notes : List (Option StateKinds)) where
   pub fits_none : FitLengthsBelow bounds notes 0
   fits_none = record { each = λ unit state low noted. absurd (omega (arith, low)) }
 
-  pub fits_more : (n : ℕ) → FitLengthsBelow bounds notes n → ((state : StateKinds) → note_at notes n ≡ Some state → FitsLengths bounds state) → FitLengthsBelow bounds notes (n + 1)
+  pub fits_more : (n : ℕ) → FitLengthsBelow bounds notes n → ((state : StateKinds) → note_at notes n ≡ Some state → FitsLengths bounds state)
+      → FitLengthsBelow bounds notes (n + 1)
   fits_more n h here = record { each = λ unit state low noted. each unit state low noted }
     where
       each : (unit : ℕ) (state : StateKinds) → unit < n + 1 → note_at notes unit ≡ Some state → FitsLengths bounds state

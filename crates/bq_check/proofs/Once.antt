@@ -72,7 +72,8 @@ module _ (l : Interval) (text : List Insn) (notes : List (Option StateKinds)) wh
     reached : IsReached text notes unit i state
     bad : IsFine notes unit i state → ⊥
 
-  broken_is_bad : (unit : ℕ) (i : Insn) (state : StateKinds) (rule : Broken) → IsReached text notes unit i state → transfer i state ≡ Err rule → IsFirstBad unit i state
+  broken_is_bad : (unit : ℕ) (i : Insn) (state : StateKinds) (rule : Broken) → IsReached text notes unit i state → transfer i state ≡ Err rule
+      → IsFirstBad unit i state
   broken_is_bad unit i state rule reached e = record { reached = reached; bad = λ fine. bad fine }
     where
       differ : (after : StateKinds) (r : Result StateKinds Broken) → r ≡ Ok after → r ≡ Err rule → ⊥
@@ -81,7 +82,8 @@ module _ (l : Interval) (text : List Insn) (notes : List (Option StateKinds)) wh
       bad : IsFine notes unit i state → ⊥
       bad fine = differ fine.after (transfer i state) fine.rules e
 
-  uncovered_is_bad : (unit : ℕ) (i : Insn) (state after : StateKinds) → IsReached text notes unit i state → transfer i state ≡ Ok after → (AllCovered notes (edges unit i after) → ⊥) → IsFirstBad unit i state
+  uncovered_is_bad : (unit : ℕ) (i : Insn) (state after : StateKinds) → IsReached text notes unit i state → transfer i state ≡ Ok after
+      → (AllCovered notes (edges unit i after) → ⊥) → IsFirstBad unit i state
   uncovered_is_bad unit i state after reached e uncovered = record { reached = reached; bad = λ fine. bad fine }
     where
       same : (a b : StateKinds) (r : Result StateKinds Broken) → r ≡ Ok a → r ≡ Ok b → a ≡ b
@@ -111,7 +113,8 @@ module _ (l : Interval) (text : List Insn) (notes : List (Option StateKinds)) wh
   same_insn : (unit other : ℕ) (i j : Insn) → unit ≡ other → insn_at text unit ≡ Some i → insn_at text other ≡ Some j → i ≡ j
   same_insn unit other i j e p q = let h : Some i ≡ Some j = sym p ∙ ap (insn_at text) e ∙ q in cc
 
-  same_transfer : (unit other : ℕ) (i j : Insn) (state old : StateKinds) → unit ≡ other → IsReached text notes unit i state → IsReached text notes other j old → transfer i state ≡ transfer j old
+  same_transfer : (unit other : ℕ) (i j : Insn) (state old : StateKinds) → unit ≡ other → IsReached text notes unit i state
+      → IsReached text notes other j old → transfer i state ≡ transfer j old
   same_transfer unit other i j state old e r s =
       ap (λ x. transfer x state) (same_insn unit other i j e r.there s.there) ∙ ap (transfer j) (same_state unit other state old e r.noted s.noted)
 

@@ -62,7 +62,8 @@ no_least bytes empty = no_first lengths_parts bytes (no_byte bytes empty)
 pub no_most : (bytes middle : List ℕ) (least : ℕ) → bytes ≡ least ∷ middle → middle ≡ [] → BeginsNone (lengths_bytes Second) (HasLengths Second) bytes
 no_most bytes middle least front empty = no_second lengths_parts least bytes middle tt front (no_byte middle empty)
 
-pub no_lengths : (bytes middle rest : List ℕ) (least most : ℕ) → bytes ≡ least ∷ middle → middle ≡ most ∷ rest → (AreLengths (between least most) → ⊥) → BeginsNone (lengths_bytes Second) (HasLengths Second) bytes
+pub no_lengths : (bytes middle rest : List ℕ) (least most : ℕ) → bytes ≡ least ∷ middle → middle ≡ most ∷ rest → (AreLengths (between least most) → ⊥)
+    → BeginsNone (lengths_bytes Second) (HasLengths Second) bytes
 no_lengths bytes middle rest least most front behind apart =
     no_both lengths_parts least most bytes middle rest tt tt front behind (λ l is lo_is hi_is. apart (subst AreLengths (λ i. between (lo_is i) (hi_is i)) is))
 
@@ -78,7 +79,9 @@ module _ (form : NotesForm) where
       none (Pointer region s) more l e = cc
       none Length more l e = cc
 
-  pub no_kind : (bytes rest : List ℕ) (b : ℕ) → bytes ≡ b ∷ rest → (b ≡ 0 → ⊥) → (b ≡ 1 → BeginsNone range_bytes IsInterval rest) → (b ≡ 2 → BeginsNone span_bytes IsSpan rest) → (b ≡ 3 → BeginsNone span_bytes IsSpan rest) → (b ≡ 4 → TellsLengths form → ⊥) → BeginsNone kind_bytes (IsKind form) bytes
+  pub no_kind : (bytes rest : List ℕ) (b : ℕ) → bytes ≡ b ∷ rest → (b ≡ 0 → ⊥) → (b ≡ 1 → BeginsNone range_bytes IsInterval rest)
+      → (b ≡ 2 → BeginsNone span_bytes IsSpan rest) → (b ≡ 3 → BeginsNone span_bytes IsSpan rest) → (b ≡ 4 → TellsLengths form → ⊥)
+      → BeginsNone kind_bytes (IsKind form) bytes
   no_kind bytes rest b parts zeroth first second third fourth = record { none = λ k more l e. none k more l (sym parts ∙ e) }
     where
       none : (k : Kind) (more : List ℕ) → IsKind form k → b ∷ rest ≡ kind_bytes k ++ more → ⊥
@@ -105,7 +108,8 @@ module _ (form : NotesForm) where
   pub kinds_none : (bytes : List ℕ) (kinds : List Kind) → length kinds ≡ 11 → ReadKinds bytes kinds 0 bytes
   kinds_none bytes kinds count = record { count = count; legal = tt; parts = refl }
 
-  pub kinds_more : (bytes : List ℕ) (kinds : List Kind) (n : ℕ) (rest after : List ℕ) (k : Kind) → ReadKinds bytes kinds n rest → n < 11 → IsKind form k → rest ≡ kind_bytes k ++ after → length (set kinds n k) ≡ length kinds → ReadKinds bytes (set kinds n k) (n + 1) after
+  pub kinds_more : (bytes : List ℕ) (kinds : List Kind) (n : ℕ) (rest after : List ℕ) (k : Kind) → ReadKinds bytes kinds n rest → n < 11
+      → IsKind form k → rest ≡ kind_bytes k ++ after → length (set kinds n k) ≡ length kinds → ReadKinds bytes (set kinds n k) (n + 1) after
   kinds_more bytes kinds n rest after k read lt is parts same =
       let t : take (n + 1) (set kinds n k) ≡ take n kinds ++ k ∷ [] = take_more_set kinds n k (omega (arith, lt, read.count)) in
       record {
@@ -114,12 +118,14 @@ module _ (form : NotesForm) where
         parts = read.parts ∙ ap (λ l. kinds_bytes (take n kinds) ++ l) parts ∙ sym (append_assoc (kinds_bytes (take n kinds)) (kind_bytes k) after) ∙ ap (λ l. l ++ after) (sym (flat_map_push kind_bytes (take n kinds) k)) ∙ ap (λ l. kinds_bytes l ++ after) (sym t);
       }
 
-  pub kinds_all : (bytes : List ℕ) (kinds : List Kind) (n : ℕ) (rest : List ℕ) → ReadKinds bytes kinds n rest → 11 ≤ n → IsKinds form kinds × (bytes ≡ kinds_bytes kinds ++ rest)
+  pub kinds_all : (bytes : List ℕ) (kinds : List Kind) (n : ℕ) (rest : List ℕ) → ReadKinds bytes kinds n rest → 11 ≤ n
+      → IsKinds form kinds × (bytes ≡ kinds_bytes kinds ++ rest)
   kinds_all bytes kinds n rest read all =
       let t : take n kinds ≡ kinds = take_all n kinds (omega (arith, read.count, all)) in
       (record { count = read.count; each = subst (AllByRecursion (IsKind form)) t read.legal }, read.parts ∙ ap (λ l. kinds_bytes l ++ rest) t)
 
-  pub no_kinds : (bytes : List ℕ) (kinds : List Kind) (n : ℕ) (rest : List ℕ) → ReadKinds bytes kinds n rest → n < 11 → BeginsNone kind_bytes (IsKind form) rest → BeginsNone kinds_bytes (IsKinds form) bytes
+  pub no_kinds : (bytes : List ℕ) (kinds : List Kind) (n : ℕ) (rest : List ℕ) → ReadKinds bytes kinds n rest → n < 11
+      → BeginsNone kind_bytes (IsKind form) rest → BeginsNone kinds_bytes (IsKinds form) bytes
   no_kinds bytes kinds n rest read lt none = record { none = λ ks more is e. stops kind_bytes (IsKind form) (kind_is_code form) (take n kinds) ks rest more none read.legal is.each (omega (arith, lt, is.count, length-take n kinds)) (sym read.parts ∙ e) }
 
   -- ---- states
@@ -128,10 +134,12 @@ module _ (form : NotesForm) where
   pub no_state_left : (bytes : List ℕ) → BeginsNone (lengths_bytes form) (HasLengths form) bytes → BeginsNone (state_bytes form) (IsState form) bytes
   no_state_left bytes left = no_first (state_parts form) bytes left
 
-  pub no_state : (bytes middle : List ℕ) (l : Interval) → HasLengths form l → bytes ≡ lengths_bytes form l ++ middle → BeginsNone kinds_bytes (IsKinds form) middle → BeginsNone (state_bytes form) (IsState form) bytes
+  pub no_state : (bytes middle : List ℕ) (l : Interval) → HasLengths form l → bytes ≡ lengths_bytes form l ++ middle
+      → BeginsNone kinds_bytes (IsKinds form) middle → BeginsNone (state_bytes form) (IsState form) bytes
   no_state bytes middle l legal front left = no_second (state_parts form) l bytes middle legal front left
 
-  pub state_read : (bytes middle rest : List ℕ) (s : StateKinds) → bytes ≡ lengths_bytes form s.lengths ++ middle → middle ≡ kinds_bytes s.kinds ++ rest → bytes ≡ state_bytes form s ++ rest
+  pub state_read : (bytes middle rest : List ℕ) (s : StateKinds) → bytes ≡ lengths_bytes form s.lengths ++ middle
+      → middle ≡ kinds_bytes s.kinds ++ rest → bytes ≡ state_bytes form s ++ rest
   state_read bytes middle rest s front behind = front ∙ ap (λ l. lengths_bytes form s.lengths ++ l) behind ∙ sym (append_assoc (lengths_bytes form s.lengths) (kinds_bytes s.kinds) rest)
 
   -- ---- notes
@@ -143,7 +151,8 @@ module _ (form : NotesForm) where
       none None more e = cc
       none (Some s) more e = cc
 
-  pub no_note : (bytes rest : List ℕ) (b : ℕ) → bytes ≡ b ∷ rest → (b ≡ 0 → ⊥) → (b ≡ 1 → BeginsNone (state_bytes form) (IsState form) rest) → BeginsNone (note_bytes form) (IsNote form) bytes
+  pub no_note : (bytes rest : List ℕ) (b : ℕ) → bytes ≡ b ∷ rest → (b ≡ 0 → ⊥) → (b ≡ 1 → BeginsNone (state_bytes form) (IsState form) rest)
+      → BeginsNone (note_bytes form) (IsNote form) bytes
   no_note bytes rest b parts zeroth first = record { none = λ o more l e. none o more l (sym parts ∙ e) }
     where
       none : (o : Option StateKinds) (more : List ℕ) → IsNote form o → b ∷ rest ≡ note_bytes form o ++ more → ⊥
@@ -159,19 +168,23 @@ module _ (form : NotesForm) where
   pub notes_none : (bytes : List ℕ) (count : ℕ) (rest : List ℕ) → bytes ≡ number_bytes 4 count ++ rest → ReadNotes bytes count [] rest
   notes_none = read_none (note_bytes form) (IsNote form) (note_is_code form) 4
 
-  pub notes_more : (bytes : List ℕ) (count : ℕ) (notes : List (Option StateKinds)) (rest after : List ℕ) (o : Option StateKinds) → ReadNotes bytes count notes rest → IsNote form o → rest ≡ note_bytes form o ++ after → ReadNotes bytes count (notes ++ o ∷ []) after
+  pub notes_more : (bytes : List ℕ) (count : ℕ) (notes : List (Option StateKinds)) (rest after : List ℕ) (o : Option StateKinds)
+      → ReadNotes bytes count notes rest → IsNote form o → rest ≡ note_bytes form o ++ after → ReadNotes bytes count (notes ++ o ∷ []) after
   notes_more = read_more (note_bytes form) (IsNote form) (note_is_code form) 4
 
-  pub notes_all : (bytes : List ℕ) (count : ℕ) (notes : List (Option StateKinds)) (rest : List ℕ) → ReadNotes bytes count notes rest → length notes ≡ count → bytes ≡ notes_bytes form notes ++ rest
+  pub notes_all : (bytes : List ℕ) (count : ℕ) (notes : List (Option StateKinds)) (rest : List ℕ) → ReadNotes bytes count notes rest
+      → length notes ≡ count → bytes ≡ notes_bytes form notes ++ rest
   notes_all = read_all (note_bytes form) (IsNote form) (note_is_code form) 4
 
-  unread : (bytes : List ℕ) → BeginsNone (notes_bytes form) (AreCounted (note_bytes form) (IsNote form) (note_is_code form) 4) bytes → BeginsNone (notes_bytes form) (IsNotes form) bytes
+  unread : (bytes : List ℕ) → BeginsNone (notes_bytes form) (AreCounted (note_bytes form) (IsNote form) (note_is_code form) 4) bytes
+      → BeginsNone (notes_bytes form) (IsNotes form) bytes
   unread bytes left = record { none = λ n more is e. left.none n more (are_counted form n is) e }
 
   pub no_count : (bytes : List ℕ) → length bytes < 4 → BeginsNone (notes_bytes form) (IsNotes form) bytes
   no_count bytes short = unread bytes (counts.no_count (note_bytes form) (IsNote form) (note_is_code form) 4 bytes short)
 
-  pub many : (bytes rest : List ℕ) (count : ℕ) → count < 2 ^ 32 → bytes ≡ number_bytes 4 count ++ rest → 4096 < count → BeginsNone (notes_bytes form) (IsNotes form) bytes
+  pub many : (bytes rest : List ℕ) (count : ℕ) → count < 2 ^ 32 → bytes ≡ number_bytes 4 count ++ rest → 4096 < count
+      → BeginsNone (notes_bytes form) (IsNotes form) bytes
   many bytes rest count fits parts above = record { none = λ n more is e. none n more is e }
     where
       none : (n : List (Option StateKinds)) (more : List ℕ) → IsNotes form n → bytes ≡ notes_bytes form n ++ more → ⊥
@@ -179,27 +192,34 @@ module _ (form : NotesForm) where
           let s = number_front 4 count (length n) rest (flat_map (note_bytes form) n ++ more) fits (omega (arith, is.few)) (sym parts ∙ e ∙ append_assoc (number_bytes 4 (length n)) (flat_map (note_bytes form) n) more) in
           omega (arith, s.0, is.few, above)
 
-  pub no_notes : (bytes : List ℕ) (count : ℕ) (notes : List (Option StateKinds)) (rest : List ℕ) → count < 2 ^ 32 → ReadNotes bytes count notes rest → length notes < count → BeginsNone (note_bytes form) (IsNote form) rest → BeginsNone (notes_bytes form) (IsNotes form) bytes
+  pub no_notes : (bytes : List ℕ) (count : ℕ) (notes : List (Option StateKinds)) (rest : List ℕ) → count < 2 ^ 32 → ReadNotes bytes count notes rest
+      → length notes < count → BeginsNone (note_bytes form) (IsNote form) rest → BeginsNone (notes_bytes form) (IsNotes form) bytes
   no_notes bytes count notes rest fits read lt left = unread bytes (too_few (note_bytes form) (IsNote form) (note_is_code form) 4 bytes count notes rest fits read lt left)
 
   -- ---- whole bytes
 
-  pub no_whole : (bytes : List ℕ) → BeginsNone (notes_bytes form) (IsNotes form) bytes → (n : List (Option StateKinds)) → IsNotes form n → bytes ≡ notes_bytes form n → ⊥
+  pub no_whole : (bytes : List ℕ) → BeginsNone (notes_bytes form) (IsNotes form) bytes → (n : List (Option StateKinds)) → IsNotes form n
+      → bytes ≡ notes_bytes form n → ⊥
   no_whole bytes none n is e = none.none n [] is (e ∙ sym (append-nil (notes_bytes form n)))
 
-  pub passed_on : (bytes : List ℕ) (r : Result (List (Option StateKinds)) NotesFault) (x d : NotesFault) → r ≡ Err x → x ≡ d → (d ≡ NoteForm → BeginsNone (notes_bytes form) (IsNotes form) bytes) → IfErr r (λ e. e ≡ NoteForm → (n : List (Option StateKinds)) → IsNotes form n → bytes ≡ notes_bytes form n → ⊥)
+  pub passed_on : (bytes : List ℕ) (r : Result (List (Option StateKinds)) NotesFault) (x d : NotesFault) → r ≡ Err x → x ≡ d
+      → (d ≡ NoteForm → BeginsNone (notes_bytes form) (IsNotes form) bytes)
+      → IfErr r (λ e. e ≡ NoteForm → (n : List (Option StateKinds)) → IsNotes form n → bytes ≡ notes_bytes form n → ⊥)
   passed_on bytes r x d is same refused =
       let P : Result (List (Option StateKinds)) NotesFault → Type 0 = λ s. IfErr s (λ e. e ≡ NoteForm → (n : List (Option StateKinds)) → IsNotes form n → bytes ≡ notes_bytes form n → ⊥) in
       subst P (sym is) (λ e. no_whole bytes (refused (sym same ∙ e)))
 
-  pub left_over : (bytes : List ℕ) (m : List (Option StateKinds)) (rest : List ℕ) → IsNotes form m → bytes ≡ notes_bytes form m ++ rest → (rest ≡ [] → ⊥) → (n : List (Option StateKinds)) → IsNotes form n → bytes ≡ notes_bytes form n → ⊥
+  pub left_over : (bytes : List ℕ) (m : List (Option StateKinds)) (rest : List ℕ) → IsNotes form m → bytes ≡ notes_bytes form m ++ rest
+      → (rest ≡ [] → ⊥) → (n : List (Option StateKinds)) → IsNotes form n → bytes ≡ notes_bytes form n → ⊥
   left_over bytes m rest legal parts some n is e = some ((notes_are_code form).one m n rest [] legal is (sym parts ∙ e ∙ sym (append-nil (notes_bytes form n)))).1
 
   pub one_notes : (m n : List (Option StateKinds)) → IsNotes form m → IsNotes form n → notes_bytes form m ≡ notes_bytes form n → m ≡ n
   one_notes m n p q e = ((notes_are_code form).one m n [] [] p q (ap (λ l. l ++ []) e)).0
 
   -- what spells notes is read as these, unless memory runs out
-  pub reads : (bytes : List ℕ) (r : Result (List (Option StateKinds)) NotesFault) → IfOk r (IsNotes form) → IfOk r (λ n. bytes ≡ notes_bytes form n) → IfErr r (λ e. e ≡ NoteForm → (n : List (Option StateKinds)) → IsNotes form n → bytes ≡ notes_bytes form n → ⊥) → (n : List (Option StateKinds)) → IsNotes form n → bytes ≡ notes_bytes form n → MatchResult r (λ m. m ≡ n) (λ e. e ≡ OutOfMemory)
+  pub reads : (bytes : List ℕ) (r : Result (List (Option StateKinds)) NotesFault) → IfOk r (IsNotes form) → IfOk r (λ n. bytes ≡ notes_bytes form n)
+      → IfErr r (λ e. e ≡ NoteForm → (n : List (Option StateKinds)) → IsNotes form n → bytes ≡ notes_bytes form n → ⊥)
+      → (n : List (Option StateKinds)) → IsNotes form n → bytes ≡ notes_bytes form n → MatchResult r (λ m. m ≡ n) (λ e. e ≡ OutOfMemory)
   reads bytes (Ok m) legal spelled refused n is e = one_notes m n legal is (sym spelled ∙ e)
   reads bytes (Err NoteForm) legal spelled refused n is e = absurd (refused refl n is e)
   reads bytes (Err OutOfMemory) legal spelled refused n is e = refl

@@ -12,7 +12,8 @@ module _ {A : Type 0} (bytes_of : A → List ℕ) (before : List ℕ) (xs : List
   pub written_none : (out : List ℕ) → out ≡ before → Written bytes_of before xs 0 out
   written_none out same = record { parts = same ∙ sym (append-nil before) }
 
-  pub written_more : (n : ℕ) (x : A) (out after : List ℕ) → Written bytes_of before xs n out → n < length xs → x ≡ get_or xs n x → after ≡ out ++ bytes_of x → Written bytes_of before xs (n + 1) after
+  pub written_more : (n : ℕ) (x : A) (out after : List ℕ) → Written bytes_of before xs n out → n < length xs → x ≡ get_or xs n x
+      → after ≡ out ++ bytes_of x → Written bytes_of before xs (n + 1) after
   written_more n x out after w lt at more =
       let t : take (n + 1) xs ≡ take n xs ++ x ∷ [] = take_more xs n x lt ∙ ap (λ (y : A). take n xs ++ y ∷ []) (sym at) in
       record {

@@ -41,17 +41,21 @@ same_insn text unit i j e f = let g : Some j ≡ Some i = sym f ∙ e in cc
 same_unit : (a b : ℕ) → pos a ≡ pos b → a ≡ b
 same_unit a b e = cc
 
-best_at : (text : List Insn) (unit : ℕ) (table : List ℕ) (next : ℕ) → IsTable text table (unit + 1) → IsNext text unit next → IsLongestFrom text next (slice_index table next)
+best_at : (text : List Insn) (unit : ℕ) (table : List ℕ) (next : ℕ) → IsTable text table (unit + 1) → IsNext text unit next
+    → IsLongestFrom text next (slice_index table next)
 best_at text unit table next t n = t.longest next n.insn (omega (arith, n.forward)) n.begins
 
-pub small_at : (text : List Insn) (unit : ℕ) (table : List ℕ) (next : ℕ) → IsTable text table (unit + 1) → IsNext text unit next → slice_index table next + unit + 1 ≤ units text
+pub small_at : (text : List Insn) (unit : ℕ) (table : List ℕ) (next : ℕ) → IsTable text table (unit + 1) → IsNext text unit next
+    → slice_index table next + unit + 1 ≤ units text
 small_at text unit table next t n = let s = t.small next (omega (arith, n.forward)) n.within in omega (arith, s, n.forward)
 
 -- a path from a unit goes on at one of its successors
-onward : (text : List Insn) (unit : ℕ) (i : Insn) (next n : ℕ) → insn_at text unit ≡ Some i → Among (pos next) (successors unit i) → Path text next n → Path text unit (1 + n)
+onward : (text : List Insn) (unit : ℕ) (i : Insn) (next n : ℕ) → insn_at text unit ≡ Some i → Among (pos next) (successors unit i) → Path text next n
+    → Path text unit (1 + n)
 onward text unit i next n there among path = let e : suc n ≡ 1 + n = omega arith in subst (Path text unit) e (inr (i, next, there, among, path))
 
-reached_by : (text : List Insn) (unit : ℕ) (table : List ℕ) (i : Insn) (r : Successors) → insn_at text unit ≡ Some i → places r ≡ successors unit i → AreNext text unit r → IsTable text table (unit + 1) → Path text unit (longest_by r table)
+reached_by : (text : List Insn) (unit : ℕ) (table : List ℕ) (i : Insn) (r : Successors) → insn_at text unit ≡ Some i → places r ≡ successors unit i
+    → AreNext text unit r → IsTable text table (unit + 1) → Path text unit (longest_by r table)
 reached_by text unit table i nexts.None there named next t = inl (refl, subst (λ j. insn_at text unit ≡ Some j) (ends unit i named) there)
 reached_by text unit table i (nexts.One a) there named next t =
     onward text unit i a (slice_index table a) there (subst (Among (pos a)) named (inl refl)) (best_at text unit table a t next).reached
@@ -65,10 +69,12 @@ reached_by text unit table i (nexts.Two a b) there named next t =
           subst (Path text unit) e (onward text unit i a (slice_index table a) there (subst (Among (pos a)) named (inl refl)) (best_at text unit table a t next.0).reached)
     ]
 
-bound_of : (text : List Insn) (unit : ℕ) (table : List ℕ) (a n to : ℕ) → IsTable text table (unit + 1) → IsNext text unit a → pos to ≡ pos a → Path text to n → n ≤ slice_index table a
+bound_of : (text : List Insn) (unit : ℕ) (table : List ℕ) (a n to : ℕ) → IsTable text table (unit + 1) → IsNext text unit a → pos to ≡ pos a
+    → Path text to n → n ≤ slice_index table a
 bound_of text unit table a n to t next e path = (best_at text unit table a t next).bound n (subst (λ u. Path text u n) (same_unit to a e) path)
 
-bound_by : (text : List Insn) (unit : ℕ) (table : List ℕ) (r : Successors) (to n : ℕ) → AreNext text unit r → IsTable text table (unit + 1) → Among (pos to) (places r) → Path text to n → suc n ≤ longest_by r table
+bound_by : (text : List Insn) (unit : ℕ) (table : List ℕ) (r : Successors) (to n : ℕ) → AreNext text unit r → IsTable text table (unit + 1)
+    → Among (pos to) (places r) → Path text to n → suc n ≤ longest_by r table
 bound_by text unit table nexts.None to n next t among path = absurd among
 bound_by text unit table (nexts.One a) to n next t (inl e) path = let b = bound_of text unit table a n to t next e path in omega (arith, b)
 bound_by text unit table (nexts.One a) to n next t (inr among) path = absurd among
@@ -81,7 +87,8 @@ one_at_least nexts.None table = omega arith
 one_at_least (nexts.One a) table = omega arith
 one_at_least (nexts.Two a b) table = omega arith
 
-pub longest_at : (text : List Insn) (unit : ℕ) (table : List ℕ) (i : Insn) (r : Successors) → insn_at text unit ≡ Some i → places r ≡ successors_at text unit → AreNext text unit r → IsTable text table (unit + 1) → IsLongestFrom text unit (longest_by r table)
+pub longest_at : (text : List Insn) (unit : ℕ) (table : List ℕ) (i : Insn) (r : Successors) → insn_at text unit ≡ Some i
+    → places r ≡ successors_at text unit → AreNext text unit r → IsTable text table (unit + 1) → IsLongestFrom text unit (longest_by r table)
 longest_at text unit table i r there named next t =
     let places_are : places r ≡ successors unit i = named ∙ ap (successors_of unit) there in
     record { reached = reached_by text unit table i r there places_are next t; bound = bound places_are }
@@ -95,7 +102,8 @@ longest_at text unit table i r there named next t =
 
 -- ---- the table
 
-pub table_more : (text : List Insn) (unit : ℕ) (table : List ℕ) (v : ℕ) → unit < units text → IsTable text table (unit + 1) → ((i : Insn) → insn_at text unit ≡ Some i → IsLongestFrom text unit v) → v + unit ≤ units text → IsTable text (slice_set table unit v) unit
+pub table_more : (text : List Insn) (unit : ℕ) (table : List ℕ) (v : ℕ) → unit < units text → IsTable text table (unit + 1)
+    → ((i : Insn) → insn_at text unit ≡ Some i → IsLongestFrom text unit v) → v + unit ≤ units text → IsTable text (slice_set table unit v) unit
 table_more text unit table v within t longest small = record {
   count = length-set table unit v ∙ t.count;
   longest = λ u i from there. longest_here u i from there;

@@ -51,7 +51,8 @@ fall_on text unit i e falls =
 
 -- ---- what a successor is
 
-fell_or_jumped : (b : Bool) (place behind : ℤ) (jumped : List ℤ) → Among place ((if b then behind ∷ [] else []) ++ jumped) → ((b ≡ true) × (place ≡ behind)) ⊎ Among place jumped
+fell_or_jumped : (b : Bool) (place behind : ℤ) (jumped : List ℤ) → Among place ((if b then behind ∷ [] else []) ++ jumped)
+    → ((b ≡ true) × (place ≡ behind)) ⊎ Among place jumped
 fell_or_jumped true place behind jumped (inl e) = inl (refl, e)
 fell_or_jumped true place behind jumped (inr a) = inr a
 fell_or_jumped false place behind jumped a = inr a
@@ -61,14 +62,16 @@ jumped_by unit None place a = absurd a
 jumped_by unit (Some d) place (inl e) = (d, refl, e)
 jumped_by unit (Some d) place (inr a) = absurd a
 
-next_on : (text : List Insn) (unit : ℕ) (i : Insn) → insn_at text unit ≡ Some i → unit < next_unit unit i → next_unit unit i < units text → IsForward text unit (pos (next_unit unit i))
+next_on : (text : List Insn) (unit : ℕ) (i : Insn) → insn_at text unit ≡ Some i → unit < next_unit unit i → next_unit unit i < units text
+    → IsForward text unit (pos (next_unit unit i))
 next_on text unit i there forward within =
     let j = next_begins text unit i there within in
     record { next = next_unit unit i; is = refl; forward = forward; insn = j.0; begins = j.1 }
 
 -- ---- no fault, so legal
 
-pub legal_at : (text : List Insn) (unit : ℕ) (i : Insn) (place : ℤ) → insn_at text unit ≡ Some i → flow_fault text unit i ≡ None → Among place (successors unit i) → IsForward text unit place
+pub legal_at : (text : List Insn) (unit : ℕ) (i : Insn) (place : ℤ) → insn_at text unit ≡ Some i → flow_fault text unit i ≡ None
+    → Among place (successors unit i) → IsForward text unit place
 legal_at text unit i place there none among =
     let parts = both_fine (jump_fault text unit (distance_of i)) (fall_fault text unit i) none in
     elim (fell_or_jumped (falls_through i) place (pos (next_unit unit i)) (jumps_to unit (distance_of i)) among) [
@@ -91,7 +94,8 @@ forward_fine text unit place h = ap (place_fault text unit) h.is ∙ within_fine
     within_fine next j forward begins =
         rw (lt-leb next unit forward, lt-leb (units text) next (insn_within text next j begins), begins) refl
 
-jump_fine : (text : List Insn) (unit : ℕ) (o : Option ℤ) → ((place : ℤ) → Among place (jumps_to unit o) → IsForward text unit place) → jump_fault text unit o ≡ None
+jump_fine : (text : List Insn) (unit : ℕ) (o : Option ℤ) → ((place : ℤ) → Among place (jumps_to unit o) → IsForward text unit place)
+    → jump_fault text unit o ≡ None
 jump_fine text unit None h = refl
 jump_fine text unit (Some d) h = forward_fine text unit (destination unit d) (h (destination unit d) (inl refl))
 
@@ -124,7 +128,8 @@ not_legal text unit rule f h = let a = faultless text h unit f.insn f.there in l
 
 -- ---- the successors as the program names them
 
-jumped_place : (text : List Insn) (unit : ℕ) (o : Option ℤ) → ((place : ℤ) → Among place (jumps_to unit o) → IsForward text unit place) → place_of (unit_jumped_to unit o) ≡ jumps_to unit o
+jumped_place : (text : List Insn) (unit : ℕ) (o : Option ℤ) → ((place : ℤ) → Among place (jumps_to unit o) → IsForward text unit place)
+    → place_of (unit_jumped_to unit o) ≡ jumps_to unit o
 jumped_place text unit None h = refl
 jumped_place text unit (Some d) h = let f = h (destination unit d) (inl refl) in rw f.is refl
 
@@ -135,7 +140,8 @@ behind_place unit i = by_test (falls_through i)
     by_test true = refl
     by_test false = refl
 
-pub named : (text : List Insn) → IsLegalFlow text → (unit : ℕ) (i : Insn) → insn_at text unit ≡ Some i → place_of (unit_behind unit i) ++ place_of (unit_jumped_to unit (distance_of i)) ≡ successors_at text unit
+pub named : (text : List Insn) → IsLegalFlow text → (unit : ℕ) (i : Insn) → insn_at text unit ≡ Some i
+    → place_of (unit_behind unit i) ++ place_of (unit_jumped_to unit (distance_of i)) ≡ successors_at text unit
 named text h unit i there =
     let jump = jumped_place text unit (distance_of i) (λ place a. h.each unit i place there (among_jumped (falls_through i) place (pos (next_unit unit i)) (jumps_to unit (distance_of i)) a)) in
     ap (λ x. x ++ place_of (unit_jumped_to unit (distance_of i))) (behind_place unit i)
@@ -154,14 +160,16 @@ are_next_of text unit (nexts.One a) h = next_is text unit a (h (pos a) (inl refl
 are_next_of text unit (nexts.Two a b) h = (next_is text unit a (h (pos a) (inl refl)), next_is text unit b (h (pos b) (inr (inl refl))))
 
 -- each successor that is named lies forward, in the text and at an instruction's start
-pub are_next : (text : List Insn) → IsLegalFlow text → (unit : ℕ) (i : Insn) → insn_at text unit ≡ Some i → (r : Successors) → places r ≡ successors_at text unit → AreNext text unit r
+pub are_next : (text : List Insn) → IsLegalFlow text → (unit : ℕ) (i : Insn) → insn_at text unit ≡ Some i → (r : Successors)
+    → places r ≡ successors_at text unit → AreNext text unit r
 are_next text h unit i there r e =
     are_next_of text unit r (λ place a. h.each unit i place there (subst (Among place) (e ∙ ap (successors_of unit) there) a))
 
 -- ---- the loop
 
 -- a unit more has no fault
-pub no_more : (text : List Insn) (unit : ℕ) → NoFlowFault text unit → ((i : Insn) → insn_at text unit ≡ Some i → flow_fault text unit i ≡ None) → NoFlowFault text (unit + 1)
+pub no_more : (text : List Insn) (unit : ℕ) → NoFlowFault text unit → ((i : Insn) → insn_at text unit ≡ Some i → flow_fault text unit i ≡ None)
+    → NoFlowFault text (unit + 1)
 no_more text unit h here = record { each = λ u i l there. each u i l there }
   where
     each : (u : ℕ) (i : Insn) → u < unit + 1 → insn_at text u ≡ Some i → flow_fault text u i ≡ None
@@ -175,7 +183,8 @@ pub refused : (text : List Insn) (e : FlowFault) → IsFlowFault text e → IsLe
 refused text (At unit rule) f h = absurd (not_legal text unit rule f h)
 refused text OutOfMemory f h = refl
 
-pub fine_here : (text : List Insn) (unit : ℕ) (i j : Insn) → insn_at text unit ≡ Some i → insn_at text unit ≡ Some j → flow_fault text unit j ≡ None → flow_fault text unit i ≡ None
+pub fine_here : (text : List Insn) (unit : ℕ) (i j : Insn) → insn_at text unit ≡ Some i → insn_at text unit ≡ Some j → flow_fault text unit j ≡ None
+    → flow_fault text unit i ≡ None
 fine_here text unit i j e f h =
     let g : Some i ≡ Some j = sym e ∙ f in
     let s : i ≡ j = cc in
@@ -183,7 +192,8 @@ fine_here text unit i j e f h =
 
 -- ---- one first fault
 
-first_before : (text : List Insn) (unit other : ℕ) (rule wrong : FlowRule) → IsFirstFlowFault text unit rule → IsFirstFlowFault text other wrong → unit < other → ⊥
+first_before : (text : List Insn) (unit other : ℕ) (rule wrong : FlowRule) → IsFirstFlowFault text unit rule → IsFirstFlowFault text other wrong
+    → unit < other → ⊥
 first_before text unit other rule wrong f g l =
     let none = g.below.each unit f.insn l f.there in
     let bad : Some rule ≡ fine = sym f.broken ∙ none in
@@ -196,7 +206,8 @@ same_rule text unit rule wrong f g =
     let rules : Some rule ≡ Some wrong = sym f.broken ∙ ap (flow_fault text unit) same ∙ g.broken in
     cc
 
-pub one_first : (text : List Insn) (unit other : ℕ) (rule wrong : FlowRule) → IsFirstFlowFault text unit rule → IsFirstFlowFault text other wrong → (unit ≡ other) × (rule ≡ wrong)
+pub one_first : (text : List Insn) (unit other : ℕ) (rule wrong : FlowRule) → IsFirstFlowFault text unit rule → IsFirstFlowFault text other wrong
+    → (unit ≡ other) × (rule ≡ wrong)
 one_first text unit other rule wrong f g = elim (cases_lt unit other) [
   | inl l ↦ absurd (first_before text unit other rule wrong f g l)
   | inr m ↦ elim (cases_lt other unit) [

@@ -68,16 +68,19 @@ same i j e = cc
 beyond : (o : Option Insn) (s : List (Option Insn)) (unit : ℕ) (i : Insn) → next_unit (suc unit) i < length (o ∷ s) → next_unit unit i < length s
 beyond o s unit i l = let e = next_suc unit i in omega (arith, l, e)
 
-later : (o : Option Insn) (s : List (Option Insn)) → NextBegins s → (unit : ℕ) (i : Insn) → get_or s unit None ≡ Some i → next_unit (suc unit) i < length (o ∷ s) → Begins (o ∷ s) (next_unit (suc unit) i)
+later : (o : Option Insn) (s : List (Option Insn)) → NextBegins s → (unit : ℕ) (i : Insn) → get_or s unit None ≡ Some i
+    → next_unit (suc unit) i < length (o ∷ s) → Begins (o ∷ s) (next_unit (suc unit) i)
 later o s h unit i e l = subst (Begins (o ∷ s)) (sym (next_suc unit i)) (let b = h unit i e (beyond o s unit i l) in (b.0, b.1))
 
-behind_narrow : (i : Insn) (s : List (Option Insn)) → ((unit : ℕ) → next_unit unit i ≡ unit + 1) → (0 < length s → Begins s 0) → NextBegins s → NextBegins (Some i ∷ s)
+behind_narrow : (i : Insn) (s : List (Option Insn)) → ((unit : ℕ) → next_unit unit i ≡ unit + 1) → (0 < length s → Begins s 0) → NextBegins s
+    → NextBegins (Some i ∷ s)
 behind_narrow i s next at_first h zero j e l =
     let is : next_unit 0 j ≡ 1 = ap (next_unit 0) (sym (same i j e)) ∙ next 0 in
     subst (Begins (Some i ∷ s)) (sym is) (let b = at_first (omega (arith, l, is)) in (b.0, b.1))
 behind_narrow i s next at_first h (suc unit) j e l = later (Some i) s h unit j e l
 
-behind_wide : (i : Insn) (s : List (Option Insn)) → ((unit : ℕ) → next_unit unit i ≡ unit + 2) → (0 < length s → Begins s 0) → NextBegins s → NextBegins (Some i ∷ None ∷ s)
+behind_wide : (i : Insn) (s : List (Option Insn)) → ((unit : ℕ) → next_unit unit i ≡ unit + 2) → (0 < length s → Begins s 0) → NextBegins s
+    → NextBegins (Some i ∷ None ∷ s)
 behind_wide i s next at_first h zero j e l =
     let is : next_unit 0 j ≡ 2 = ap (next_unit 0) (sym (same i j e)) ∙ next 0 in
     subst (Begins (Some i ∷ None ∷ s)) (sym is) (let b = at_first (omega (arith, l, is)) in (b.0, b.1))
@@ -104,7 +107,8 @@ pub first_begins : (t : List Insn) → 0 < units t → (j : Insn) × (insn_at t 
 first_begins t l = first t l
 
 -- and so does one behind each instruction that is not the last
-pub next_begins : (t : List Insn) (unit : ℕ) (i : Insn) → insn_at t unit ≡ Some i → next_unit unit i < units t → (j : Insn) × (insn_at t (next_unit unit i) ≡ Some j)
+pub next_begins : (t : List Insn) (unit : ℕ) (i : Insn) → insn_at t unit ≡ Some i → next_unit unit i < units t
+    → (j : Insn) × (insn_at t (next_unit unit i) ≡ Some j)
 next_begins t unit i e l = begins t unit i e l
 
 -- an instruction begins at a unit of the text

@@ -5,6 +5,7 @@ use Rattle.std.proofs.lemmas.Int.{ints}
 use Rattle.bq_word.specs.Word.{low, modulo}
 use Rattle.bq_flow.specs.Successors.{destination}
 
-pub in_words : (unit next : ℕ) (distance : ℤ) → unit < 2 ^ 64 → next < 2 ^ 64 → destination unit distance ≡ pos next → low 64 (unit + 1 + modulo 64 distance) ≡ next
+pub in_words : (unit next : ℕ) (distance : ℤ) → unit < 2 ^ 64 → next < 2 ^ 64 → destination unit distance ≡ pos next
+    → low 64 (unit + 1 + modulo 64 distance) ≡ next
 in_words unit next (pos n) within fits e = omega (arith, ints, e, fits)
 in_words unit next (negsuc n) within fits e = omega (arith, ints, e, fits, within)

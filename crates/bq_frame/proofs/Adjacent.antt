@@ -42,7 +42,8 @@ module _ (xs new behind : List ℕ) (a : ℕ) (inside : a ≤ length xs) (whole 
   behind_there = ap (drop a) whole ∙ drop_at (take a xs) behind a (length-take-le a xs inside)
 
 -- the first n bytes of a part of which the first m lie there
-pub part_first : (xs room new : List ℕ) (a n m : ℕ) → n ≤ m → m ≤ length room → a ≤ length xs → new ≡ splice xs a (a + m) (take m room) → take n (drop a new) ≡ take n room
+pub part_first : (xs room new : List ℕ) (a n m : ℕ) → n ≤ m → m ≤ length room → a ≤ length xs → new ≡ splice xs a (a + m) (take m room)
+    → take n (drop a new) ≡ take n room
 part_first xs room new a n m few inside within is =
     ap (λ l. take n (drop a l)) is ∙ ap (take n) (behind_there xs (splice xs a (a + m) (take m room)) (take m room ++ drop (a + m) xs) a within refl)
     ∙ take-append-le n (take m room) (drop (a + m) xs) (omega (arith, few, length-take-le m room inside)) ∙ take-take n m room few

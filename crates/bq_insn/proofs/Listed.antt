@@ -15,7 +15,9 @@ begun-slots [] = refl
 begun-slots (i ∷ t) =
     ap begun (flat_map-cons slots_of i t) ∙ begun-append (slots_of i) (slots t) ∙ ap (λ (s : List Insn). s ++ begun (slots t)) (begun-slots_of i) ∙ ap (λ (s : List Insn). i ∷ s) (begun-slots t)
 
-pub listed_more : (t : List Insn) (k : ℕ) (i : Insn) (before after : List (Option Insn)) → take (k + 1) t ≡ take k t ++ i ∷ [] → (before ≡ slots (take k t)) × AllByRecursion IsInsn (take k t) → after ≡ before ++ slots_of i → IsInsn i → (after ≡ slots (take (k + 1) t)) × AllByRecursion IsInsn (take (k + 1) t)
+pub listed_more : (t : List Insn) (k : ℕ) (i : Insn) (before after : List (Option Insn)) → take (k + 1) t ≡ take k t ++ i ∷ []
+    → (before ≡ slots (take k t)) × AllByRecursion IsInsn (take k t) → after ≡ before ++ slots_of i → IsInsn i
+    → (after ≡ slots (take (k + 1) t)) × AllByRecursion IsInsn (take (k + 1) t)
 listed_more t k i before after more h pushed is = (
   pushed ∙ ap (λ (s : List (Option Insn)). s ++ slots_of i) h.0 ∙ sym (slots-push (take k t) i) ∙ ap slots (sym more),
   subst (AllByRecursion IsInsn) (sym more) (All-push (take k t) i h.1 is),
@@ -30,7 +32,8 @@ pub length-units : (t : List Insn) → length t ≤ units t
 length-units [] = omega arith
 length-units (i ∷ t) = omega (arith, ap length (flat_map-cons slots_of i t), length-append (slots_of i) (slots t), length-second i, length-units t)
 
-pub counted_more : (t : List Insn) (k : ℕ) (i : Insn) (count : ℕ) → take (k + 1) t ≡ take k t ++ i ∷ [] → count ≡ units (take k t) → count + length (slots_of i) ≡ units (take (k + 1) t)
+pub counted_more : (t : List Insn) (k : ℕ) (i : Insn) (count : ℕ) → take (k + 1) t ≡ take k t ++ i ∷ [] → count ≡ units (take k t)
+    → count + length (slots_of i) ≡ units (take (k + 1) t)
 counted_more t k i count more h =
     omega (arith, h, ap units more, ap length (slots-push (take k t) i), length-append (slots (take k t)) (slots_of i))
 

@@ -37,11 +37,13 @@ JudgedAt p i m o = Judged (ReadsUnset i m) (WritesFramePointer i) (AccessesOutsi
 
 -- ---- the parts of an instruction
 
-read_first : (R W O S : Type 0) (h : Option ℕ) (go : ℕ → Outcome) → (h ≡ None → R) → ((a : ℕ) → h ≡ Some a → Judged R W O S (go a)) → Judged R W O S (reading ReadUnset h go)
+read_first : (R W O S : Type 0) (h : Option ℕ) (go : ℕ → Outcome) → (h ≡ None → R) → ((a : ℕ) → h ≡ Some a → Judged R W O S (go a))
+    → Judged R W O S (reading ReadUnset h go)
 read_first R W O S None go r k = r refl
 read_first R W O S (Some a) go r k = k a refl
 
-write_by : (R W O S : Type 0) (d : ℕ) (o : Outcome) (b : Bool) → (b ≡ true → d < 10) → (b ≡ false → 10 ≤ d) → (R → ⊥) → (10 ≤ d → W) → (d < 10 → Judged R W O S o) → Judged R W O S (if b then o else Faults WroteFramePointer)
+write_by : (R W O S : Type 0) (d : ℕ) (o : Outcome) (b : Bool) → (b ≡ true → d < 10) → (b ≡ false → 10 ≤ d) → (R → ⊥) → (10 ≤ d → W)
+    → (d < 10 → Judged R W O S o) → Judged R W O S (if b then o else Faults WroteFramePointer)
 write_by R W O S d o true below above r w k = k (below refl)
 write_by R W O S d o false below above r w k = (r, w (above refl))
 
@@ -70,7 +72,10 @@ inside_is start len address size e = inside_by (nat_le start address) (nat_le (a
 inside_is_not : (start len address size : ℕ) → is_inside start len address size ≡ false → AreWithin start len address size → ⊥
 inside_is_not start len address size e = inside_not (nat_le start address) (nat_le (address + size) (start + len)) (start ≤ address) (address + size ≤ start + len) (λ h. grind (arith, nat_tests)) (λ h. grind (arith, nat_tests)) e
 
-lies_by : (p : Place) (len address size : ℕ) (x y : Bool) → (x ≡ true → AreWithin p.frame 512 address size) → (x ≡ false → AreWithin p.frame 512 address size → ⊥) → (y ≡ true → AreWithin p.record len address size) → (y ≡ false → AreWithin p.record len address size → ⊥) → Lies p len address size (if x then Some (Frame (address - p.frame)) else (if y then Some (Record (address - p.record)) else None))
+lies_by : (p : Place) (len address size : ℕ) (x y : Bool) → (x ≡ true → AreWithin p.frame 512 address size)
+    → (x ≡ false → AreWithin p.frame 512 address size → ⊥) → (y ≡ true → AreWithin p.record len address size)
+    → (y ≡ false → AreWithin p.record len address size → ⊥)
+    → Lies p len address size (if x then Some (Frame (address - p.frame)) else (if y then Some (Record (address - p.record)) else None))
 lies_by p len address size true y a b c d = a refl
 lies_by p len address size false true a b c d = c refl
 lies_by p len address size false false a b c d = (b refl, d refl)
@@ -79,7 +84,8 @@ lies : (p : Place) (len address size : ℕ) → Lies p len address size (access 
 lies p len address size = lies_by p len address size (is_inside p.frame 512 address size) (is_inside p.record len address size) (inside_is p.frame 512 address size) (inside_is_not p.frame 512 address size) (inside_is p.record len address size) (inside_is_not p.record len address size)
 
 -- no byte is in both regions
-never_both : (p : Place) (len address size : ℕ) → IsPlacement p → len ≤ record_room → 0 < size → AreWithin p.frame 512 address size → AreWithin p.record len address size → ⊥
+never_both : (p : Place) (len address size : ℕ) → IsPlacement p → len ≤ record_room → 0 < size → AreWithin p.frame 512 address size
+    → AreWithin p.record len address size → ⊥
 never_both p len address size is room some a b = elim is.apart as (λ _. ⊥) [ inl h ↦ omega arith | inr h ↦ omega arith ]
 
 -- ---- registers
@@ -130,7 +136,8 @@ store_at R W p i m a offset size v (Some (Record k)) place room some none one is
     (r, w, (λ o. elim o.2 as (λ _. ⊥) [ inl x ↦ none o.0 o.1 x | inr x ↦ let e = one o.0 o.1 x in o.4 (rw (e.0, e.1) at) ]), (moved a offset, size, is, at))
 
 -- an address is one
-one_address : (registers : List (Option ℕ)) (base : ℕ) (offset : ℤ) (a b address n size : ℕ) → held registers base ≡ Some a → held registers base ≡ Some b → address ≡ moved b offset → n ≡ size → (address ≡ moved a offset) × (n ≡ size)
+one_address : (registers : List (Option ℕ)) (base : ℕ) (offset : ℤ) (a b address n size : ℕ) → held registers base ≡ Some a
+    → held registers base ≡ Some b → address ≡ moved b offset → n ≡ size → (address ≡ moved a offset) × (n ≡ size)
 one_address registers base offset a b address n size h i e f = let s : b ≡ a = cc in (subst (λ x. address ≡ moved x offset) s e, f)
 
 -- ---- each form of instruction
@@ -182,7 +189,8 @@ judged p (insns.Wide d v) m place room =
 
 -- ---- the law
 
-no_fault : (p : Place) (i : Insn) (m : Machine) → (ReadsUnset i m → ⊥) → (WritesFramePointer i → ⊥) → (AccessesOutside p i m → ⊥) → (WritesRecord p i m → ⊥) → HoldsNone p i m
+no_fault : (p : Place) (i : Insn) (m : Machine) → (ReadsUnset i m → ⊥) → (WritesFramePointer i → ⊥) → (AccessesOutside p i m → ⊥)
+    → (WritesRecord p i m → ⊥) → HoldsNone p i m
 no_fault p i m r w o s ReadUnset h = r h
 no_fault p i m r w o s WroteFramePointer h = w h
 no_fault p i m r w o s OutsideAccess h = o h

@@ -25,7 +25,8 @@ no_next_of_fault o f m h i = cc
 no_answer : (o : Outcome) (f : Fault) (a : ℕ) → o ≡ Faults f → o ≡ Ends a → ⊥
 no_answer o f a h i = cc
 
-pub same_end : (p : Place) (text : List Insn) (n k : ℕ) (m : Machine) (a b : ℕ) (f g : List ℕ) → RunsTo p text m n a f → RunsTo p text m k b g → (n ≡ k) × (a ≡ b) × (f ≡ g)
+pub same_end : (p : Place) (text : List Insn) (n k : ℕ) (m : Machine) (a b : ℕ) (f g : List ℕ) → RunsTo p text m n a f → RunsTo p text m k b g
+    → (n ≡ k) × (a ≡ b) × (f ≡ g)
 same_end p text zero k m a b f g h i = absurd h
 same_end p text (suc n) zero m a b f g h i = absurd i
 same_end p text (suc n) (suc k) m a b f g (inl h) (inl i) = (ap suc (h.0 ∙ sym i.0), same_answer _ a b h.1 i.1, sym h.2 ∙ i.2)
@@ -35,7 +36,8 @@ same_end p text (suc n) (suc k) m a b f g (inr h) (inr i) =
     let r = same_end p text n k h.0 a b f g h.2 (subst (λ x. RunsTo p text x k b g) (same_next _ h.0 i.0 h.1 i.1) i.2) in
     (ap suc r.0, r.1, r.2)
 
-no_fault : (p : Place) (text : List Insn) (n k : ℕ) (m : Machine) (a : ℕ) (f : List ℕ) (fault : Fault) → RunsTo p text m n a f → FaultsAfter p text m k fault → ⊥
+no_fault : (p : Place) (text : List Insn) (n k : ℕ) (m : Machine) (a : ℕ) (f : List ℕ) (fault : Fault) → RunsTo p text m n a f
+    → FaultsAfter p text m k fault → ⊥
 no_fault p text zero k m a f fault h i = h
 no_fault p text (suc n) zero m a f fault (inl h) i = no_answer _ fault a i h.1
 no_fault p text (suc n) zero m a f fault (inr h) i = no_next_of_fault _ fault h.0 i h.1
@@ -49,7 +51,8 @@ no_limit p text (suc n) (suc limit) m a f (inl h) l i = no_next _ a i.0 h.1 i.1
 no_limit p text (suc n) (suc limit) m a f (inr h) l i = no_limit p text n limit h.0 a f h.2 (omega arith) (subst (λ x. StillRuns p text x limit) (same_next _ h.0 i.0 h.1 i.1) i.2)
 
 -- what ends within the limit does not fail within it
-pub no_refusal : (p : Place) (text : List Insn) (n limit : ℕ) (m : Machine) (a : ℕ) (f : List ℕ) (fault : Fault) → RunsTo p text m n a f → n ≤ limit → RunFaults p text m limit fault → ⊥
+pub no_refusal : (p : Place) (text : List Insn) (n limit : ℕ) (m : Machine) (a : ℕ) (f : List ℕ) (fault : Fault) → RunsTo p text m n a f → n ≤ limit
+    → RunFaults p text m limit fault → ⊥
 no_refusal p text n limit m a f fault h l (inl i) = no_fault p text n i.0 m a f fault h i.2
 no_refusal p text n limit m a f fault h l (inr i) = no_limit p text n limit m a f h l i.1
 

@@ -26,34 +26,40 @@ reach_back P p text back (suc n) k total m to e r h =
     reach_back P p text back n (suc k) total m r.0 (omega arith) r.1 (back r.0 to k r.2 h)
 
 -- an end
-pub ends_after : (p : Place) (text : List Insn) (n : ℕ) (m to new : Machine) (answer : ℕ) (result : Result Step Fault) → Reaches p text m n to → StepAnswers (step p text to) to result new → result ≡ Ok (Answers answer) → RunsTo p text m (n + 1) answer new.frame
+pub ends_after : (p : Place) (text : List Insn) (n : ℕ) (m to new : Machine) (answer : ℕ) (result : Result Step Fault) → Reaches p text m n to
+    → StepAnswers (step p text to) to result new → result ≡ Ok (Answers answer) → RunsTo p text m (n + 1) answer new.frame
 ends_after p text n m to new answer result r s e =
     let end = the_end p text to new answer result (step p text to) refl s e in
     reach_back (λ x k. RunsTo p text x k answer new.frame) p text (λ last next k st h. inr (next, st, h)) n 1 (n + 1) m to refl r (inl (refl, end.0, end.1))
   where
-    the_end : (p : Place) (text : List Insn) (to new : Machine) (answer : ℕ) (result : Result Step Fault) (o : Outcome) → step p text to ≡ o → StepAnswers o to result new → result ≡ Ok (Answers answer) → (step p text to ≡ Ends answer) × (to.frame ≡ new.frame)
+    the_end : (p : Place) (text : List Insn) (to new : Machine) (answer : ℕ) (result : Result Step Fault) (o : Outcome) → step p text to ≡ o
+        → StepAnswers o to result new → result ≡ Ok (Answers answer) → (step p text to ≡ Ends answer) × (to.frame ≡ new.frame)
     the_end p text to new answer result (Continues next) is s e = cc
     the_end p text to new answer result (Ends a) is s e = (cc, ap (λ (x : Machine). x.frame) (sym s.1))
     the_end p text to new answer result (Faults f) is s e = cc
 
 -- a fault
-pub faults_after : (p : Place) (text : List Insn) (n limit : ℕ) (m to new : Machine) (fault : Fault) (result : Result Step Fault) → n < limit → Reaches p text m n to → StepAnswers (step p text to) to result new → result ≡ Err fault → RunFaults p text m limit fault
+pub faults_after : (p : Place) (text : List Insn) (n limit : ℕ) (m to new : Machine) (fault : Fault) (result : Result Step Fault) → n < limit
+    → Reaches p text m n to → StepAnswers (step p text to) to result new → result ≡ Err fault → RunFaults p text m limit fault
 faults_after p text n limit m to new fault result low r s e =
     inl (n, low, reach_back (λ x k. FaultsAfter p text x k fault) p text (λ last next k st h. (next, st, h)) n 0 n m to (omega arith) r (the_fault p text to new fault result (step p text to) refl s e))
   where
-    the_fault : (p : Place) (text : List Insn) (to new : Machine) (fault : Fault) (result : Result Step Fault) (o : Outcome) → step p text to ≡ o → StepAnswers o to result new → result ≡ Err fault → step p text to ≡ Faults fault
+    the_fault : (p : Place) (text : List Insn) (to new : Machine) (fault : Fault) (result : Result Step Fault) (o : Outcome) → step p text to ≡ o
+        → StepAnswers o to result new → result ≡ Err fault → step p text to ≡ Faults fault
     the_fault p text to new fault result (Continues next) is s e = cc
     the_fault p text to new fault result (Ends a) is s e = cc
     the_fault p text to new fault result (Faults f) is s e = cc
 
 -- one step more
-pub reaches_more : (p : Place) (text : List Insn) (n : ℕ) (m to new : Machine) (result : Result Step Fault) → Reaches p text m n to → StepAnswers (step p text to) to result new → result ≡ Ok Goes → Reaches p text m (n + 1) new
+pub reaches_more : (p : Place) (text : List Insn) (n : ℕ) (m to new : Machine) (result : Result Step Fault) → Reaches p text m n to
+    → StepAnswers (step p text to) to result new → result ≡ Ok Goes → Reaches p text m (n + 1) new
 reaches_more p text n m to new result r s e =
     let one : suc n ≡ n + 1 = omega arith in
     let more : Reaches p text m (suc n) new = (to, r, the_next p text to new result (step p text to) refl s e) in
     subst (λ k. Reaches p text m k new) one more
   where
-    the_next : (p : Place) (text : List Insn) (to new : Machine) (result : Result Step Fault) (o : Outcome) → step p text to ≡ o → StepAnswers o to result new → result ≡ Ok Goes → step p text to ≡ Continues new
+    the_next : (p : Place) (text : List Insn) (to new : Machine) (result : Result Step Fault) (o : Outcome) → step p text to ≡ o
+        → StepAnswers o to result new → result ≡ Ok Goes → step p text to ≡ Continues new
     the_next p text to new result (Continues next) is s e = cc
     the_next p text to new result (Ends a) is s e = cc
     the_next p text to new result (Faults f) is s e = cc

@@ -25,12 +25,14 @@ uncommon CommonBit n e = n refl
 uncommon relation n e = cc
 
 -- the least ranges of the two sides, where each is there exactly where two words stand so
-joined : (S : ℕ → ℕ → Type 0) (a b : Interval) (l r : Option Interval) → OnLeast (IsLeft S a b) l → OnLeast (IsRight S a b) r → IsNarrowing S a b (option_and_then (λ (u : Interval). option_and_then (λ (v : Interval). Some (u, v)) r) l)
+joined : (S : ℕ → ℕ → Type 0) (a b : Interval) (l r : Option Interval) → OnLeast (IsLeft S a b) l → OnLeast (IsRight S a b) r
+    → IsNarrowing S a b (option_and_then (λ (u : Interval). option_and_then (λ (v : Interval). Some (u, v)) r) l)
 joined S a b None r m n = λ x y h k s. m x (h, (y, k, s))
 joined S a b (Some u) None m n = λ x y h k s. n y (k, (x, h, s))
 joined S a b (Some u) (Some v) m n = (m, n)
 
-both : (width : Width) (relation : Relation) (a b : Interval) → (relation ≡ CommonBit → ⊥) → AreRanges (bits_of width) a b → IsNarrowing (λ x y. relates (bits_of width) relation x y ≡ true) a b (narrowed_by (bits_of width) relation a b)
+both : (width : Width) (relation : Relation) (a b : Interval) → (relation ≡ CommonBit → ⊥) → AreRanges (bits_of width) a b
+    → IsNarrowing (λ x y. relates (bits_of width) relation x y ≡ true) a b (narrowed_by (bits_of width) relation a b)
 both width relation a b n r =
     let S : ℕ → ℕ → Type 0 = λ x y. relates (bits_of width) relation x y ≡ true in
     let C : ℕ → ℕ → Type 0 = λ y x. relates (bits_of width) (converse relation) y x ≡ true in
@@ -42,7 +44,8 @@ both width relation a b n r =
     (relation_least width (converse relation) b a (uncommon relation n) (turned (bits_of width) a b r)))
 
 -- the same words stand so
-narrowing_like : (S T : ℕ → ℕ → Type 0) (a b : Interval) (o : Option (Interval × Interval)) → ((x y : ℕ) → S x y → T x y) → ((x y : ℕ) → T x y → S x y) → IsNarrowing S a b o → IsNarrowing T a b o
+narrowing_like : (S T : ℕ → ℕ → Type 0) (a b : Interval) (o : Option (Interval × Interval)) → ((x y : ℕ) → S x y → T x y)
+    → ((x y : ℕ) → T x y → S x y) → IsNarrowing S a b o → IsNarrowing T a b o
 narrowing_like S T a b None f g n = λ x y h k t. n x y h k (g x y t)
 narrowing_like S T a b (Some p) f g n = (
   least_like (IsLeft S a b) (IsLeft T a b) (Some p.0) (λ x (k, u). let (y, l, s) = u in (k, (y, l, f x y s))) (λ x (k, u). let (y, l, t) = u in (k, (y, l, g x y t))) n.0,
@@ -59,7 +62,9 @@ from_not : (b c : Bool) → c ≡ not b → b ≡ false → c ≡ true
 from_not b c e f = e ∙ ap not f
 
 -- where the one holds the other does not
-edges : (width : Width) (relation other : Relation) (taken : Bool) (a b : Interval) → (relation ≡ CommonBit → ⊥) → (other ≡ CommonBit → ⊥) → ((x y : ℕ) → relates (bits_of width) other x y ≡ not (relates (bits_of width) relation x y)) → AreRanges (bits_of width) a b → IsNarrowing (λ x y. relates (bits_of width) relation x y ≡ taken) a b (narrowed_by (bits_of width) (cond taken relation other) a b)
+edges : (width : Width) (relation other : Relation) (taken : Bool) (a b : Interval) → (relation ≡ CommonBit → ⊥) → (other ≡ CommonBit → ⊥)
+    → ((x y : ℕ) → relates (bits_of width) other x y ≡ not (relates (bits_of width) relation x y)) → AreRanges (bits_of width) a b
+    → IsNarrowing (λ x y. relates (bits_of width) relation x y ≡ taken) a b (narrowed_by (bits_of width) (cond taken relation other) a b)
 edges width relation other true a b n m e r = both width relation a b n r
 edges width relation other false a b n m e r =
     narrowing_like (λ x y. relates (bits_of width) other x y ≡ true) (λ x y. relates (bits_of width) relation x y ≡ false) a b (narrowed_by (bits_of width) other a b)
@@ -71,10 +76,13 @@ edges width relation other false a b n m e r =
 not_back : (b c : Bool) → b ≡ not c → c ≡ not b
 not_back b c e = sym (not_not c) ∙ ap not (sym e)
 
-edges_back : (width : Width) (relation other : Relation) (taken : Bool) (a b : Interval) → (relation ≡ CommonBit → ⊥) → (other ≡ CommonBit → ⊥) → ((x y : ℕ) → relates (bits_of width) relation x y ≡ not (relates (bits_of width) other x y)) → AreRanges (bits_of width) a b → IsNarrowing (λ x y. relates (bits_of width) relation x y ≡ taken) a b (narrowed_by (bits_of width) (cond taken relation other) a b)
+edges_back : (width : Width) (relation other : Relation) (taken : Bool) (a b : Interval) → (relation ≡ CommonBit → ⊥) → (other ≡ CommonBit → ⊥)
+    → ((x y : ℕ) → relates (bits_of width) relation x y ≡ not (relates (bits_of width) other x y)) → AreRanges (bits_of width) a b
+    → IsNarrowing (λ x y. relates (bits_of width) relation x y ≡ taken) a b (narrowed_by (bits_of width) (cond taken relation other) a b)
 edges_back width relation other taken a b n m e = edges width relation other taken a b n m (λ x y. not_back (relates (bits_of width) relation x y) (relates (bits_of width) other x y) (e x y))
 
-pub edge_narrows : (width : Width) (relation : Relation) (taken : Bool) (a b : Interval) → (relation ≡ CommonBit → ⊥) → AreRanges (bits_of width) a b → IsNarrowing (λ x y. relates (bits_of width) relation x y ≡ taken) a b (by_opposite (bits_of width) relation (opposite relation) taken a b)
+pub edge_narrows : (width : Width) (relation : Relation) (taken : Bool) (a b : Interval) → (relation ≡ CommonBit → ⊥) → AreRanges (bits_of width) a b
+    → IsNarrowing (λ x y. relates (bits_of width) relation x y ≡ taken) a b (by_opposite (bits_of width) relation (opposite relation) taken a b)
 edge_narrows width Equal taken a b n r = edges width Equal NotEqual taken a b n (λ e. cc) (λ x y. refl) r
 edge_narrows width NotEqual taken a b n r = edges width NotEqual Equal taken a b n (λ e. cc) (λ x y. sym (not_not (eqb (low (bits_of width) x) (low (bits_of width) y)))) r
 edge_narrows width Less taken a b n r = edges width Less GreaterOrEqual taken a b n (λ e. cc) (λ x y. leb_not (low (bits_of width) y) (low (bits_of width) x)) r
@@ -89,7 +97,8 @@ edge_narrows width CommonBit taken a b n r = absurd (n refl)
 
 -- ---- what follows of it
 
-pub narrowing_covers : (S : ℕ → ℕ → Type 0) (a b : Interval) (o : Option (Interval × Interval)) → IsNarrowing S a b o → (x y : ℕ) → IsIn x a → IsIn y b → S x y → IsSomeAnd o (λ p. IsIn x p.0 × IsIn y p.1)
+pub narrowing_covers : (S : ℕ → ℕ → Type 0) (a b : Interval) (o : Option (Interval × Interval)) → IsNarrowing S a b o → (x y : ℕ) → IsIn x a
+    → IsIn y b → S x y → IsSomeAnd o (λ p. IsIn x p.0 × IsIn y p.1)
 narrowing_covers S a b None n x y h k s = n x y h k s
 narrowing_covers S a b (Some p) n x y h k s = (n.0.each x (h, (y, k, s)), n.1.each y (k, (x, h, s)))
 
@@ -99,7 +108,8 @@ inside P a r f i =
     let h : IsIn r.hi a = f r.hi i.hi in
     record { low = l.low; high = h.high }
 
-pub narrowing_inside : (S : ℕ → ℕ → Type 0) (a b : Interval) (o : Option (Interval × Interval)) → IsNarrowing S a b o → IfSome o (λ p. Within p.0 a × Within p.1 b)
+pub narrowing_inside : (S : ℕ → ℕ → Type 0) (a b : Interval) (o : Option (Interval × Interval)) → IsNarrowing S a b o
+    → IfSome o (λ p. Within p.0 a × Within p.1 b)
 narrowing_inside S a b None n = tt
 narrowing_inside S a b (Some p) n = (inside (IsLeft S a b) a p.0 (λ x (k, _). k) n.0, inside (IsRight S a b) b p.1 (λ y (k, _). k) n.1)
 
@@ -109,7 +119,8 @@ same_as : (taken t : Bool) → t ≡ taken → is_same taken t ≡ true
 same_as true t e = e
 same_as false t e = ap not e
 
-common_covers : (w : ℕ) (taken : Bool) (a b : Interval) (x y : ℕ) → IsIn x a → IsIn y b → relates w CommonBit x y ≡ taken → IsSomeAnd (by_common_bit w taken a b) (λ p. IsIn x p.0 × IsIn y p.1)
+common_covers : (w : ℕ) (taken : Bool) (a b : Interval) (x y : ℕ) → IsIn x a → IsIn y b → relates w CommonBit x y ≡ taken
+    → IsSomeAnd (by_common_bit w taken a b) (λ p. IsIn x p.0 × IsIn y p.1)
 common_covers w taken a b x y h k s =
     cond_both (is_single a && is_single b && not (is_same taken (relates w CommonBit a.lo b.lo))) None (Some (a, b)) (λ o. IsSomeAnd o (λ p. IsIn x p.0 × IsIn y p.1))
     (λ e. let (u, v) = and_parts (is_single a && is_single b) (not (is_same taken (relates w CommonBit a.lo b.lo))) e in
@@ -141,7 +152,9 @@ is_common SignedGreater = inr (λ e. cc)
 is_common SignedGreaterOrEqual = inr (λ e. cc)
 is_common CommonBit = inl refl
 
-pub edge_covers : (width : Width) (relation : Relation) (taken : Bool) (a b : Interval) → AreRanges (bits_of width) a b → (x y : ℕ) → IsIn x a → IsIn y b → relates (bits_of width) relation x y ≡ taken → IsSomeAnd (by_opposite (bits_of width) relation (opposite relation) taken a b) (λ p. IsIn x p.0 × IsIn y p.1)
+pub edge_covers : (width : Width) (relation : Relation) (taken : Bool) (a b : Interval) → AreRanges (bits_of width) a b → (x y : ℕ) → IsIn x a
+    → IsIn y b → relates (bits_of width) relation x y ≡ taken
+    → IsSomeAnd (by_opposite (bits_of width) relation (opposite relation) taken a b) (λ p. IsIn x p.0 × IsIn y p.1)
 edge_covers width relation taken a b r x y h k s =
     elim (is_common relation) [
       | inl e ↦ let P : Relation → Type 0 = λ q. relates (bits_of width) q x y ≡ taken → IsSomeAnd (by_opposite (bits_of width) q (opposite q) taken a b) (λ p. IsIn x p.0 × IsIn y p.1) in
@@ -149,7 +162,8 @@ edge_covers width relation taken a b r x y h k s =
       | inr n ↦ narrowing_covers (λ x y. relates (bits_of width) relation x y ≡ taken) a b _ (edge_narrows width relation taken a b n r) x y h k s
     ]
 
-pub edge_inside : (width : Width) (relation : Relation) (taken : Bool) (a b : Interval) → AreRanges (bits_of width) a b → IfSome (by_opposite (bits_of width) relation (opposite relation) taken a b) (λ p. Within p.0 a × Within p.1 b)
+pub edge_inside : (width : Width) (relation : Relation) (taken : Bool) (a b : Interval) → AreRanges (bits_of width) a b
+    → IfSome (by_opposite (bits_of width) relation (opposite relation) taken a b) (λ p. Within p.0 a × Within p.1 b)
 edge_inside width relation taken a b r =
     elim (is_common relation) [
       | inl e ↦ let P : Relation → Type 0 = λ q. IfSome (by_opposite (bits_of width) q (opposite q) taken a b) (λ p. Within p.0 a × Within p.1 b) in

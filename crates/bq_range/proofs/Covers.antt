@@ -44,7 +44,8 @@ cut_bound w a =
 
 -- ---- two operands
 
-pub operated_covers : (width : Width) (op : AluOp) (a b : Interval) (x y : ℕ) → IsIn x a → IsIn y b → IsIn (operation (bits_of width) op x y) (operated (bits_of width) op a b)
+pub operated_covers : (width : Width) (op : AluOp) (a b : Interval) (x y : ℕ) → IsIn x a → IsIn y b
+    → IsIn (operation (bits_of width) op x y) (operated (bits_of width) op a b)
 operated_covers width op a b x y h k =
     let w : ℕ = bits_of width in
     pick (is_single a && is_single b) _ _ _
@@ -78,7 +79,8 @@ negated_covers w a x h =
     (rw (sub_is w 0 x) (negatives_hold w (cut w a) (low w x) (cut_bound w a) (cut_covers w a x h)))
 
 -- a number whose low bits have no sign is what its sign extension is
-extended_small : (from : SignBits) (to : Width) (x : ℕ) → low (bits_of to) x < 2 ^ (sign_bits from - 1) → extended (sign_bits from) (bits_of to) x ≡ low (bits_of to) x
+extended_small : (from : SignBits) (to : Width) (x : ℕ) → low (bits_of to) x < 2 ^ (sign_bits from - 1)
+    → extended (sign_bits from) (bits_of to) x ≡ low (bits_of to) x
 extended_small B8 W32 x h = grind (arith, ints)
 extended_small B8 W64 x h = grind (arith, ints)
 extended_small B16 W32 x h = grind (arith, ints)
@@ -86,7 +88,8 @@ extended_small B16 W64 x h = grind (arith, ints)
 extended_small B32 W32 x h = grind (arith, ints)
 extended_small B32 W64 x h = grind (arith, ints)
 
-pub sign_extended_covers : (from : SignBits) (to : Width) (a : Interval) (x : ℕ) → IsIn x a → IsIn (extended (sign_bits from) (bits_of to) x) (sign_extended (sign_bits from) (bits_of to) a)
+pub sign_extended_covers : (from : SignBits) (to : Width) (a : Interval) (x : ℕ) → IsIn x a
+    → IsIn (extended (sign_bits from) (bits_of to) x) (sign_extended (sign_bits from) (bits_of to) a)
 sign_extended_covers from to a x h =
     let k : IsIn (low (bits_of to) x) (cut (bits_of to) a) = cut_covers (bits_of to) a x h in
     of_single (λ n. extended (sign_bits from) (bits_of to) n) a (extensions (sign_bits from) (bits_of to) (cut (bits_of to) a)) x h
@@ -108,7 +111,8 @@ swapped_range_covers bits a x h =
 
 -- ---- branches
 
-pub branched_covers : (width : Width) (relation : Relation) (taken : Bool) (a b : Interval) (x y : ℕ) → IsIn x a → IsIn y b → relates (bits_of width) relation x y ≡ taken → IsSomeAnd (branched (bits_of width) relation taken a b) (λ p. IsIn x p.0 × IsIn y p.1)
+pub branched_covers : (width : Width) (relation : Relation) (taken : Bool) (a b : Interval) (x y : ℕ) → IsIn x a → IsIn y b
+    → relates (bits_of width) relation x y ≡ taken → IsSomeAnd (branched (bits_of width) relation taken a b) (λ p. IsIn x p.0 × IsIn y p.1)
 branched_covers width relation taken a b x y h k s =
     cond_both (ltb a.hi (2 ^ bits_of width) && ltb b.hi (2 ^ bits_of width)) (by_opposite (bits_of width) relation (opposite relation) taken a b) (Some (a, b)) (λ o. IsSomeAnd o (λ p. IsIn x p.0 × IsIn y p.1))
     (λ e. let (i, j) = and_parts (ltb a.hi (2 ^ bits_of width)) (ltb b.hi (2 ^ bits_of width)) e in

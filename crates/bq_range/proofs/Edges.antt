@@ -63,7 +63,8 @@ signed_low w x k l = let ex : x % 2 ^ w ≡ x = mod-eq_of_lt k in rw (ex, lt-ltb
 signed_high : (w x : ℕ) → x < 2 ^ w → sign w ≤ x → signed w x ≡ negsuc (2 ^ w - 1 - x)
 signed_high w x k l = let ex : x % 2 ^ w ≡ x = mod-eq_of_lt k in rw (ex, le-ltb x (sign w) l) refl
 
-lt_signed : (width : Width) (x y : ℕ) → x < 2 ^ bits_of width → y < 2 ^ bits_of width → lt_z (signed (bits_of width) x) (signed (bits_of width) y) ≡ ltb (place (sign (bits_of width)) x) (place (sign (bits_of width)) y)
+lt_signed : (width : Width) (x y : ℕ) → x < 2 ^ bits_of width → y < 2 ^ bits_of width
+    → lt_z (signed (bits_of width) x) (signed (bits_of width) y) ≡ ltb (place (sign (bits_of width)) x) (place (sign (bits_of width)) y)
 lt_signed width x y k l =
     let w : ℕ = bits_of width in
     let h : ℕ = sign (bits_of width) in
@@ -81,7 +82,8 @@ lt_signed width x y k l =
 
 -- ---- a test of places gives the words that come before, or after, some word of the other range
 
-some_like : (F G : ℕ → ℕ → Type 0) (a b : Interval) (o : Option Interval) → ((x y : ℕ) → IsIn x a → IsIn y b → F x y → G x y) → ((x y : ℕ) → IsIn x a → IsIn y b → G x y → F x y) → OnLeast (IsLeft F a b) o → OnLeast (IsLeft G a b) o
+some_like : (F G : ℕ → ℕ → Type 0) (a b : Interval) (o : Option Interval) → ((x y : ℕ) → IsIn x a → IsIn y b → F x y → G x y)
+    → ((x y : ℕ) → IsIn x a → IsIn y b → G x y → F x y) → OnLeast (IsLeft F a b) o → OnLeast (IsLeft G a b) o
 some_like F G a b o f g =
     least_like (IsLeft F a b) (IsLeft G a b) o
     (λ x (k, u). let (y, l, v) = u in (k, (y, l, f x y k l v)))
@@ -97,28 +99,32 @@ pub record InOrders (h : ℕ) (a b : Interval) : Type 0 where
 abbrev Agree : (ℕ → ℕ → Bool) → (ℕ → ℕ → Bool) → Interval → Interval → Type 0
 Agree G T a b = (x y : ℕ) → IsIn x a → IsIn y b → G x y ≡ T x y
 
-comes_before : (h : ℕ) (G : ℕ → ℕ → Bool) (a b : Interval) → InOrders h a b → Agree G (λ x y. ltb (place h x) (place h y)) a b → OnLeast (IsLeft (λ x y. G x y ≡ true) a b) (ahead h 0 (last h b) a)
+comes_before : (h : ℕ) (G : ℕ → ℕ → Bool) (a b : Interval) → InOrders h a b → Agree G (λ x y. ltb (place h x) (place h y)) a b
+    → OnLeast (IsLeft (λ x y. G x y ≡ true) a b) (ahead h 0 (last h b) a)
 comes_before h G a b o e =
     some_like (λ x y. place h x < place h y + 0) (λ x y. G x y ≡ true) a b (ahead h 0 (last h b) a)
     (λ x y k l v. e x y k l ∙ lt-ltb (place h x) (place h y) (omega arith))
     (λ x y k l v. let t : place h x < place h y = ltb-true (place h x) (place h y) (sym (e x y k l) ∙ v) in omega arith)
     (before_some h 0 a b o.a_ordered o.b_ordered (omega arith) o.a_order o.b_order)
 
-comes_no_later : (h : ℕ) (G : ℕ → ℕ → Bool) (a b : Interval) → InOrders h a b → Agree G (λ x y. not (ltb (place h y) (place h x))) a b → OnLeast (IsLeft (λ x y. G x y ≡ true) a b) (ahead h 1 (last h b) a)
+comes_no_later : (h : ℕ) (G : ℕ → ℕ → Bool) (a b : Interval) → InOrders h a b → Agree G (λ x y. not (ltb (place h y) (place h x))) a b
+    → OnLeast (IsLeft (λ x y. G x y ≡ true) a b) (ahead h 1 (last h b) a)
 comes_no_later h G a b o e =
     some_like (λ x y. place h x < place h y + 1) (λ x y. G x y ≡ true) a b (ahead h 1 (last h b) a)
     (λ x y k l v. e x y k l ∙ ap not (le-ltb (place h y) (place h x) (omega arith)))
     (λ x y k l v. let t : place h x ≤ place h y = ltb-false (place h y) (place h x) (not-true (ltb (place h y) (place h x)) (sym (e x y k l) ∙ v)) in omega arith)
     (before_some h 1 a b o.a_ordered o.b_ordered (omega arith) o.a_order o.b_order)
 
-comes_after : (h : ℕ) (G : ℕ → ℕ → Bool) (a b : Interval) → InOrders h a b → Agree G (λ x y. ltb (place h y) (place h x)) a b → OnLeast (IsLeft (λ x y. G x y ≡ true) a b) (behind h 1 (first h b) a)
+comes_after : (h : ℕ) (G : ℕ → ℕ → Bool) (a b : Interval) → InOrders h a b → Agree G (λ x y. ltb (place h y) (place h x)) a b
+    → OnLeast (IsLeft (λ x y. G x y ≡ true) a b) (behind h 1 (first h b) a)
 comes_after h G a b o e =
     some_like (λ x y. place h y + 1 ≤ place h x) (λ x y. G x y ≡ true) a b (behind h 1 (first h b) a)
     (λ x y k l v. e x y k l ∙ lt-ltb (place h y) (place h x) (omega arith))
     (λ x y k l v. let t : place h y < place h x = ltb-true (place h y) (place h x) (sym (e x y k l) ∙ v) in omega arith)
     (after_some h 1 a b o.a_ordered o.b_ordered (omega arith) o.a_order o.b_order)
 
-comes_no_earlier : (h : ℕ) (G : ℕ → ℕ → Bool) (a b : Interval) → InOrders h a b → Agree G (λ x y. not (ltb (place h x) (place h y))) a b → OnLeast (IsLeft (λ x y. G x y ≡ true) a b) (behind h 0 (first h b) a)
+comes_no_earlier : (h : ℕ) (G : ℕ → ℕ → Bool) (a b : Interval) → InOrders h a b → Agree G (λ x y. not (ltb (place h x) (place h y))) a b
+    → OnLeast (IsLeft (λ x y. G x y ≡ true) a b) (behind h 0 (first h b) a)
 comes_no_earlier h G a b o e =
     some_like (λ x y. place h y + 0 ≤ place h x) (λ x y. G x y ≡ true) a b (behind h 0 (first h b) a)
     (λ x y k l v. e x y k l ∙ ap not (le-ltb (place h x) (place h y) (omega arith)))
@@ -169,7 +175,8 @@ other b x p s =
       | inr e ↦ (b.lo, record { low = omega arith; high = p }, e)
     ]
 
-differs : (w : ℕ) (a b : Interval) → AreRanges w a b → OnLeast (IsLeft (λ x y. (x ≡ y → ⊥)) a b) (cond (is_single b) (hull (below b.lo a) (from (b.lo + 1) a)) (Some a))
+differs : (w : ℕ) (a b : Interval) → AreRanges w a b
+    → OnLeast (IsLeft (λ x y. (x ≡ y → ⊥)) a b) (cond (is_single b) (hull (below b.lo a) (from (b.lo + 1) a)) (Some a))
 differs w a b r =
     cond_both (is_single b) (hull (below b.lo a) (from (b.lo + 1) a)) (Some a) (OnLeast (IsLeft (λ x y. (x ≡ y → ⊥)) a b))
     (λ t. let s : b.lo ≡ b.hi = eqb-true b.lo b.hi t in
@@ -204,10 +211,12 @@ not_equals w a b r =
 own_test : (w : ℕ) (a b : Interval) (x y : ℕ) → AreRanges w a b → IsIn x a → IsIn y b → ltb (low w x) (low w y) ≡ ltb (place 0 x) (place 0 y)
 own_test w a b x y r k l = lt_own w x y (omega arith) (omega arith)
 
-signed_test : (width : Width) (a b : Interval) (x y : ℕ) → AreRanges (bits_of width) a b → IsIn x a → IsIn y b → lt_z (signed (bits_of width) x) (signed (bits_of width) y) ≡ ltb (place (sign (bits_of width)) x) (place (sign (bits_of width)) y)
+signed_test : (width : Width) (a b : Interval) (x y : ℕ) → AreRanges (bits_of width) a b → IsIn x a → IsIn y b
+    → lt_z (signed (bits_of width) x) (signed (bits_of width) y) ≡ ltb (place (sign (bits_of width)) x) (place (sign (bits_of width)) y)
 signed_test width a b x y r k l = lt_signed width x y (omega arith) (omega arith)
 
-pub relation_least : (width : Width) (relation : Relation) (a b : Interval) → (relation ≡ CommonBit → ⊥) → AreRanges (bits_of width) a b → OnLeast (IsLeft (λ x y. relates (bits_of width) relation x y ≡ true) a b) (narrowed_to (bits_of width) relation a b)
+pub relation_least : (width : Width) (relation : Relation) (a b : Interval) → (relation ≡ CommonBit → ⊥) → AreRanges (bits_of width) a b
+    → OnLeast (IsLeft (λ x y. relates (bits_of width) relation x y ≡ true) a b) (narrowed_to (bits_of width) relation a b)
 relation_least width Equal a b n r = equals (bits_of width) a b r
 relation_least width NotEqual a b n r = not_equals (bits_of width) a b r
 relation_least width Less a b n r = comes_before 0 (relates (bits_of width) Less) a b (in_own (bits_of width) a b r) (λ x y k l. own_test (bits_of width) a b x y r k l)

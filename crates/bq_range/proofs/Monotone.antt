@@ -77,7 +77,8 @@ right_fits : (w : ℕ) (a b c d : Interval) → Inside w a b c d → Fits w b
 right_fits w a b c d h = omega (arith, h.right.high, h.d_fits)
 
 -- a row that asks whether the divisor may be 0
-by_divisor : (b d u v x y : Interval) → Within b d → (1 ≤ d.lo → Within u x) → (d.lo < 1 → 1 ≤ b.lo → Within u y) → Within v y → Within (cond (leb 1 b.lo) u v) (cond (leb 1 d.lo) x y)
+by_divisor : (b d u v x y : Interval) → Within b d → (1 ≤ d.lo → Within u x) → (d.lo < 1 → 1 ≤ b.lo → Within u y) → Within v y
+    → Within (cond (leb 1 b.lo) u v) (cond (leb 1 d.lo) x y)
 by_divisor b d u v x y r never later zero =
     large_le 1 d.lo _ _ _
     (λ s. small_le 1 b.lo _ _ _ (λ t. never s) (λ t. absurd (omega (arith, r.low))))
@@ -158,7 +159,8 @@ conjunctions_within a b c d l r = record { low = omega arith; high = omega (arit
 disjunctions_within : (a b c d : Interval) → c.hi < 2 ^ 64 → d.hi < 2 ^ 64 → Within a c → Within b d → Within (disjunctions a b) (disjunctions c d)
 disjunctions_within a b c d p q l r = record { low = omega (arith, l.low, r.low); high = ones_mono (max a.hi b.hi) (max c.hi d.hi) (omega (arith, l.high, r.high)) (omega arith) }
 
-exclusive_within : (a b c d : Interval) → c.hi < 2 ^ 64 → d.hi < 2 ^ 64 → Within a c → Within b d → Within (exclusive_disjunctions a b) (exclusive_disjunctions c d)
+exclusive_within : (a b c d : Interval) → c.hi < 2 ^ 64 → d.hi < 2 ^ 64 → Within a c → Within b d
+    → Within (exclusive_disjunctions a b) (exclusive_disjunctions c d)
 exclusive_within a b c d p q l r = record { low = omega arith; high = ones_mono (max a.hi b.hi) (max c.hi d.hi) (omega (arith, l.high, r.high)) (omega arith) }
 
 -- a single count is that of the smaller range too
@@ -209,7 +211,8 @@ smaller_side w a c o l side = elim side [ inl h ↦ inl (omega (arith, l.high)) 
 test_of : (w : ℕ) (a : Interval) → (a.hi < 2 ^ (w - 1)) ⊎ (2 ^ (w - 1) ≤ a.lo) → (ltb a.hi (2 ^ (w - 1)) || leb (2 ^ (w - 1)) a.lo) ≡ true
 test_of w a side = elim side [ inl h ↦ rw (lt-ltb a.hi (2 ^ (w - 1)) h) refl | inr h ↦ rw (le-leb (2 ^ (w - 1)) a.lo h) (or-true (ltb a.hi (2 ^ (w - 1)))) ]
 
-shifts_within : (w : ℕ) (a c : Interval) (n : ℕ) → c.hi < 2 ^ w → a.lo ≤ a.hi → Within a c → (c.hi < 2 ^ (w - 1)) ⊎ (2 ^ (w - 1) ≤ c.lo) → Within (shifts w a n) (shifts w c n)
+shifts_within : (w : ℕ) (a c : Interval) (n : ℕ) → c.hi < 2 ^ w → a.lo ≤ a.hi → Within a c → (c.hi < 2 ^ (w - 1)) ⊎ (2 ^ (w - 1) ≤ c.lo)
+    → Within (shifts w a n) (shifts w c n)
 shifts_within w a c n fits o l side =
     let low = shifts_by w c a.lo n fits (least_of a c o l) side in
     let high = shifts_by w c a.hi n fits (greatest_of a c o l) side in
@@ -236,7 +239,8 @@ arithmetic_within w a b c d h =
 
 -- ---- all rows
 
-row_within : (width : Width) (op : AluOp) (a b c d : Interval) → Inside (bits_of width) a b c d → Within (row (bits_of width) op a b) (row (bits_of width) op c d)
+row_within : (width : Width) (op : AluOp) (a b c d : Interval) → Inside (bits_of width) a b c d
+    → Within (row (bits_of width) op a b) (row (bits_of width) op c d)
 row_within width Add a b c d h = sums_within (bits_of width) a b c d h
 row_within width Sub a b c d h = differences_within (bits_of width) a b c d h
 row_within width Mul a b c d h = products_within (bits_of width) a b c d h.left h.right
@@ -276,7 +280,8 @@ one_word : (x : ℕ) (r : Interval) → IsIn x r → Within (single x) r
 one_word x r h = record { low = h.low; high = h.high }
 
 -- smaller operands leave a smaller range
-pub operated_within : (width : Width) (op : AluOp) (a b c d : Interval) → a.lo ≤ a.hi → b.lo ≤ b.hi → Within a c → Within b d → Within (operated (bits_of width) op a b) (operated (bits_of width) op c d)
+pub operated_within : (width : Width) (op : AluOp) (a b c d : Interval) → a.lo ≤ a.hi → b.lo ≤ b.hi → Within a c → Within b d
+    → Within (operated (bits_of width) op a b) (operated (bits_of width) op c d)
 operated_within width op a b c d o p l r =
     let w = bits_of width in
     small (is_single a && is_single b) (single (operation w op a.lo b.lo)) (row w op (cut w a) (cut w b)) (operated w op c d)
@@ -301,7 +306,8 @@ operated_within width op a b c d o p l r =
 -- ---- one operand
 
 -- of one word the exact result, which the larger range's result holds; else the row
-of_one : (f : ℕ → ℕ) (a c u v : Interval) → a.lo ≤ a.hi → Within a c → IsIn (f a.lo) (cond (is_single c) (single (f c.lo)) v) → Within u v → Within (cond (is_single a) (single (f a.lo)) u) (cond (is_single c) (single (f c.lo)) v)
+of_one : (f : ℕ → ℕ) (a c u v : Interval) → a.lo ≤ a.hi → Within a c → IsIn (f a.lo) (cond (is_single c) (single (f c.lo)) v) → Within u v
+    → Within (cond (is_single a) (single (f a.lo)) u) (cond (is_single c) (single (f c.lo)) v)
 of_one f a c u v o l h k =
     small (is_single a) (single (f a.lo)) u (cond (is_single c) (single (f c.lo)) v)
     (λ _. one_word (f a.lo) (cond (is_single c) (single (f c.lo)) v) h)
@@ -326,7 +332,8 @@ negated_within w a c o l =
     of_one (λ n. operation w Sub 0 n) a c (negatives w (cut w a)) (negatives w (cut w c)) o l (negated_covers w c a.lo (least_of a c o l))
     (negatives_within w (cut w a) (cut w c) (cut_ordered w a o) (cut_bound w c) (cut_within w a c o l))
 
-pub sign_extended_within : (from : SignBits) (to : Width) (a c : Interval) → a.lo ≤ a.hi → Within a c → Within (sign_extended (sign_bits from) (bits_of to) a) (sign_extended (sign_bits from) (bits_of to) c)
+pub sign_extended_within : (from : SignBits) (to : Width) (a c : Interval) → a.lo ≤ a.hi → Within a c
+    → Within (sign_extended (sign_bits from) (bits_of to) a) (sign_extended (sign_bits from) (bits_of to) c)
 sign_extended_within from to a c o l =
     let w = bits_of to in
     let k = cut_within w a c o l in
@@ -342,7 +349,8 @@ low_range_within n a c o l =
     (λ s. small_lt a.hi (2 ^ n) a (whole n) c (λ _. l) (λ t. absurd (omega (arith, l.high))))
     (λ s. small_lt a.hi (2 ^ n) a (whole n) (whole n) (λ t. in_whole n a t) (λ _. itself (whole n))))
 
-pub swapped_range_within : (bits : SwapBits) (a c : Interval) → a.lo ≤ a.hi → Within a c → Within (swapped_range (swap_bits bits) a) (swapped_range (swap_bits bits) c)
+pub swapped_range_within : (bits : SwapBits) (a c : Interval) → a.lo ≤ a.hi → Within a c
+    → Within (swapped_range (swap_bits bits) a) (swapped_range (swap_bits bits) c)
 swapped_range_within bits a c o l =
     of_one (swapped (swap_bits bits)) a c (whole (swap_bits bits)) (whole (swap_bits bits)) o l (swapped_range_covers bits c a.lo (least_of a c o l)) (itself (whole (swap_bits bits)))
 
@@ -367,7 +375,8 @@ row_whole W64 Xor = omega (arith, ones_least (max (2 ^ 64 - 1) (2 ^ 64 - 1)) 64 
 row_whole width ArithmeticShiftRight = arithmetic_fit (bits_of width) (whole (bits_of width)) (whole (bits_of width)) (whole_fits (bits_of width))
 row_whole width _ = whole_fits (bits_of width)
 
-row_fits : (width : Width) (op : AluOp) (a b : Interval) → a.lo ≤ a.hi → b.lo ≤ b.hi → a.hi < 2 ^ bits_of width → b.hi < 2 ^ bits_of width → (row (bits_of width) op a b).hi < 2 ^ bits_of width
+row_fits : (width : Width) (op : AluOp) (a b : Interval) → a.lo ≤ a.hi → b.lo ≤ b.hi → a.hi < 2 ^ bits_of width → b.hi < 2 ^ bits_of width
+    → (row (bits_of width) op a b).hi < 2 ^ bits_of width
 row_fits width op a b o p h k =
     let w = bits_of width in
     let r = row_within width op a b (whole w) (whole w) (record { a_ordered = o; b_ordered = p; c_fits = whole_fits w; d_fits = whole_fits w; left = in_whole w a h; right = in_whole w b k }) in

@@ -34,7 +34,8 @@ least_ordered P p h = (h.each p.hi h.hi).low
 in_larger : (a c : Interval) (x : ℕ) → Within a c → IsIn x a → IsIn x c
 in_larger a c x l h = record { low = omega (arith, l.low, h.low); high = omega (arith, l.high, h.high) }
 
-narrowing_less : (S : ℕ → ℕ → Type 0) (a b c d : Interval) (o m : Option Pair) → Within a c → Within b d → IsNarrowing S a b o → IsNarrowing S c d m → StaysInside o m
+narrowing_less : (S : ℕ → ℕ → Type 0) (a b c d : Interval) (o m : Option Pair) → Within a c → Within b d → IsNarrowing S a b o → IsNarrowing S c d m
+    → StaysInside o m
 narrowing_less S a b c d None m l r h k = tt
 narrowing_less S a b c d (Some p) None l r h k =
     let x = h.0.lo in
@@ -49,7 +50,8 @@ narrowing_less S a b c d (Some p) (Some q) l r h k = (
 
 -- ---- common bits
 
-common_less : (w : ℕ) (taken : Bool) (a b c d : Interval) → a.lo ≤ a.hi → b.lo ≤ b.hi → Within a c → Within b d → StaysInside (by_common_bit w taken a b) (by_common_bit w taken c d)
+common_less : (w : ℕ) (taken : Bool) (a b c d : Interval) → a.lo ≤ a.hi → b.lo ≤ b.hi → Within a c → Within b d
+    → StaysInside (by_common_bit w taken a b) (by_common_bit w taken c d)
 common_less w taken a b c d o u l r =
     cond_both (is_single c && is_single d && not (is_same taken (relates w CommonBit c.lo d.lo))) None (Some (c, d)) (λ m. StaysInside (by_common_bit w taken a b) m)
     (λ t. let (i, j) = and_parts (is_single c && is_single d) (not (is_same taken (relates w CommonBit c.lo d.lo))) t in
@@ -91,7 +93,8 @@ less_than_pair : (a b : Interval) (o : Option Pair) → IfSome o (λ p. Within p
 less_than_pair a b None h k = tt
 less_than_pair a b (Some p) h k = (h.0, h.1, k.2, k.3)
 
-inside_itself : (width : Width) (relation : Relation) (taken : Bool) (a b : Interval) → AreRanges (bits_of width) a b → StaysInside (by_opposite (bits_of width) relation (opposite relation) taken a b) (Some (a, b))
+inside_itself : (width : Width) (relation : Relation) (taken : Bool) (a b : Interval) → AreRanges (bits_of width) a b
+    → StaysInside (by_opposite (bits_of width) relation (opposite relation) taken a b) (Some (a, b))
 inside_itself width relation taken a b h = less_than_pair a b _ (edge_inside width relation taken a b h) (opposite_less width relation taken a b a b h h (itself a) (itself b))
 
 abbrev both : ℕ → Interval → Interval → Bool
@@ -101,7 +104,8 @@ abbrev by : ℕ → Relation → Bool → Interval → Interval → Option Pair
 by w relation taken a b = by_opposite w relation (opposite relation) taken a b
 
 -- what an edge leaves lies inside the operands
-pub branched_inside : (width : Width) (relation : Relation) (taken : Bool) (a b : Interval) → a.lo ≤ a.hi → b.lo ≤ b.hi → StaysInside (branched (bits_of width) relation taken a b) (Some (a, b))
+pub branched_inside : (width : Width) (relation : Relation) (taken : Bool) (a b : Interval) → a.lo ≤ a.hi → b.lo ≤ b.hi
+    → StaysInside (branched (bits_of width) relation taken a b) (Some (a, b))
 branched_inside width relation taken a b o u =
     let w = bits_of width in
     cond_both (both w a b) (by w relation taken a b) (Some (a, b)) (λ m. StaysInside m (Some (a, b)))

@@ -60,7 +60,8 @@ least_like P Q (Some r) f g i = record { lo = f r.lo i.lo; hi = f r.hi i.hi; eac
 
 -- ---- one after another, and both together
 
-pub then_piece : (P Q : ℕ → Type 0) (f : Interval → Option Interval) (o : Option Interval) → OnPiece P o → ((r : Interval) → r.lo ≤ r.hi → OnPiece (λ x. IsIn x r × Q x) (f r)) → OnPiece (λ x. P x × Q x) (option_and_then f o)
+pub then_piece : (P Q : ℕ → Type 0) (f : Interval → Option Interval) (o : Option Interval) → OnPiece P o
+    → ((r : Interval) → r.lo ≤ r.hi → OnPiece (λ x. IsIn x r × Q x) (f r)) → OnPiece (λ x. P x × Q x) (option_and_then f o)
 then_piece P Q f None n h = λ x (p, q). n x p
 then_piece P Q f (Some r) i h = piece_like (λ x. IsIn x r × Q x) (λ x. P x × Q x) (f r) (λ x (k, q). (i.sound x k, q)) (λ x (p, q). (i.complete x p, q)) (h r i.ordered)
 

@@ -27,7 +27,8 @@ wide h n o p = elim o [ inl e ↦ absurd (omega arith) | inr k ↦ k ]
 
 -- ---- the words before a place, and those after it
 
-pub ahead_least : (h d t : ℕ) (a : Interval) → a.lo ≤ a.hi → d ≤ 1 → InOrder h a.hi → InOrder h t → OnLeast (λ x. IsIn x a × (place h x < place h t + d)) (ahead h d t a)
+pub ahead_least : (h d t : ℕ) (a : Interval) → a.lo ≤ a.hi → d ≤ 1 → InOrder h a.hi → InOrder h t
+    → OnLeast (λ x. IsIn x a × (place h x < place h t + d)) (ahead h d t a)
 ahead_least h d t a p one top o =
     let S : ℕ → Type 0 = λ x. IsIn x a × (place h x < place h t + d) in
     let low : OnPiece (λ x. (IsIn x a × (x < h)) × (x < t + d)) (option_and_then (below (t + d)) (below h a)) =
@@ -59,7 +60,8 @@ ahead_least h d t a p one top o =
     ])
     (piece_least (λ x. (IsIn x a × (h ≤ x)) × (x < t + d)) _ upper))
 
-pub behind_least : (h d t : ℕ) (a : Interval) → a.lo ≤ a.hi → d ≤ 1 → InOrder h a.hi → InOrder h t → OnLeast (λ x. IsIn x a × (place h t + d ≤ place h x)) (behind h d t a)
+pub behind_least : (h d t : ℕ) (a : Interval) → a.lo ≤ a.hi → d ≤ 1 → InOrder h a.hi → InOrder h t
+    → OnLeast (λ x. IsIn x a × (place h t + d ≤ place h x)) (behind h d t a)
 behind_least h d t a p one top o =
     let S : ℕ → Type 0 = λ x. IsIn x a × (place h t + d ≤ place h x) in
     let low : OnPiece (λ x. IsIn x a × (x < h)) (below h a) = below_piece h a p in
@@ -165,7 +167,8 @@ last_is h b p o =
 within : (h : ℕ) (b : Interval) (x : ℕ) → InOrder h b.hi → IsIn x b → InOrder h x
 within h b x o k = elim o [ inl e ↦ inl e | inr l ↦ inr (omega arith) ]
 
-pub before_some : (h d : ℕ) (a b : Interval) → a.lo ≤ a.hi → b.lo ≤ b.hi → d ≤ 1 → InOrder h a.hi → InOrder h b.hi → OnLeast (λ x. IsIn x a × ((y : ℕ) × IsIn y b × (place h x < place h y + d))) (ahead h d (last h b) a)
+pub before_some : (h d : ℕ) (a b : Interval) → a.lo ≤ a.hi → b.lo ≤ b.hi → d ≤ 1 → InOrder h a.hi → InOrder h b.hi
+    → OnLeast (λ x. IsIn x a × ((y : ℕ) × IsIn y b × (place h x < place h y + d))) (ahead h d (last h b) a)
 before_some h d a b p q one oa ob =
     let l : IsLast h b (last h b) = last_is h b q ob in
     least_like (λ x. IsIn x a × (place h x < place h (last h b) + d)) (λ x. IsIn x a × ((y : ℕ) × IsIn y b × (place h x < place h y + d))) _
@@ -173,7 +176,8 @@ before_some h d a b p q one oa ob =
     (λ x (k, u). let (y, m, v) = u in let g : place h y ≤ place h (last h b) = l.greatest y m in (k, omega arith))
     (ahead_least h d (last h b) a p one oa (within h b (last h b) ob l.held))
 
-pub after_some : (h d : ℕ) (a b : Interval) → a.lo ≤ a.hi → b.lo ≤ b.hi → d ≤ 1 → InOrder h a.hi → InOrder h b.hi → OnLeast (λ x. IsIn x a × ((y : ℕ) × IsIn y b × (place h y + d ≤ place h x))) (behind h d (first h b) a)
+pub after_some : (h d : ℕ) (a b : Interval) → a.lo ≤ a.hi → b.lo ≤ b.hi → d ≤ 1 → InOrder h a.hi → InOrder h b.hi
+    → OnLeast (λ x. IsIn x a × ((y : ℕ) × IsIn y b × (place h y + d ≤ place h x))) (behind h d (first h b) a)
 after_some h d a b p q one oa ob =
     let l : IsFirst h b (first h b) = first_is h b q in
     least_like (λ x. IsIn x a × (place h (first h b) + d ≤ place h x)) (λ x. IsIn x a × ((y : ℕ) × IsIn y b × (place h y + d ≤ place h x))) _

@@ -112,7 +112,8 @@ negative w x y h k =
     rw (e, le-ltb x (2 ^ (w - 1)) h, d) refl
 
 -- on one side of the sign a greater number stays greater
-pub shift_mono : (w x y n : ℕ) → x ≤ y → y < 2 ^ w → (y < 2 ^ (w - 1)) ⊎ (2 ^ (w - 1) ≤ x) → operation w ArithmeticShiftRight x n ≤ operation w ArithmeticShiftRight y n
+pub shift_mono : (w x y n : ℕ) → x ≤ y → y < 2 ^ w → (y < 2 ^ (w - 1)) ⊎ (2 ^ (w - 1) ≤ x)
+    → operation w ArithmeticShiftRight x n ≤ operation w ArithmeticShiftRight y n
 shift_mono w x y n h k side =
     elim side [
       | inl below ↦ rw (plain w x n (omega arith), plain w y n below) (div_mono x y (2 ^ (n % w)) (2 ^ (n % w)) h (omega arith) (pow_pos (n % w)))
@@ -129,14 +130,16 @@ sides w lo hi e =
     ]
 
 -- shifted by one count
-pub shifts_by : (w : ℕ) (a : Interval) (x n : ℕ) → a.hi < 2 ^ w → IsIn x a → (a.hi < 2 ^ (w - 1)) ⊎ (2 ^ (w - 1) ≤ a.lo) → IsIn (operation w ArithmeticShiftRight x n) (between (operation w ArithmeticShiftRight a.lo n) (operation w ArithmeticShiftRight a.hi n))
+pub shifts_by : (w : ℕ) (a : Interval) (x n : ℕ) → a.hi < 2 ^ w → IsIn x a → (a.hi < 2 ^ (w - 1)) ⊎ (2 ^ (w - 1) ≤ a.lo)
+    → IsIn (operation w ArithmeticShiftRight x n) (between (operation w ArithmeticShiftRight a.lo n) (operation w ArithmeticShiftRight a.hi n))
 shifts_by w a x n p h side =
     elim side [
       | inl below ↦ record { low = shift_mono w a.lo x n h.low (omega arith) (inl (omega arith)); high = shift_mono w x a.hi n h.high p (inl below) }
       | inr above ↦ record { low = shift_mono w a.lo x n h.low (omega arith) (inr above); high = shift_mono w x a.hi n h.high p (inr (omega arith)) }
     ]
 
-arithmetic_right_shifts_hold : (w : ℕ) (a b : Interval) (x y : ℕ) → a.hi < 2 ^ w → IsIn x a → IsIn y b → IsIn (operation w ArithmeticShiftRight x y) (arithmetic_right_shifts w a b)
+arithmetic_right_shifts_hold : (w : ℕ) (a b : Interval) (x y : ℕ) → a.hi < 2 ^ w → IsIn x a → IsIn y b
+    → IsIn (operation w ArithmeticShiftRight x y) (arithmetic_right_shifts w a b)
 arithmetic_right_shifts_hold w a b x y p h k =
     let v : operation w ArithmeticShiftRight x y < 2 ^ w = operation_bound w ArithmeticShiftRight x y in
     pick_eq b.lo b.hi _ _ _
@@ -155,7 +158,8 @@ arithmetic_right_shifts_hold w a b x y p h k =
 same : (width : Width) (a : Interval) (x : ℕ) → a.hi < 2 ^ bits_of width → IsIn x a → x % 2 ^ bits_of width ≡ x
 same width a x p h = mod-eq_of_lt (omega arith)
 
-pub row_holds : (width : Width) (op : AluOp) (a b : Interval) (x y : ℕ) → a.hi < 2 ^ bits_of width → b.hi < 2 ^ bits_of width → IsIn x a → IsIn y b → IsIn (operation (bits_of width) op x y) (row (bits_of width) op a b)
+pub row_holds : (width : Width) (op : AluOp) (a b : Interval) (x y : ℕ) → a.hi < 2 ^ bits_of width → b.hi < 2 ^ bits_of width → IsIn x a → IsIn y b
+    → IsIn (operation (bits_of width) op x y) (row (bits_of width) op a b)
 row_holds width Add a b x y p q h k = sums_hold (bits_of width) a b x y p q h k
 row_holds width Sub a b x y p q h k = rw (sub_is (bits_of width) x y, same width b y q k) (differences_hold (bits_of width) a b x y p q h k)
 row_holds width Mul a b x y p q h k = products_hold (bits_of width) a b x y h k

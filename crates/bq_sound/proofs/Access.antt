@@ -44,7 +44,8 @@ has_room : (len : ℕ) (l : Interval) → IsIn len l → (region : Region) → e
 has_room len l i regions.Frame = omega arith
 has_room len l i regions.Record = i.low
 
-inside : (len : ℕ) (region : Region) (s : Span) (distance z : ℤ) (size least : ℕ) → least ≤ room_of len region → fits s distance size least ≡ true → IsOffset z s → Inside len region z distance size
+inside : (len : ℕ) (region : Region) (s : Span) (distance z : ℤ) (size least : ℕ) → least ≤ room_of len region → fits s distance size least ≡ true
+    → IsOffset z s → Inside len region z distance size
 inside len region s distance z size least few e h =
     let b = and_parts (int_le (pos 0) (s.lo +ℤ distance)) (int_le (s.hi +ℤ distance +ℤ pos size) (pos least)) e in
     let n = natural (z +ℤ distance) (omega (arith, ints, b.0, h.low)) in
@@ -54,7 +55,9 @@ region_fits : (p : Place) → IsPlacement p → (len : ℕ) → len ≤ record_r
 region_fits p place len few regions.Frame = place.frame_fits
 region_fits p place len few regions.Record = omega (arith, place.record_fits, few)
 
-address_is : (p : Place) → IsPlacement p → (len : ℕ) → len ≤ record_room → (region : Region) (z distance : ℤ) (size : ℕ) (h : Inside len region z distance size) → moved (moved (start p region) z) distance ≡ start p region + h.at
+address_is : (p : Place) → IsPlacement p → (len : ℕ) → len ≤ record_room
+    → (region : Region) (z distance : ℤ) (size : ℕ) (h : Inside len region z distance size)
+    → moved (moved (start p region) z) distance ≡ start p region + h.at
 address_is p place len few region z distance size h = moved_on (start p region) z distance ∙ ap (moved (start p region)) h.is ∙ below (start p region) h.at (omega (arith, region_fits p place len few region, h.room))
   where
     below : (a n : ℕ) → a + n < 2 ^ 64 → moved a (pos n) ≡ a + n
@@ -93,7 +96,8 @@ pub record Reads (len : ℕ) (v : Tagged) (distance : ℤ) (size : ℕ) : Type 0
   pub is : v ≡ Ptr region z
   pub inside : Inside len region z distance size
 
-reads_within : (len : ℕ) (l : Interval) → IsIn len l → (region : Region) (s : Span) (distance : ℤ) (size : ℕ) (v : Tagged) → HoldsPointer region s (Some v) → fits s distance size (extent l region) ≡ true → Reads len v distance size
+reads_within : (len : ℕ) (l : Interval) → IsIn len l → (region : Region) (s : Span) (distance : ℤ) (size : ℕ) (v : Tagged)
+    → HoldsPointer region s (Some v) → fits s distance size (extent l region) ≡ true → Reads len v distance size
 reads_within len l i region s distance size v h e = record { region = region; z = h.offset; is = cc; inside = inside len region s distance h.offset size (extent l region) (has_room len l i region) e h.within }
 
 pub allows : {B : Type 0} (len : ℕ) (l : Interval) → IsIn len l → (k : Kind) (distance : ℤ) (size : ℕ) (go : Unit {0} → Result B Rule) (after : B) (v : Tagged) → TagHolds len k (Some v) → and_then (readable l k distance size) go ≡ Ok after

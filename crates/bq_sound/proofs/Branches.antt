@@ -39,11 +39,13 @@ jumps m i unit state after left s holds among does =
     goes_on m (record { unit = unit; tags = m.tags; frame = m.frame; «record» = m.record }) i after left
     (record { words = s.whole.words; frame = s.whole.frame; «record» = s.whole.record; fits = s.whole.fits }) holds among (λ p place. does p)
 
-pub does_jump : {len : ℕ} (m : Common) (distance : ℤ) (state after : StateKinds) → Stands len m state → transfer (insns.Jump distance) state ≡ Ok after → GoesOn len m (insns.Jump distance) after
+pub does_jump : {len : ℕ} (m : Common) (distance : ℤ) (state after : StateKinds) → Stands len m state
+    → transfer (insns.Jump distance) state ≡ Ok after → GoesOn len m (insns.Jump distance) after
 does_jump {len} m distance state after s rules =
     jumps m (insns.Jump distance) (target m.unit distance) state after after s (subst (λ q. TagsHold len q m.tags) (same_state state after rules) s.holds) (inl refl) (λ p. refl)
 
-pub does_jump_far : {len : ℕ} (m : Common) (distance : ℤ) (state after : StateKinds) → Stands len m state → transfer (insns.JumpFar distance) state ≡ Ok after → GoesOn len m (insns.JumpFar distance) after
+pub does_jump_far : {len : ℕ} (m : Common) (distance : ℤ) (state after : StateKinds) → Stands len m state
+    → transfer (insns.JumpFar distance) state ≡ Ok after → GoesOn len m (insns.JumpFar distance) after
 does_jump_far {len} m distance state after s rules =
     jumps m (insns.JumpFar distance) (target m.unit distance) state after after s (subst (λ q. TagsHold len q m.tags) (same_state state after rules) s.holds) (inl refl) (λ p. refl)
 
@@ -129,11 +131,13 @@ along_edge unit o state e = subst (λ q. Among (unit, state) (along unit q)) (sy
 abbrev sides : ℕ → ℕ → Width → Relation → ℕ → Operand → StateKinds → List (ℕ × StateKinds)
 sides stay go w r d operand state = along stay (refined state w r false d operand) ++ along go (refined state w r true d operand)
 
-gone : (stay go : ℕ) (w : Width) (r : Relation) (d : ℕ) (operand : Operand) (state after left : StateKinds) → state ≡ after → refined state w r true d operand ≡ Some left → Among (go, left) (sides stay go w r d operand after)
+gone : (stay go : ℕ) (w : Width) (r : Relation) (d : ℕ) (operand : Operand) (state after left : StateKinds) → state ≡ after
+    → refined state w r true d operand ≡ Some left → Among (go, left) (sides stay go w r d operand after)
 gone stay go w r d operand state after left is e =
     subst (λ q. Among (go, left) (sides stay go w r d operand q)) is (among_right (go, left) (along stay (refined state w r false d operand)) (along go (refined state w r true d operand)) (along_edge go (refined state w r true d operand) left e))
 
-stayed : (stay go : ℕ) (w : Width) (r : Relation) (d : ℕ) (operand : Operand) (state after left : StateKinds) → state ≡ after → refined state w r false d operand ≡ Some left → Among (stay, left) (sides stay go w r d operand after)
+stayed : (stay go : ℕ) (w : Width) (r : Relation) (d : ℕ) (operand : Operand) (state after left : StateKinds) → state ≡ after
+    → refined state w r false d operand ≡ Some left → Among (stay, left) (sides stay go w r d operand after)
 stayed stay go w r d operand state after left is e =
     subst (λ q. Among (stay, left) (sides stay go w r d operand q)) is (among_left (stay, left) (along stay (refined state w r false d operand)) (along go (refined state w r true d operand)) (along_edge stay (refined state w r false d operand) left e))
 

@@ -49,7 +49,8 @@ folds_alike len text longest (bytes ∷ others) acc frame safe b small f =
 zero_frame_whole : AreBytes 512 zero_frame
 zero_frame_whole = record { count = length-replicate {A = ℕ} 512 0; each = All-replicate (λ b. b < 256) 512 0 (omega arith) }
 
-pub has_answer : (len : ℕ) (text : List Insn) (longest : ℕ) (records : List (List ℕ)) (start : ℕ) → IsSafe len text longest → All (AreBytes len) records → start < 2 ^ 64 → HasAnswer text longest records start
+pub has_answer : (len : ℕ) (text : List Insn) (longest : ℕ) (records : List (List ℕ)) (start : ℕ) → IsSafe len text longest
+    → All (AreBytes len) records → start < 2 ^ 64 → HasAnswer text longest records start
 has_answer len text longest records start safe b small =
     let f = folds_alike len text longest records start zero_frame safe b small zero_frame_whole in
     record { answer = f.answer; steps = f.steps; is = λ p place. (f.after, f.fold p place); within = f.within; word = f.word }

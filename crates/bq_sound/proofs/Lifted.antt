@@ -32,7 +32,8 @@ pointer_word u v h e = let is : u ≡ v = cc in subst IsWord is h
 no_word : (v : Tagged) → ◌≡◌ {A = Option Tagged} None (Some v) → IsWord v
 no_word v e = cc
 
-one_tag : (len : ℕ) (p : Place) (k : Kind) (register : Option ℕ) → KindHolds p len k register → ((n : ℕ) → register ≡ Some n → n < 2 ^ 64) → OneTag len p k register
+one_tag : (len : ℕ) (p : Place) (k : Kind) (register : Option ℕ) → KindHolds p len k register → ((n : ℕ) → register ≡ Some n → n < 2 ^ 64)
+    → OneTag len p k register
 one_tag len p Unset None h w = record { tag = None; is = refl; holds = tt; word = no_word }
 one_tag len p Unset (Some n) h w = record { tag = Some (Num n); is = refl; holds = tt; word = λ v e. word_of n v (w n refl) e }
 one_tag len p (Number a) register h w = record {
@@ -61,7 +62,8 @@ none_held len p (Number a) h = let e = h.held in cc
 none_held len p (Pointer region s) h = let e = h.held in cc
 none_held len p Length h = cc
 
-many_tags : (len : ℕ) (p : Place) (kinds : ℕ → Kind) (registers : List (Option ℕ)) → ((r : ℕ) → KindHolds p len (kinds r) (held registers r)) → ((r n : ℕ) → held registers r ≡ Some n → n < 2 ^ 64) → ManyTags len p kinds registers
+many_tags : (len : ℕ) (p : Place) (kinds : ℕ → Kind) (registers : List (Option ℕ)) → ((r : ℕ) → KindHolds p len (kinds r) (held registers r))
+    → ((r n : ℕ) → held registers r ≡ Some n → n < 2 ^ 64) → ManyTags len p kinds registers
 many_tags len p kinds [] h w = record { tags = []; is = refl; holds = λ r. none_held len p (kinds r) (h r); words = λ r v e. no_word v e }
 many_tags len p kinds (x ∷ xs) h w =
     let one = one_tag len p (kinds 0) x (h 0) (w 0) in
@@ -73,11 +75,13 @@ many_tags len p kinds (x ∷ xs) h w =
       words = words_each one.tag rest.tags one.word rest.words;
     }
   where
-    holds_each : (len : ℕ) (kinds : ℕ → Kind) (t : Option Tagged) (ts : List (Option Tagged)) → TagHolds len (kinds 0) t → ((r : ℕ) → TagHolds len (kinds (suc r)) (tag_at ts r)) → (r : ℕ) → TagHolds len (kinds r) (tag_at (t ∷ ts) r)
+    holds_each : (len : ℕ) (kinds : ℕ → Kind) (t : Option Tagged) (ts : List (Option Tagged)) → TagHolds len (kinds 0) t
+        → ((r : ℕ) → TagHolds len (kinds (suc r)) (tag_at ts r)) → (r : ℕ) → TagHolds len (kinds r) (tag_at (t ∷ ts) r)
     holds_each len kinds t ts a b zero = a
     holds_each len kinds t ts a b (suc r) = b r
 
-    words_each : (t : Option Tagged) (ts : List (Option Tagged)) → ((v : Tagged) → t ≡ Some v → IsWord v) → ((r : ℕ) (v : Tagged) → tag_at ts r ≡ Some v → IsWord v) → (r : ℕ) (v : Tagged) → tag_at (t ∷ ts) r ≡ Some v → IsWord v
+    words_each : (t : Option Tagged) (ts : List (Option Tagged)) → ((v : Tagged) → t ≡ Some v → IsWord v)
+        → ((r : ℕ) (v : Tagged) → tag_at ts r ≡ Some v → IsWord v) → (r : ℕ) (v : Tagged) → tag_at (t ∷ ts) r ≡ Some v → IsWord v
     words_each t ts a b zero v e = a v e
     words_each t ts a b (suc r) v e = b r v e
 
@@ -86,7 +90,8 @@ record Lifted (len : ℕ) (p : Place) (state : StateKinds) (m : Machine) : Type 
   is : machine p common ≡ m
   stands : Stands len common state
 
-lifted : (len : ℕ) (p : Place) (state : StateKinds) (m : Machine) → len ≤ record_room → IsMachine len m → StateHolds p len state m.registers → Lifted len p state m
+lifted : (len : ℕ) (p : Place) (state : StateKinds) (m : Machine) → len ≤ record_room → IsMachine len m → StateHolds p len state m.registers
+    → Lifted len p state m
 lifted len p state m few whole holds =
     let t = many_tags len p (kind_of state) m.registers holds.each whole.words in
     let count : length t.tags ≡ 11 = sym (length-map t.tags (option_map (image p))) ∙ ap length t.is ∙ whole.count in

@@ -35,5 +35,6 @@ free len text longest is p acc bytes frame limit place word whole full high resu
       moved_limit p text acc bytes frame r.steps r.answer r.after longest limit run within below result after,
     )
 
-pub any_limit : (l : Interval) (text : List Insn) (notes : List (Option StateKinds)) (longest len : ℕ) → AreLengths l → IsText text → Passes l text notes → IsLongest text longest → IsIn len l → LimitIsFree len text longest
+pub any_limit : (l : Interval) (text : List Insn) (notes : List (Option StateKinds)) (longest len : ℕ) → AreLengths l → IsText text
+    → Passes l text notes → IsLongest text longest → IsIn len l → LimitIsFree len text longest
 any_limit l text notes longest len lengths legal passes is i = free len text longest (safe l text notes longest len lengths legal passes is i)

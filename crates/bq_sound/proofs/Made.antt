@@ -85,13 +85,15 @@ made_back : (len : ℕ) (region : Region) (s t : Span) (a : Interval) (u v : Tag
 made_back len region s t a u v hu hv small e =
     moved_by len region Sub s t a u v hu hv (back region s t a hu.offset hv.word hu.within hv.within (held_word v hv.word (same_word v hv.word hv.is) small) e)
 
-turned : (len : ℕ) (k : Kind) (u v : Tagged) → Made len k (λ p. operation 64 Add (image p v) (image p u)) → Made len k (λ p. operation 64 Add (image p u) (image p v))
+turned : (len : ℕ) (k : Kind) (u v : Tagged) → Made len k (λ p. operation 64 Add (image p v) (image p u))
+    → Made len k (λ p. operation 64 Add (image p u) (image p v))
 turned len k u v m = record { value = m.value; holds = m.holds; word = m.word; is = λ p. swap (image p u) (image p v) ∙ m.is p }
   where
     swap : (x y : ℕ) → operation 64 Add x y ≡ operation 64 Add y x
     swap x y = omega arith
 
-sums_made : (len : ℕ) (a b k : Kind) (u v : Tagged) → sum_kind a b ≡ Some k → TagHolds len a (Some u) → TagHolds len b (Some v) → IsWord u → IsWord v → Made len k (λ p. operation 64 Add (image p u) (image p v))
+sums_made : (len : ℕ) (a b k : Kind) (u v : Tagged) → sum_kind a b ≡ Some k → TagHolds len a (Some u) → TagHolds len b (Some v) → IsWord u → IsWord v
+    → Made len k (λ p. operation 64 Add (image p u) (image p v))
 sums_made len (Pointer r s) (Number b) k u v e hu hv su sv =
     let t = some_of (Pointer r) (moved_on s b) k e in
     made_like len (Pointer r t.0) k _ t.2 (made_on len r s t.0 b u v hu hv sv t.1)
@@ -100,7 +102,8 @@ sums_made len (Number a) (Pointer r s) k u v e hu hv su sv =
     turned len k u v (made_like len (Pointer r t.0) k _ t.2 (made_on len r s t.0 a v u hv hu su t.1))
 sums_made len a b k u v e hu hv su sv = cc
 
-differences_made : (len : ℕ) (a b k : Kind) (u v : Tagged) → difference_kind a b ≡ Some k → TagHolds len a (Some u) → TagHolds len b (Some v) → IsWord u → IsWord v → Made len k (λ p. operation 64 Sub (image p u) (image p v))
+differences_made : (len : ℕ) (a b k : Kind) (u v : Tagged) → difference_kind a b ≡ Some k → TagHolds len a (Some u) → TagHolds len b (Some v)
+    → IsWord u → IsWord v → Made len k (λ p. operation 64 Sub (image p u) (image p v))
 differences_made len (Pointer r s) (Number b) k u v e hu hv su sv =
     let t = some_of (Pointer r) (moved_back s b) k e in
     made_like len (Pointer r t.0) k _ t.2 (made_back len r s t.0 b u v hu hv sv t.1)

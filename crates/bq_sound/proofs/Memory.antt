@@ -51,7 +51,8 @@ region_whole : (len : ℕ) (m : Common) → IsWhole len m → (region : Region) 
 region_whole len m h regions.Frame = h.frame
 region_whole len m h regions.Record = h.record
 
-loaded_is : (p : Place) (m : Common) (region : Region) (at size : ℕ) → loaded (machine p m) (location region at) size ≡ slice_range (region_bytes m region) at (at + size)
+loaded_is : (p : Place) (m : Common) (region : Region) (at size : ℕ)
+    → loaded (machine p m) (location region at) size ≡ slice_range (region_bytes m region) at (at + size)
 loaded_is p m regions.Frame at size = refl
 loaded_is p m regions.Record at size = refl
 

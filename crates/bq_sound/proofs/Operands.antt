@@ -31,7 +31,8 @@ pub value_is : (p : Place) (tags : List (Option Tagged)) (x : Operand) (v : Tagg
 value_is p tags (operands.Register r) v e = held_is p tags r v e
 value_is p tags (operands.Number z) v e = ap (option_map (image p)) e
 
-pub taken_is : (p : Place) (tags : List (Option Tagged)) (op : AluOp) (d : ℕ) (v : Tagged) → taken_tag tags op d ≡ Some v → taken (images p tags) op d ≡ Some (image p v)
+pub taken_is : (p : Place) (tags : List (Option Tagged)) (op : AluOp) (d : ℕ) (v : Tagged) → taken_tag tags op d ≡ Some v
+    → taken (images p tags) op d ≡ Some (image p v)
 taken_is p tags ops.Mov d v e = ap (option_map (image p)) e
 taken_is p tags op d v e = held_is p tags d v e
 
@@ -39,14 +40,17 @@ taken_is p tags op d v e = held_is p tags d v e
 number_of : (n : ℕ) → HoldsNumber (single n) (Some (Num n))
 number_of n = holds_word (single n) n (record { low = omega arith; high = omega arith })
 
-pub operand_holds : (len : ℕ) (state : StateKinds) (tags : List (Option Tagged)) (x : Operand) → TagsHold len state tags → TagHolds len (operand_kind state x) (operand_tag tags x)
+pub operand_holds : (len : ℕ) (state : StateKinds) (tags : List (Option Tagged)) (x : Operand) → TagsHold len state tags
+    → TagHolds len (operand_kind state x) (operand_tag tags x)
 operand_holds len state tags (operands.Register r) h = h.each r
 operand_holds len state tags (operands.Number z) h = number_of (modulo 64 z)
 
-pub number_holds : (len : ℕ) (state : StateKinds) (tags : List (Option Tagged)) (x : Operand) → TagsHold len state tags → TagHolds len (read_operand state x) (operand_tag tags x)
+pub number_holds : (len : ℕ) (state : StateKinds) (tags : List (Option Tagged)) (x : Operand) → TagsHold len state tags
+    → TagHolds len (read_operand state x) (operand_tag tags x)
 number_holds len state tags x h = read_holds len state.lengths (operand_kind state x) (operand_tag tags x) h.within (operand_holds len state tags x h)
 
-pub taken_holds : (len : ℕ) (state : StateKinds) (tags : List (Option Tagged)) (op : AluOp) (d : ℕ) → TagsHold len state tags → TagHolds len (taken_kind state op d) (taken_tag tags op d)
+pub taken_holds : (len : ℕ) (state : StateKinds) (tags : List (Option Tagged)) (op : AluOp) (d : ℕ) → TagsHold len state tags
+    → TagHolds len (taken_kind state op d) (taken_tag tags op d)
 taken_holds len state tags ops.Mov d h = number_of 0
 taken_holds len state tags op d h = register_holds len state tags d h
 

@@ -41,7 +41,8 @@ is_insn t unit i h e = elim (cases_lt unit (units t)) [
 
 -- ---- every instruction
 
-pub progress : {len : ℕ} (m : Common) (i : Insn) (state after : StateKinds) → IsInsn i → Stands len m state → transfer i state ≡ Ok after → GoesOn len m i after ⊎ Stops m i
+pub progress : {len : ℕ} (m : Common) (i : Insn) (state after : StateKinds) → IsInsn i → Stands len m state → transfer i state ≡ Ok after
+    → GoesOn len m i after ⊎ Stops m i
 progress m (insns.Alu w op d x) state after legal s rules = inl (does_alu m w op d x state after s rules)
 progress m (insns.Negate w d) state after legal s rules = inl (does_negate m w d state after s rules)
 progress m (insns.Extend e d r) state after legal s rules = inl (does_extend m e d r state after s rules)

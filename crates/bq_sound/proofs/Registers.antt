@@ -69,7 +69,8 @@ record Covers (f : ℕ → ℕ) (g : Interval → Interval) : Type 0 where
 abbrev one : Common → Place → ℕ → ℕ → (ℕ → ℕ) → Outcome
 one m p d s f = reading ReadUnset (held (images p m.tags) s) (λ a. writing d (Continues (written (machine p m) d (f a))))
 
-one_performs : (p : Place) (m : Common) (d s : ℕ) (f : ℕ → ℕ) (w : ℕ) → tag_at m.tags s ≡ Some (Num w) → d < 10 → one m p d s f ≡ Continues (written (machine p m) d (f w))
+one_performs : (p : Place) (m : Common) (d s : ℕ) (f : ℕ → ℕ) (w : ℕ) → tag_at m.tags s ≡ Some (Num w) → d < 10
+    → one m p d s f ≡ Continues (written (machine p m) d (f w))
 one_performs p m d s f w e low = rw (held_is p m.tags s (Num w) e, lt-ltb d 10 low) refl
 
 does_one : {len : ℕ} (m : Common) (i : Insn) (d s : ℕ) (f : ℕ → ℕ) (g : Interval → Interval) (state after : StateKinds)
@@ -97,7 +98,8 @@ does_negate m w d state after s rules =
 extended_word : (bits : ℕ) (w : Width) (x : ℕ) → extended bits (bits_of w) x < 2 ^ 64
 extended_word bits w x = let b = extended_bound bits (bits_of w) x in let c = words w in omega (arith, b, c)
 
-extension : (e : Extension) → Covers (extended (extension_bits e) (bits_of (extension_width e))) (sign_extended (extension_bits e) (bits_of (extension_width e)))
+extension : (e : Extension)
+    → Covers (extended (extension_bits e) (bits_of (extension_width e))) (sign_extended (extension_bits e) (bits_of (extension_width e)))
 extension extensions.W32From8 = record { small = extended_word 8 W32; covers = sign_extended_covers B8 W32 }
 extension extensions.W32From16 = record { small = extended_word 16 W32; covers = sign_extended_covers B16 W32 }
 extension extensions.W64From8 = record { small = extended_word 8 W64; covers = sign_extended_covers B8 W64 }

@@ -7,8 +7,7 @@ use Rattle.bq_insn.specs.Slots.{units, IsText, insn_at}
 use Rattle.bq_insn.specs.declared.insn.Insn.{Insn}
 use Rattle.bq_flow.specs.Paths.{Path, IsLongest}
 use Rattle.bq_meaning.specs.Place.{Place, IsPlacement, record_room}
-use Rattle.bq_meaning.specs.Meaning.{Outcome, Continues, moved, perform, step}
-use Rattle.bq_meaning.specs.Meaning.{Ends as Answers}
+use Rattle.bq_meaning.specs.Meaning.{Outcome, Continues, moved, perform, step, Ends as Answers}
 use Rattle.bq_meaning.specs.Runs.{entry_machine, RunsTo}
 use Rattle.bq_range.specs.Interval.{Interval, IsIn, is_single, all_words}
 use Rattle.bq_state.specs.Offsets.{IsOffset, at_offset}
@@ -26,7 +25,8 @@ use Rattle.bq_state.specs.Edges.{edges}
 
 -- ---- from a unit with a state to an exit
 
-stepped : (p : Place) (text : List Insn) (m : Common) (i : Insn) (o : Outcome) → insn_at text m.unit ≡ Some i → perform p i (machine p m) ≡ o → step p text (machine p m) ≡ o
+stepped : (p : Place) (text : List Insn) (m : Common) (i : Insn) (o : Outcome) → insn_at text m.unit ≡ Some i → perform p i (machine p m) ≡ o
+    → step p text (machine p m) ≡ o
 stepped p text m i o e is = rw e is
 
 record Ends (text : List Insn) (m : Common) : Type 0 where
@@ -82,7 +82,8 @@ entry_common len acc bytes frame = record {
   «record» = bytes;
 }
 
-entry_is : (p : Place) → IsPlacement p → (len acc : ℕ) (bytes frame : List ℕ) → length bytes ≡ len → machine p (entry_common len acc bytes frame) ≡ entry_machine p acc bytes frame
+entry_is : (p : Place) → IsPlacement p → (len acc : ℕ) (bytes frame : List ℕ) → length bytes ≡ len
+    → machine p (entry_common len acc bytes frame) ≡ entry_machine p acc bytes frame
 entry_is p place len acc bytes frame full =
     let a : moved p.record (pos 0) ≡ p.record = omega (arith, place.record_fits) in
     let b : moved p.frame (pos 512) ≡ p.frame + 512 = omega (arith, place.frame_fits) in
@@ -95,7 +96,8 @@ AllHold len [] (t ∷ ts) = ⊥
 AllHold len (k ∷ ks) [] = ⊥
 AllHold len (k ∷ ks) (t ∷ ts) = TagHolds len k t × AllHold len ks ts
 
-all_hold : (len : ℕ) (kinds : List Kind) (tags : List (Option Tagged)) → AllHold len kinds tags → (r : ℕ) → TagHolds len (slice_index_or kinds r Unset) (tag_at tags r)
+all_hold : (len : ℕ) (kinds : List Kind) (tags : List (Option Tagged)) → AllHold len kinds tags → (r : ℕ)
+    → TagHolds len (slice_index_or kinds r Unset) (tag_at tags r)
 unfolding AllHold
 all_hold len [] [] h r = tt
 all_hold len [] (t ∷ ts) h r = absurd h
@@ -126,7 +128,8 @@ offset_end = record { low = omega (arith, ints); high = omega (arith, ints) }
 length_holds : (len : ℕ) (l : Interval) → IsIn len l → TagHolds len (length_kind l) (Some (Num len))
 length_holds len l i = elim (cases_Bool (is_single l)) [ inl e ↦ rw e (holds_word l len i) | inr e ↦ rw e refl ]
 
-entry_holds : (l : Interval) (len acc : ℕ) (bytes frame : List ℕ) → IsIn len l → acc < 2 ^ 64 → TagsHold len (entry_state l) (entry_common len acc bytes frame).tags
+entry_holds : (l : Interval) (len acc : ℕ) (bytes frame : List ℕ) → IsIn len l → acc < 2 ^ 64
+    → TagsHold len (entry_state l) (entry_common len acc bytes frame).tags
 unfolding AllHold
 entry_holds l len acc bytes frame i h =
     let any : HoldsNumber all_words (Some (Num acc)) = record { word = acc; is = refl; within = record { low = omega arith; high = omega arith } } in
@@ -134,7 +137,8 @@ entry_holds l len acc bytes frame i h =
     let end : HoldsPointer regions.Frame (at_offset (pos 512)) (Some (Ptr regions.Frame (pos 512))) = record { offset = pos 512; is = refl; within = offset_end } in
     record { within = i; each = all_hold len (entry_state l).kinds (entry_common len acc bytes frame).tags (tt, (here, (length_holds len l i, (any, (tt, (tt, (tt, (tt, (tt, (tt, (end, tt))))))))))) }
 
-entry_whole : (len acc : ℕ) (bytes frame : List ℕ) → len ≤ record_room → acc < 2 ^ 64 → AreBytes len bytes → AreBytes 512 frame → IsWhole len (entry_common len acc bytes frame)
+entry_whole : (len acc : ℕ) (bytes frame : List ℕ) → len ≤ record_room → acc < 2 ^ 64 → AreBytes len bytes → AreBytes 512 frame
+    → IsWhole len (entry_common len acc bytes frame)
 unfolding AllWords OptionWord
 entry_whole len acc bytes frame few h b f = record {
   words = record { count = refl; each = word_at (entry_common len acc bytes frame).tags (tt, (tt, (omega (arith, few), (h, (tt, (tt, (tt, (tt, (tt, (tt, (tt, tt))))))))))) };
@@ -145,7 +149,8 @@ entry_whole len acc bytes frame few h b f = record {
 
 -- ---- notes that pass make a text safe
 
-pub safe : (l : Interval) (text : List Insn) (notes : List (Option StateKinds)) (longest len : ℕ) → AreLengths l → IsText text → Passes l text notes → IsLongest text longest → IsIn len l → IsSafe len text longest
+pub safe : (l : Interval) (text : List Insn) (notes : List (Option StateKinds)) (longest len : ℕ) → AreLengths l → IsText text → Passes l text notes
+    → IsLongest text longest → IsIn len l → IsSafe len text longest
 safe l text notes longest len lengths t passes most i =
     let few : len ≤ record_room = omega (arith, lengths.most, i.high) in
     record {

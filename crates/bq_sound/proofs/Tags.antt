@@ -53,7 +53,8 @@ held_image p [] r = refl
 held_image p (t ∷ ts) zero = refl
 held_image p (t ∷ ts) (suc r) = held_image p ts r
 
-pub images_set : (p : Place) (tags : List (Option Tagged)) (r : ℕ) (v : Tagged) → slice_set (images p tags) r (Some (image p v)) ≡ images p (slice_set tags r (Some v))
+pub images_set : (p : Place) (tags : List (Option Tagged)) (r : ℕ) (v : Tagged)
+    → slice_set (images p tags) r (Some (image p v)) ≡ images p (slice_set tags r (Some v))
 images_set p tags r v = sym (map-set (option_map (image p)) tags r (Some v))
 
 pub tag_set_same : (tags : List (Option Tagged)) (d : ℕ) (v : Tagged) → d < length tags → tag_at (slice_set tags d (Some v)) d ≡ Some v
@@ -92,7 +93,8 @@ pub read_holds : (len : ℕ) (l : Interval) (k : Kind) (t : Option Tagged) → I
 read_holds len l Length t i h = record { word = len; is = h; within = i }
 read_holds len l k t i h = h
 
-pub register_holds : (len : ℕ) (state : StateKinds) (tags : List (Option Tagged)) (r : ℕ) → TagsHold len state tags → TagHolds len (read_kind state r) (tag_at tags r)
+pub register_holds : (len : ℕ) (state : StateKinds) (tags : List (Option Tagged)) (r : ℕ) → TagsHold len state tags
+    → TagHolds len (read_kind state r) (tag_at tags r)
 register_holds len state tags r h = read_holds len state.lengths (kind_of state r) (tag_at tags r) h.within (h.each r)
 
 number_held : (a b : Interval) (t : Option Tagged) → Within b a → HoldsNumber b t → HoldsNumber a t
@@ -117,7 +119,8 @@ covered_tags len a b tags c h = record {
 
 -- ---- a register that is written, and a register and a length that more is known of
 
-kind_set_same : (len : ℕ) (kinds : List Kind) (l : Interval) (d : ℕ) (k : Kind) (t : Option Tagged) → TagHolds len k t → TagHolds len (kind_of (with_kind (state_of kinds l) d k) d) t
+kind_set_same : (len : ℕ) (kinds : List Kind) (l : Interval) (d : ℕ) (k : Kind) (t : Option Tagged) → TagHolds len k t
+    → TagHolds len (kind_of (with_kind (state_of kinds l) d k) d) t
 kind_set_same len [] l d k t h = tt
 kind_set_same len (x ∷ xs) l zero k t h = h
 kind_set_same len (x ∷ xs) l (suc d) k t h = kind_set_same len xs l d k t h
@@ -137,7 +140,8 @@ written_holds len state tags d k v h low here = record {
   ];
 }
 
-pub narrowed_holds : (len : ℕ) (state : StateKinds) (tags : List (Option Tagged)) (d : ℕ) (k : Kind) → TagsHold len state tags → TagHolds len k (tag_at tags d) → TagsHold len (with_kind state d k) tags
+pub narrowed_holds : (len : ℕ) (state : StateKinds) (tags : List (Option Tagged)) (d : ℕ) (k : Kind) → TagsHold len state tags
+    → TagHolds len k (tag_at tags d) → TagsHold len (with_kind state d k) tags
 narrowed_holds len state tags d k h here = record {
   within = h.within;
   each = λ r. elim (cases_eq r d) [
@@ -146,5 +150,6 @@ narrowed_holds len state tags d k h here = record {
   ];
 }
 
-pub lengths_hold : (len : ℕ) (state : StateKinds) (tags : List (Option Tagged)) (l : Interval) → TagsHold len state tags → IsIn len l → TagsHold len (with_lengths state l) tags
+pub lengths_hold : (len : ℕ) (state : StateKinds) (tags : List (Option Tagged)) (l : Interval) → TagsHold len state tags → IsIn len l
+    → TagsHold len (with_lengths state l) tags
 lengths_hold len state tags l h i = record { within = i; each = h.each }

@@ -27,7 +27,8 @@ module _ (a : StateKinds) where
   pub transfer_count : (i : Insn) (b : StateKinds) → transfer i a ≡ Ok b → length b.kinds ≡ length a.kinds
   transfer_count i b h = transfer_keeps AsMany puts narrows i a b refl h
 
-  pub refined_count : (b : StateKinds) (w : Width) (r : Relation) (taken : Bool) (d : ℕ) (x : Operand) → refined a w r taken d x ≡ Some b → length b.kinds ≡ length a.kinds
+  pub refined_count : (b : StateKinds) (w : Width) (r : Relation) (taken : Bool) (d : ℕ) (x : Operand) → refined a w r taken d x ≡ Some b
+      → length b.kinds ≡ length a.kinds
   refined_count b w r taken d x h = refined_keeps AsMany puts narrows a b w r taken d x refl h
 
   pub edges_count : (unit : ℕ) (i : Insn) → All (λ e. length e.1.kinds ≡ length a.kinds) (edges unit i a)

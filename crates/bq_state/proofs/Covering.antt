@@ -137,7 +137,8 @@ module _ (l m : Interval) where
   joined_right (x ∷ xs) (y ∷ ys) zero = kind_join_right l m x y
   joined_right (x ∷ xs) (y ∷ ys) (suc r) = joined_right xs ys r
 
-  least_at : (k : Kind) (a b : List Kind) (r : ℕ) → length a ≡ length b → KindCovers l k (kind_in a r) → KindCovers m k (kind_in b r) → KindCovers (join l m) k (kind_in (join_lists l m a b) r)
+  least_at : (k : Kind) (a b : List Kind) (r : ℕ) → length a ≡ length b → KindCovers l k (kind_in a r) → KindCovers m k (kind_in b r)
+      → KindCovers (join l m) k (kind_in (join_lists l m a b) r)
   least_at k [] b r e h i = unset_least k h
     where
       unset_least : (k : Kind) → KindCovers l k Unset → KindCovers (join l m) k Unset
@@ -163,7 +164,8 @@ module _ (l m : Interval) where
   pub still_there : (a s : List Kind) (i : ℕ) (x : Kind) → i < length a → i < length s → kind_in s i ≡ kind_in a i → x ≡ get_or s i x → x ≡ get_or a i x
   still_there a s i x inside inside_too same is = is ∙ get_or_default s i x Unset inside_too ∙ same ∙ sym (get_or_default a i x Unset inside)
 
-  pub joined_lists : (a b s : List Kind) (n : ℕ) → length a ≡ n → length b ≡ n → length s ≡ n → ((r : ℕ) → r < n → kind_in s r ≡ join_kinds l m (kind_in a r) (kind_in b r)) → s ≡ join_lists l m a b
+  pub joined_lists : (a b s : List Kind) (n : ℕ) → length a ≡ n → length b ≡ n → length s ≡ n
+      → ((r : ℕ) → r < n → kind_in s r ≡ join_kinds l m (kind_in a r) (kind_in b r)) → s ≡ join_lists l m a b
   joined_lists a b s n e f g h =
       let count : length (join_lists l m a b) ≡ length a = lists_count a b (omega arith) in
       ext_get_or Unset s (join_lists l m a b) (omega arith) (λ r k. h r (omega arith) ∙ sym (kind_at a b r (omega arith) (omega arith)))
@@ -202,7 +204,8 @@ join_least a b c e h i = record {
 pub joined_count : (a b : StateKinds) → length a.kinds ≡ length b.kinds → length (join_states a b).kinds ≡ length a.kinds
 joined_count a b e = lists_count a.lengths b.lengths a.kinds b.kinds e
 
-pub joined_kind : (a b : StateKinds) (r : ℕ) → r < length a.kinds → r < length b.kinds → kind_of (join_states a b) r ≡ join_kinds a.lengths b.lengths (kind_of a r) (kind_of b r)
+pub joined_kind : (a b : StateKinds) (r : ℕ) → r < length a.kinds → r < length b.kinds
+    → kind_of (join_states a b) r ≡ join_kinds a.lengths b.lengths (kind_of a r) (kind_of b r)
 joined_kind a b r h k = kind_at a.lengths b.lengths a.kinds b.kinds r h k
 
 -- ---- machines
@@ -213,7 +216,8 @@ word_through a b w h k = record { low = omega arith; high = omega arith }
 offset_through : (a b : Span) (z : ℤ) → SpanWithin b a → IsOffset z b → IsOffset z a
 offset_through a b z h k = record { low = omega (arith, ints); high = omega (arith, ints) }
 
-kind_says_less : (p : Place) (len : ℕ) (l : Interval) (a b : Kind) (register : Option ℕ) → IsIn len l → KindCovers l a b → KindHolds p len b register → KindHolds p len a register
+kind_says_less : (p : Place) (len : ℕ) (l : Interval) (a b : Kind) (register : Option ℕ) → IsIn len l → KindCovers l a b → KindHolds p len b register
+    → KindHolds p len a register
 kind_says_less p len l Unset b register w c h = tt
 kind_says_less p len l (Number x) (Number y) register w c h = record { word = h.word; held = h.held; within = word_through x y h.word c h.within }
 kind_says_less p len l (Number x) Length register w c h = record { word = len; held = h; within = word_through x l len c w }
@@ -225,7 +229,8 @@ kind_says_less p len l (Pointer r x) (Pointer q y) register w c h = record {
 kind_says_less p len l Length Length register w c h = h
 kind_says_less p len l a b register w c h = absurd c
 
-pub covering_says_less : (p : Place) (len : ℕ) (a b : StateKinds) (registers : List (Option ℕ)) → StateCovers a b → StateHolds p len b registers → StateHolds p len a registers
+pub covering_says_less : (p : Place) (len : ℕ) (a b : StateKinds) (registers : List (Option ℕ)) → StateCovers a b → StateHolds p len b registers
+    → StateHolds p len a registers
 covering_says_less p len a b registers c h = record {
   within = word_through a.lengths b.lengths len c.lengths h.within;
   each = λ r. kind_says_less p len b.lengths (kind_of a r) (kind_of b r) (held registers r) h.within (c.each r) (h.each r);

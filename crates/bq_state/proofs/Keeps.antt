@@ -154,7 +154,8 @@ module _ (P : StateKinds → Type 0) (puts : (s : StateKinds) (d : ℕ) (k : Kin
   number_keeps a b d None e h = absurd cc
   number_keeps a b d (Some p) e h = narrowed_keeps a b d p.0 (kind_of a d) e refl h
 
-  both_keep : (b : StateKinds) (s : ℕ) (x : Interval) (o : Option StateKinds) → ((t : StateKinds) → o ≡ Some t → P t) → option_and_then (λ (t : StateKinds). narrowed t s x (kind_of t s)) o ≡ Some b → P b
+  both_keep : (b : StateKinds) (s : ℕ) (x : Interval) (o : Option StateKinds) → ((t : StateKinds) → o ≡ Some t → P t)
+      → option_and_then (λ (t : StateKinds). narrowed t s x (kind_of t s)) o ≡ Some b → P b
   both_keep b s x None first h = absurd cc
   both_keep b s x (Some t) first h = narrowed_keeps t b s x (kind_of t s) (first t refl) refl h
 
@@ -171,7 +172,8 @@ module _ (P : StateKinds → Type 0) (puts : (s : StateKinds) (d : ℕ) (k : Kin
   by_number_keeps a b w r taken d n (Pointer q x) e h = same_keeps a b e h
   by_number_keeps a b w r taken d n Length e h = same_keeps a b e h
 
-  by_register_keeps : (a b : StateKinds) (w : Width) (r : Relation) (taken : Bool) (d s : ℕ) (k l : Kind) → P a → refined_by_register a w r taken d s k l ≡ Some b → P b
+  by_register_keeps : (a b : StateKinds) (w : Width) (r : Relation) (taken : Bool) (d s : ℕ) (k l : Kind) → P a
+      → refined_by_register a w r taken d s k l ≡ Some b → P b
   by_register_keeps a b w r taken d s (Number x) (Number y) e h = numbers_keep a b d s (branched (bits_of w) r taken x y) e h
   by_register_keeps a b w r taken d s (Number x) Unset e h = same_keeps a b e h
   by_register_keeps a b w r taken d s (Number x) (Pointer q y) e h = same_keeps a b e h

@@ -138,7 +138,8 @@ Follows R (Err rule) y = ⊤
 Follows R (Ok a) (Err rule) = ⊥
 Follows R (Ok a) (Ok b) = R a b
 
-then_follows : {A B : Type 0} (R : A → A → Type 0) (S : B → B → Type 0) (x y : Result A Rule) (f g : A → Result B Rule) → Follows R x y → ((a b : A) → R a b → Follows S (f a) (g b)) → Follows S (and_then x f) (and_then y g)
+then_follows : {A B : Type 0} (R : A → A → Type 0) (S : B → B → Type 0) (x y : Result A Rule) (f g : A → Result B Rule) → Follows R x y
+    → ((a b : A) → R a b → Follows S (f a) (g b)) → Follows S (and_then x f) (and_then y g)
 then_follows R S (Err rule) y f g h go = tt
 then_follows R S (Ok a) (Err rule) f g h go = absurd h
 then_follows R S (Ok a) (Ok b) f g h go = go a b h
@@ -175,7 +176,8 @@ number_follows rule (pointers h) = tt
 abbrev Any : Unit {0} → Unit {0} → Type 0
 Any a b = ⊤
 
-fits_follows : (s t : Span) (offset : ℤ) (size len more : ℕ) (rule : Rule) → SpanWithin t s → len ≤ more → Follows Any (cond (fits s offset size len) (Ok tt) (Err rule)) (cond (fits t offset size more) (Ok tt) (Err rule))
+fits_follows : (s t : Span) (offset : ℤ) (size len more : ℕ) (rule : Rule) → SpanWithin t s → len ≤ more
+    → Follows Any (cond (fits s offset size len) (Ok tt) (Err rule)) (cond (fits t offset size more) (Ok tt) (Err rule))
 fits_follows s t offset size len more rule h l = elim (cases_Bool (fits s offset size len)) [
   | inl e ↦ rw (e, fits_less s t offset size len more h l e) tt
   | inr e ↦ rw e tt
@@ -185,7 +187,8 @@ extent_less : (m j : Interval) (r : Region) → Within j m → extent m r ≤ ex
 extent_less m j Frame h = omega arith
 extent_less m j Record h = h.low
 
-readable_follows : (m j : Interval) (offset : ℤ) (size : ℕ) {k l : Kind} → Within j m → Both k l → Follows Any (readable m k offset size) (readable j l offset size)
+readable_follows : (m j : Interval) (offset : ℤ) (size : ℕ) {k l : Kind} → Within j m → Both k l
+    → Follows Any (readable m k offset size) (readable j l offset size)
 readable_follows m j offset size w (numbers h) = tt
 readable_follows m j offset size w (pointers {r = r} {s = s} {t = t} h) = fits_follows s t offset size (extent m r) (extent j r) (outside r) h (extent_less m j r w)
 
@@ -231,7 +234,8 @@ past : (s : StateKinds) (r : ℕ) → length s.kinds ≤ r → kind_of s r ≡ U
 past s r h = get_or_past s.kinds r Unset h
 
 -- what holds of a kind that is set and of the others holds of all
-set_each : (P : ℕ → Kind → Type 0) (s : StateKinds) (d : ℕ) (l : Kind) → d < length s.kinds → P d l → ((r : ℕ) → (r ≡ d → ⊥) → P r (kind_of s r)) → (r : ℕ) → P r (kind_of (with_kind s d l) r)
+set_each : (P : ℕ → Kind → Type 0) (s : StateKinds) (d : ℕ) (l : Kind) → d < length s.kinds → P d l → ((r : ℕ) → (r ≡ d → ⊥) → P r (kind_of s r))
+    → (r : ℕ) → P r (kind_of (with_kind s d l) r)
 set_each P s d l low here others r = elim (cases_eq r d) [
   | inl e ↦ subst (λ x. P x (kind_of (with_kind s d l) x)) (sym e) (subst (P d) (sym (get_or-set_same s.kinds d l Unset low)) here)
   | inr ne ↦ subst (P r) (sym (get_or-set_other s.kinds d r l Unset ne)) (others r ne)
@@ -262,7 +266,8 @@ cover_put n s d k h c = record { lengths = h.lengths; each = at }
     ]
 
 -- with less in the smaller state
-covered_put : (n s : StateKinds) (d : ℕ) (l : Kind) → d < length s.kinds → StateCovers n s → KindCovers s.lengths (kind_of n d) l → StateCovers n (with_kind s d l)
+covered_put : (n s : StateKinds) (d : ℕ) (l : Kind) → d < length s.kinds → StateCovers n s → KindCovers s.lengths (kind_of n d) l
+    → StateCovers n (with_kind s d l)
 covered_put n s d l low h c = record { lengths = h.lengths; each = set_each (λ r. KindCovers s.lengths (kind_of n r)) s d l low c (λ r ne. h.each r) }
 
 put : (n s : StateKinds) (d : ℕ) (k l : Kind) → d < 11 → IsAbove n s → Results s.lengths k l → IsAbove (with_kind n d k) (with_kind s d l)
@@ -311,13 +316,15 @@ taken_follows : (n s : StateKinds) (op : AluOp) (d : ℕ) → IsAbove n s → Fo
 taken_follows n s ops.Mov d h = one_number 0 (omega arith)
 taken_follows n s op d h = register_follows n s d h
 
-mapped_follows : (n s : StateKinds) (d b : ℕ) (f : Interval → Interval) → ((a c : Interval) → IsPart a c → IsPart (f a) (f c)) → IsAbove n s → Follows IsAbove (mapped n d b f) (mapped s d b f)
+mapped_follows : (n s : StateKinds) (d b : ℕ) (f : Interval → Interval) → ((a c : Interval) → IsPart a c → IsPart (f a) (f c)) → IsAbove n s
+    → Follows IsAbove (mapped n d b f) (mapped s d b f)
 mapped_follows n s d b f g h =
     then_follows Both IsAbove (known (read_kind n b)) (known (read_kind s b)) _ _ (register_follows n s b h) (λ k l kl.
     then_follows (IsLow d) IsAbove (writable d) (writable d) _ _ (writable_follows d) (λ _ _ low.
     then_follows Ranges IsAbove (number WrongKind k) (number WrongKind l) _ _ (number_follows WrongKind kl) (λ c a r. put n s d (Number (f c)) (Number (f a)) (omega (arith, low)) h (let p = g a c r in (p.within, p.words)))))
 
-loaded_follows : (n s : StateKinds) (d base : ℕ) (offset : ℤ) (size : ℕ) (range : Interval) → IsInterval range → IsAbove n s → Follows IsAbove (loaded_state n d base offset size range) (loaded_state s d base offset size range)
+loaded_follows : (n s : StateKinds) (d base : ℕ) (offset : ℤ) (size : ℕ) (range : Interval) → IsInterval range → IsAbove n s
+    → Follows IsAbove (loaded_state n d base offset size range) (loaded_state s d base offset size range)
 loaded_follows n s d base offset size range f h =
     then_follows Both IsAbove (known (read_kind n base)) (known (read_kind s base)) _ _ (register_follows n s base h) (λ k l kl.
     then_follows (IsLow d) IsAbove (writable d) (writable d) _ _ (writable_follows d) (λ _ _ low.
@@ -326,22 +333,26 @@ loaded_follows n s d base offset size range f h =
 -- ---- what rests on the rows
 
 module _ (rows : RowsAreMonotone) where
-  operated_follows : (j : Interval) (w : Width) (op : AluOp) {k l u v : Kind} → Both k l → Both u v → MayFollow j (operated_kind w op k u) (operated_kind w op l v)
+  operated_follows : (j : Interval) (w : Width) (op : AluOp) {k l u v : Kind} → Both k l → Both u v
+      → MayFollow j (operated_kind w op k u) (operated_kind w op l v)
   operated_follows j w op (numbers {a = a} {b = b} h) (numbers {a = c} {b = d} i) = let p = rows.operations w op b d a c h i in (p.within, p.words)
   operated_follows j w op h i = pointer_follows j w op h i
 
-  alu_follows : (m j : Interval) (w : Width) (op : AluOp) {k l u v : Kind} → Both k l → Operands m j u v → MayFollow j (alu_kind m w op k u) (alu_kind j w op l v)
+  alu_follows : (m j : Interval) (w : Width) (op : AluOp) {k l u v : Kind} → Both k l → Operands m j u v
+      → MayFollow j (alu_kind m w op k u) (alu_kind j w op l v)
   alu_follows m j w op h i = elim (cases_Bool (is_copy w op)) [
     | inl e ↦ rw e i.covers
     | inr e ↦ rw e (operated_follows j w op h i.read)
   ]
 
-  order_follows : (o : ByteOrder) (bits : SwapBits) (a c : Interval) → IsPart a c → IsPart (ordered_range o (swap_bits bits) a) (ordered_range o (swap_bits bits) c)
+  order_follows : (o : ByteOrder) (bits : SwapBits) (a c : Interval) → IsPart a c
+      → IsPart (ordered_range o (swap_bits bits) a) (ordered_range o (swap_bits bits) c)
   order_follows orders.Little bits a c h = rows.low_bits bits a c h
   order_follows orders.Big bits a c h = rows.swaps bits a c h
   order_follows orders.Swapped bits a c h = rows.swaps bits a c h
 
-  extend_follows : (e : Extension) (a c : Interval) → IsPart a c → IsPart (sign_extended (extension_bits e) (bits_of (extension_width e)) a) (sign_extended (extension_bits e) (bits_of (extension_width e)) c)
+  extend_follows : (e : Extension) (a c : Interval) → IsPart a c
+      → IsPart (sign_extended (extension_bits e) (bits_of (extension_width e)) a) (sign_extended (extension_bits e) (bits_of (extension_width e)) c)
   extend_follows extensions.W32From8 a c h = rows.extensions B8 W32 a c h
   extend_follows extensions.W32From16 a c h = rows.extensions B16 W32 a c h
   extend_follows extensions.W64From8 a c h = rows.extensions B8 W64 a c h
@@ -385,12 +396,14 @@ module _ (rows : RowsAreMonotone) where
       put n s d (Number (single v)) (Number (single v)) (omega (arith, low)) h (let p = itself v legal.1 in (p.within, p.words)))
 
   -- where the first is there so is the second
-  follows_ok : (x y : Result StateKinds Rule) (after : StateKinds) → Follows IsAbove x y → x ≡ Ok after → (left : StateKinds) × (y ≡ Ok left) × IsAbove after left
+  follows_ok : (x y : Result StateKinds Rule) (after : StateKinds) → Follows IsAbove x y → x ≡ Ok after
+      → (left : StateKinds) × (y ≡ Ok left) × IsAbove after left
   follows_ok (Err rule) y after h e = let bad : Err rule ≡ Ok after = e in absurd cc
   follows_ok (Ok a) (Err rule) after h e = absurd h
   follows_ok (Ok a) (Ok b) after h e = let is : a ≡ after = cc in (b, refl, subst (λ x. IsAbove x b) is h)
 
-  transfer_less : (i : Insn) (n s after : StateKinds) → IsInsn i → IsAbove n s → transfer i n ≡ Ok after → (left : StateKinds) × (transfer i s ≡ Ok left) × IsAbove after left
+  transfer_less : (i : Insn) (n s after : StateKinds) → IsInsn i → IsAbove n s → transfer i n ≡ Ok after
+      → (left : StateKinds) × (transfer i s ≡ Ok left) × IsAbove after left
   transfer_less i n s after legal h e = follows_ok (transfer i n) (transfer i s) after (transfer_follows i n s legal h) e
 
   -- ---- edges: each of the smaller state's has one of the larger state's that covers it
@@ -471,7 +484,8 @@ module _ (rows : RowsAreMonotone) where
   narrows_as l Unset a p e h = absurd cc
   narrows_as l (Pointer r t) a p e h = absurd cc
 
-  lengths_stay : (n s : StateKinds) (p : Interval) (o : Option Interval) → IsAbove n s → meet s.lengths p ≡ o → IsRefinedAbove (Some n) (option_map (with_lengths s) o)
+  lengths_stay : (n s : StateKinds) (p : Interval) (o : Option Interval) → IsAbove n s → meet s.lengths p ≡ o
+      → IsRefinedAbove (Some n) (option_map (with_lengths s) o)
   lengths_stay n s p None h e = tt
   lengths_stay n s p (Some j) h e = let m = met s.lengths p j e in fewer n s j h m.left m.ordered
 
@@ -485,7 +499,8 @@ module _ (rows : RowsAreMonotone) where
   narrow_stays n s d p Unset h e i = absurd i
   narrow_stays n s d p (Pointer r t) h e i = absurd i
 
-  number_leads : (n s : StateKinds) (d : ℕ) (q p : Interval) (o : Option Interval) → IsAbove n s → Length ≡ kind_of s d → IsPart p q → meet s.lengths p ≡ o → IsRefinedAbove (Some (with_kind n d (Number q))) (option_map (with_lengths s) o)
+  number_leads : (n s : StateKinds) (d : ℕ) (q p : Interval) (o : Option Interval) → IsAbove n s → Length ≡ kind_of s d → IsPart p q
+      → meet s.lengths p ≡ o → IsRefinedAbove (Some (with_kind n d (Number q))) (option_map (with_lengths s) o)
   number_leads n s d q p None h e i is = tt
   number_leads n s d q p (Some j) h e i is =
       let m = met s.lengths p j is in
@@ -493,7 +508,8 @@ module _ (rows : RowsAreMonotone) where
       let here : KindCovers j (Number q) (kind_of s d) = subst (KindCovers j (Number q)) e (within_through q p j i.within m.right) in
       (cover_put n (with_lengths s j) d (Number q) f.0 here, f.1)
 
-  lengths_lead : (n s : StateKinds) (q p : Interval) (o : Option Interval) → IsAbove n s → IsPart p q → meet s.lengths p ≡ o → IsRefinedAbove (option_map (with_lengths n) (meet n.lengths q)) (option_map (with_lengths s) o)
+  lengths_lead : (n s : StateKinds) (q p : Interval) (o : Option Interval) → IsAbove n s → IsPart p q → meet s.lengths p ≡ o
+      → IsRefinedAbove (option_map (with_lengths n) (meet n.lengths q)) (option_map (with_lengths s) o)
   lengths_lead n s q p None h i is = tt
   lengths_lead n s q p (Some j) h i is =
       let m = met s.lengths p j is in
@@ -501,7 +517,8 @@ module _ (rows : RowsAreMonotone) where
       let more = meets_more s.lengths p n.lengths q j h.0.lengths i.within m in
       rw more.1 (record { lengths = more.2; each = f.0.each }, f.1)
 
-  narrow_leads : (n s : StateKinds) (d : ℕ) (q p : Interval) (k l : Kind) → IsAbove n s → k ≡ kind_of n d → l ≡ kind_of s d → IsNumeral k → IsNumeral l → KindCovers s.lengths k l → IsPart p q → IsRefinedAbove (narrowed n d q k) (narrowed s d p l)
+  narrow_leads : (n s : StateKinds) (d : ℕ) (q p : Interval) (k l : Kind) → IsAbove n s → k ≡ kind_of n d → l ≡ kind_of s d → IsNumeral k
+      → IsNumeral l → KindCovers s.lengths k l → IsPart p q → IsRefinedAbove (narrowed n d q k) (narrowed s d p l)
   narrow_leads n s d q p (Number a) (Number b) h e f x y c i = put n s d (Number q) (Number p) (is_set s d h.1.count (subst IsNumeral f tt)) h (i.within, i.words)
   narrow_leads n s d q p (Number a) Length h e f x y c i = number_leads n s d q p (meet s.lengths p) h f i refl
   narrow_leads n s d q p Length Length h e f x y c i = lengths_lead n s q p (meet s.lengths p) h i refl
@@ -526,13 +543,15 @@ module _ (rows : RowsAreMonotone) where
 
   -- ---- branches
 
-  one_leads : (n s : StateKinds) (d : ℕ) (c a : Interval) (o p : Option (Interval × Interval)) → IsAbove n s → read_kind n d ≡ Number c → read_kind s d ≡ Number a → LeavesLess p o → IsRefinedAbove (with_number n d o) (with_number s d p)
+  one_leads : (n s : StateKinds) (d : ℕ) (c a : Interval) (o p : Option (Interval × Interval)) → IsAbove n s → read_kind n d ≡ Number c
+      → read_kind s d ≡ Number a → LeavesLess p o → IsRefinedAbove (with_number n d o) (with_number s d p)
   one_leads n s d c a o None h i j l = tt
   one_leads n s d c a None (Some p) h i j l = absurd l
   one_leads n s d c a (Some o) (Some p) h i j l =
       narrow_leads n s d o.0 p.0 (kind_of n d) (kind_of s d) h refl refl (numeral n.lengths (kind_of n d) c i) (numeral s.lengths (kind_of s d) a j) (h.0.each d) l.0
 
-  one_stays : (n s : StateKinds) (d : ℕ) (a b : Interval) (p : Option (Interval × Interval)) → IsAbove n s → read_kind s d ≡ Number a → LeavesLess p (Some (a, b)) → IsRefinedAbove (Some n) (with_number s d p)
+  one_stays : (n s : StateKinds) (d : ℕ) (a b : Interval) (p : Option (Interval × Interval)) → IsAbove n s → read_kind s d ≡ Number a
+      → LeavesLess p (Some (a, b)) → IsRefinedAbove (Some n) (with_number s d p)
   one_stays n s d a b None h j l = tt
   one_stays n s d a b (Some p) h j l = narrow_stays n s d p.0 (kind_of s d) h refl (narrows_as s.lengths (kind_of s d) a p.0 j l.0)
 
@@ -564,18 +583,22 @@ module _ (rows : RowsAreMonotone) where
       (λ t is. subst IsNumeral (sym (narrowed_other s t d e p.0 (kind_of s d) ne is)) (numeral s.lengths (kind_of s e) b y))
       l.1
 
-  then_stays : (n : StateKinds) (e : ℕ) (p : Interval) (m : Option StateKinds) → IsRefinedAbove (Some n) m → ((t : StateKinds) → m ≡ Some t → Narrows p (kind_of t e)) → IsRefinedAbove (Some n) (option_and_then (λ (t : StateKinds). narrowed t e p (kind_of t e)) m)
+  then_stays : (n : StateKinds) (e : ℕ) (p : Interval) (m : Option StateKinds) → IsRefinedAbove (Some n) m
+      → ((t : StateKinds) → m ≡ Some t → Narrows p (kind_of t e))
+      → IsRefinedAbove (Some n) (option_and_then (λ (t : StateKinds). narrowed t e p (kind_of t e)) m)
   then_stays n e p None h x = tt
   then_stays n e p (Some t) h x = narrow_stays n t e p (kind_of t e) h refl (x t refl)
 
-  two_stay : (n s : StateKinds) (d e : ℕ) (a b : Interval) (p : Option (Interval × Interval)) → (d ≡ e → ⊥) → IsAbove n s → read_kind s d ≡ Number a → read_kind s e ≡ Number b → LeavesLess p (Some (a, b)) → IsRefinedAbove (Some n) (with_numbers s d e p)
+  two_stay : (n s : StateKinds) (d e : ℕ) (a b : Interval) (p : Option (Interval × Interval)) → (d ≡ e → ⊥) → IsAbove n s → read_kind s d ≡ Number a
+      → read_kind s e ≡ Number b → LeavesLess p (Some (a, b)) → IsRefinedAbove (Some n) (with_numbers s d e p)
   two_stay n s d e a b None ne h i j k = tt
   two_stay n s d e a b (Some p) ne h i j k =
       then_stays n e p.1 (narrowed s d p.0 (kind_of s d)) (one_stays n s d a b (Some p) h i k)
       (λ t is. subst (Narrows p.1) (sym (narrowed_other s t d e p.0 (kind_of s d) ne is)) (narrows_as s.lengths (kind_of s e) b p.1 j k.1))
 
   -- where one of the larger state's kinds is no number
-  two_less : (n s : StateKinds) (w : Width) (r : Relation) (taken : Bool) (d e : ℕ) (a b : Interval) → (d ≡ e → ⊥) → IsAbove n s → read_kind s d ≡ Number a → read_kind s e ≡ Number b → IsRefinedAbove (Some n) (with_numbers s d e (branched (bits_of w) r taken a b))
+  two_less : (n s : StateKinds) (w : Width) (r : Relation) (taken : Bool) (d e : ℕ) (a b : Interval) → (d ≡ e → ⊥) → IsAbove n s
+      → read_kind s d ≡ Number a → read_kind s e ≡ Number b → IsRefinedAbove (Some n) (with_numbers s d e (branched (bits_of w) r taken a b))
   two_less n s w r taken d e a b ne h i j = two_stay n s d e a b (branched (bits_of w) r taken a b) ne h i j (rows.narrows w r taken a b (full_read s d a h.1 i) (full_read s e b h.1 j))
 
   by_register : (n s : StateKinds) (w : Width) (r : Relation) (taken : Bool) (d e : ℕ) {k l u v : Kind} → (d ≡ e → ⊥) → IsAbove n s → read_kind n d ≡ k → read_kind s d ≡ l → read_kind n e ≡ u → read_kind s e ≡ v → Less k l → Less u v
@@ -591,7 +614,8 @@ module _ (rows : RowsAreMonotone) where
   low_word W32 x = let h : low 32 x < 2 ^ 32 = low_bound 32 x in omega (arith, h)
   low_word W64 x = low_bound 64 x
 
-  refined_less : (w : Width) (r : Relation) (taken : Bool) (d : ℕ) (x : Operand) (n s : StateKinds) → IsAbove n s → IsRefinedAbove (refined n w r taken d x) (refined s w r taken d x)
+  refined_less : (w : Width) (r : Relation) (taken : Bool) (d : ℕ) (x : Operand) (n s : StateKinds) → IsAbove n s
+      → IsRefinedAbove (refined n w r taken d x) (refined s w r taken d x)
   refined_less w r taken d (operands.Number z) n s h = by_number n s w r taken d (modulo 64 z) h (low_word w (modulo 64 z)) refl refl (less_at n s d h)
   refined_less w r taken d (operands.Register e) n s h = elim (cases_eq d e) [
     | inl q ↦ rw (eq-eqb d e q) h

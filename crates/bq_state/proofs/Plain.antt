@@ -42,7 +42,8 @@ module _ (n : ℕ) where
   join_plain l m a Length h i = absurd i
   join_plain l m a b h i = tt
 
-  lists_plain : (l m : Interval) (a b : List Kind) → ((r : ℕ) → IsPlainKind (get_or a r Unset)) → ((r : ℕ) → IsPlainKind (get_or b r Unset)) → (r : ℕ) → IsPlainKind (get_or (join_lists l m a b) r Unset)
+  lists_plain : (l m : Interval) (a b : List Kind) → ((r : ℕ) → IsPlainKind (get_or a r Unset)) → ((r : ℕ) → IsPlainKind (get_or b r Unset)) → (r : ℕ)
+      → IsPlainKind (get_or (join_lists l m a b) r Unset)
   lists_plain l m [] b h i r = tt
   lists_plain l m (x ∷ xs) [] h i r = tt
   lists_plain l m (x ∷ xs) (y ∷ ys) h i zero = join_plain l m x y (h 0) (i 0)

@@ -13,7 +13,8 @@ each_edge P None h = All-nil P
 each_edge P (Some e) h = All-cons P (e.unit, e.state) [] h (All-nil P)
 
 -- what holds of the edge behind and of the jump, where they are, holds of each edge of the list
-pub each_listed : (P : (ℕ × StateKinds) → Type 0) (e : Edges) → IfSome e.behind (λ x. P (x.unit, x.state)) → IfSome e.jump (λ x. P (x.unit, x.state)) → All P (listed e)
+pub each_listed : (P : (ℕ × StateKinds) → Type 0) (e : Edges) → IfSome e.behind (λ x. P (x.unit, x.state)) → IfSome e.jump (λ x. P (x.unit, x.state))
+    → All P (listed e)
 each_listed P e h i = All-append P (edge_list e.behind) (edge_list e.jump) (each_edge P e.behind h) (each_edge P e.jump i)
 
 first_of : (P : (ℕ × StateKinds) → Type 0) (o p : Option Edge) → All P (edge_list o ++ edge_list p) → IfSome o (λ x. P (x.unit, x.state))

@@ -9,7 +9,8 @@ use Rattle.bq_verify.specs.States.{joined, edges_from, leading_to, arriving, Are
 use Rattle.bq_verify.specs.Table.{extended}
 use Rattle.bq_verify.proofs.Joins.{extended_joined}
 
-pub arriving_same : (bounds : Interval) (text : List Insn) (notes others : List (Option StateKinds)) (unit n : ℕ) → ((v : ℕ) → v < n → note_at others v ≡ note_at notes v) → arriving bounds text others unit n ≡ arriving bounds text notes unit n
+pub arriving_same : (bounds : Interval) (text : List Insn) (notes others : List (Option StateKinds)) (unit n : ℕ)
+    → ((v : ℕ) → v < n → note_at others v ≡ note_at notes v) → arriving bounds text others unit n ≡ arriving bounds text notes unit n
 arriving_same bounds text notes others unit zero same = refl
 arriving_same bounds text notes others unit (suc n) same =
     let below = arriving_same bounds text notes others unit n (λ v l. same v (omega (arith, l))) in

@@ -29,7 +29,8 @@ Notes = List (Option StateKinds)
 abbrev brings : ℕ → ℕ × StateKinds → List StateKinds
 brings unit edge = if edge.0 == unit then edge.1 ∷ [] else []
 
-arrival_at : (notes : Notes) (edge : ℕ × StateKinds) (unit : ℕ) → edge.0 < length notes → note_at (with_arrival notes edge) unit ≡ extended (note_at notes unit) (brings unit edge)
+arrival_at : (notes : Notes) (edge : ℕ × StateKinds) (unit : ℕ) → edge.0 < length notes
+    → note_at (with_arrival notes edge) unit ≡ extended (note_at notes unit) (brings unit edge)
 arrival_at notes edge unit within = elim (cases_Bool (edge.0 == unit)) [
   | inl t ↦
       let e : edge.0 ≡ unit = eqb-true edge.0 unit t in
@@ -54,14 +55,16 @@ arrivals_count : (notes : Notes) (es : List (ℕ × StateKinds)) → length (wit
 arrivals_count notes [] = refl
 arrivals_count notes (edge ∷ es) = arrivals_count (with_arrival notes edge) es ∙ arrival_count notes edge
 
-arrivals_at : (notes : Notes) (es : List (ℕ × StateKinds)) (unit : ℕ) → AllWithin notes es → note_at (with_arrivals notes es) unit ≡ extended (note_at notes unit) (leading_to unit es)
+arrivals_at : (notes : Notes) (es : List (ℕ × StateKinds)) (unit : ℕ) → AllWithin notes es
+    → note_at (with_arrivals notes es) unit ≡ extended (note_at notes unit) (leading_to unit es)
 arrivals_at notes [] unit w = sym (extended_none (note_at notes unit))
 arrivals_at notes (edge ∷ es) unit w =
     let rest = arrivals_at (with_arrival notes edge) es unit (still_within notes (with_arrival notes edge) es (arrival_count notes edge) w.1) in
     let first = arrival_at notes edge unit w.0 in
     rest ∙ (ap (λ o. extended o (leading_to unit es)) first ∙ extended_twice (note_at notes unit) (brings unit edge) (leading_to unit es))
 
-pub all_within : (text : List Insn) (unit : ℕ) (notes : Notes) (es : List (ℕ × StateKinds)) → length notes ≡ units text → AllLead text unit es → AllWithin notes es
+pub all_within : (text : List Insn) (unit : ℕ) (notes : Notes) (es : List (ℕ × StateKinds)) → length notes ≡ units text → AllLead text unit es
+    → AllWithin notes es
 all_within text unit notes [] e l = tt
 all_within text unit notes (edge ∷ es) e l =
     let inside = insn_within text edge.0 l.0.insn l.0.begins in
@@ -75,7 +78,8 @@ none_back text unit v (edge ∷ es) before l = elim (cases_Bool (edge.0 == v)) [
   | inr f ↦ rw f (none_back text unit v es before l.1)
 ]
 
-kept : (text : List Insn) (unit v : ℕ) (notes : Notes) (es : List (ℕ × StateKinds)) → length notes ≡ units text → AllLead text unit es → v ≤ unit → note_at (with_arrivals notes es) v ≡ note_at notes v
+kept : (text : List Insn) (unit v : ℕ) (notes : Notes) (es : List (ℕ × StateKinds)) → length notes ≡ units text → AllLead text unit es → v ≤ unit
+    → note_at (with_arrivals notes es) v ≡ note_at notes v
 kept text unit v notes es count l before =
     arrivals_at notes es v (all_within text unit notes es count l) ∙ (ap (extended (note_at notes v)) (none_back text unit v es before l) ∙ extended_none (note_at notes v))
 
@@ -101,11 +105,13 @@ filled_on bounds text notes n i state after text_is h there here passed = record
     are : edges_from n (insn_at text n) (note_at notes n) ≡ es
     are = rw (there, here, passed) refl
 
-    more : (unit : ℕ) → unit < units text → note_at (with_arrivals notes es) unit ≡ extended (note_at notes unit) (leading_to unit (edges_from n (insn_at text n) (note_at notes n)))
+    more : (unit : ℕ) → unit < units text
+        → note_at (with_arrivals notes es) unit ≡ extended (note_at notes unit) (leading_to unit (edges_from n (insn_at text n) (note_at notes n)))
     more unit within =
         arrivals_at notes es unit (all_within text n notes es h.states.count lead) ∙ ap (λ edges. extended (note_at notes unit) (leading_to unit edges)) (sym are)
 
-    unbroken : (unit : ℕ) (j : Insn) (s : StateKinds) → unit < n + 1 → insn_at text unit ≡ Some j → note_at (with_arrivals notes es) unit ≡ Some s → (a : StateKinds) × (transfer j s ≡ Ok a)
+    unbroken : (unit : ℕ) (j : Insn) (s : StateKinds) → unit < n + 1 → insn_at text unit ≡ Some j → note_at (with_arrivals notes es) unit ≡ Some s
+        → (a : StateKinds) × (transfer j s ≡ Ok a)
     unbroken unit j s l begins noted = elim (cases_lt unit n) [
       | inl k ↦ h.unbroken.each unit j s k begins (sym (same unit l) ∙ noted)
       | inr g ↦
@@ -127,7 +133,8 @@ filled_past bounds text notes n h empty never = record {
   unbroken = record { each = unbroken };
 }
   where
-    unbroken : (unit : ℕ) (j : Insn) (s : StateKinds) → unit < n + 1 → insn_at text unit ≡ Some j → note_at notes unit ≡ Some s → (a : StateKinds) × (transfer j s ≡ Ok a)
+    unbroken : (unit : ℕ) (j : Insn) (s : StateKinds) → unit < n + 1 → insn_at text unit ≡ Some j → note_at notes unit ≡ Some s
+        → (a : StateKinds) × (transfer j s ≡ Ok a)
     unbroken unit j s l begins noted = elim (cases_lt unit n) [
       | inl k ↦ h.unbroken.each unit j s k begins noted
       | inr g ↦
@@ -137,7 +144,8 @@ filled_past bounds text notes n h empty never = record {
 
 -- ---- the table before the first unit
 
-pub filled_first : (bounds : Interval) (text : List Insn) (notes : Notes) → IsText text → IsLegalFlow text → length notes ≡ units text → ((v : ℕ) → note_at notes v ≡ None) → IsFilled bounds text (slice_set notes 0 (Some (entry_state bounds))) 0
+pub filled_first : (bounds : Interval) (text : List Insn) (notes : Notes) → IsText text → IsLegalFlow text → length notes ≡ units text
+    → ((v : ℕ) → note_at notes v ≡ None) → IsFilled bounds text (slice_set notes 0 (Some (entry_state bounds))) 0
 filled_first bounds text notes text_is legal count empty = record {
   legal = legal;
   states = record { count = length-set notes 0 (Some (entry_state bounds)) ∙ count; each = λ unit within. at unit };
@@ -158,7 +166,8 @@ filled_first bounds text notes text_is legal count empty = record {
 
 -- ---- as the pass needs it
 
-pub edges_within : (bounds : Interval) (text : List Insn) (notes : Notes) (n : ℕ) (i : Insn) (after : StateKinds) → IsText text → IsFilled bounds text notes n → insn_at text n ≡ Some i → AllWithin notes (edges n i after)
+pub edges_within : (bounds : Interval) (text : List Insn) (notes : Notes) (n : ℕ) (i : Insn) (after : StateKinds) → IsText text
+    → IsFilled bounds text notes n → insn_at text n ≡ Some i → AllWithin notes (edges n i after)
 edges_within bounds text notes n i after text_is h there = all_within text n notes (edges n i after) h.states.count (edges_lead text n i after text_is.few h.legal there)
 
 pub filled_by : (bounds : Interval) (text : List Insn) (notes new : Notes) (n : ℕ) (i : Insn) (state : StateKinds) → IsText text → IsFilled bounds text notes n → insn_at text n ≡ Some i → note_at notes n ≡ Some state
@@ -166,14 +175,16 @@ pub filled_by : (bounds : Interval) (text : List Insn) (notes new : Notes) (n : 
 filled_by bounds text notes new n i state text_is h there here done =
     subst (λ table. IsFilled bounds text table (n + 1)) (sym done.2) (filled_on bounds text notes n i state done.0 text_is h there here done.1)
 
-pub filled_half : (bounds : Interval) (text : List Insn) (notes : Notes) (n : ℕ) → IsFilled bounds text notes n → insn_at text n ≡ None → IsFilled bounds text notes (n + 1)
+pub filled_half : (bounds : Interval) (text : List Insn) (notes : Notes) (n : ℕ) → IsFilled bounds text notes n → insn_at text n ≡ None
+    → IsFilled bounds text notes (n + 1)
 filled_half bounds text notes n h none = filled_past bounds text notes n h (rw none refl) (λ i state there here. let bad : Some i ≡ None = sym there ∙ none in absurd (cc))
 
 from_none : (n : ℕ) (o : Option Insn) → edges_from n o None ≡ []
 from_none n None = refl
 from_none n (Some i) = refl
 
-pub filled_unreached : (bounds : Interval) (text : List Insn) (notes : Notes) (n : ℕ) → IsFilled bounds text notes n → note_at notes n ≡ None → IsFilled bounds text notes (n + 1)
+pub filled_unreached : (bounds : Interval) (text : List Insn) (notes : Notes) (n : ℕ) → IsFilled bounds text notes n → note_at notes n ≡ None
+    → IsFilled bounds text notes (n + 1)
 filled_unreached bounds text notes n h none = filled_past bounds text notes n h (rw none (from_none n (insn_at text n))) (λ i state there here. let bad : Some state ≡ None = sym here ∙ none in absurd (cc))
 
 -- a rule that the pass meets is the first that is broken
@@ -182,5 +193,6 @@ pub broken_first : (bounds : Interval) (text : List Insn) (notes : Notes) (n : �
 broken_first bounds text notes n i state fault h there here broken =
     subst (IsRefused bounds text) (sym broken.1) (h.legal, record { notes = notes; states = h.states; below = h.unbroken; insn = i; there = there; state = state; noted = here; broken = broken.2 })
 
-pub passed_on : {A : Type 0} (P : CheckFault → Type 0) (result : Result A CheckFault) (x fault : CheckFault) → result ≡ Err x → x ≡ fault → P fault → IfErr result P
+pub passed_on : {A : Type 0} (P : CheckFault → Type 0) (result : Result A CheckFault) (x fault : CheckFault) → result ≡ Err x → x ≡ fault → P fault
+    → IfErr result P
 passed_on P result x fault is same holds = subst (λ r. IfErr r P) (sym is) (subst P (sym same) holds)

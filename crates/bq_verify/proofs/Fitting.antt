@@ -46,7 +46,8 @@ module _ (len : ℕ) (law : StaysPlain len) where
   ]
 
   module _ (text : List Insn) (text_is : IsText text) (legal : IsLegalFlow text) (notes : Notes) where
-    arrived_plain : (unit n : ℕ) → ((v : ℕ) (s : StateKinds) → v < unit → note_at notes v ≡ Some s → IsPlain len s) → (x : StateKinds) → Among x (arriving (single len) text notes unit n) → IsPlain len x
+    arrived_plain : (unit n : ℕ) → ((v : ℕ) (s : StateKinds) → v < unit → note_at notes v ≡ Some s → IsPlain len s) → (x : StateKinds)
+        → Among x (arriving (single len) text notes unit n) → IsPlain len x
     arrived_plain unit zero below x a = elim (cases_Bool (unit == 0)) [
       | inl t ↦
           let b : Among x (entry_state (single len) ∷ []) = rw t at a in
@@ -59,25 +60,29 @@ module _ (len : ℕ) (law : StaysPlain len) where
           | inr r ↦ by_edge (insn_at text n) (note_at notes n) refl refl r
         ]
       where
-        by_rule : (i : Insn) (s : StateKinds) (r : Result StateKinds Rule) → insn_at text n ≡ Some i → note_at notes n ≡ Some s → transfer i s ≡ r → Among x (leading_to unit (edges_after n i r)) → IsPlain len x
+        by_rule : (i : Insn) (s : StateKinds) (r : Result StateKinds Rule) → insn_at text n ≡ Some i → note_at notes n ≡ Some s → transfer i s ≡ r
+            → Among x (leading_to unit (edges_after n i r)) → IsPlain len x
         by_rule i s (Ok after) there noted is b =
             let forward = (came text n unit x (edges n i after) (edges_lead text n i after text_is.few legal there) b).forward in
             brought_plain unit x (edges n i after) (law.leads n i after (law.transfers i s after (below n s forward noted) is)) b
         by_rule i s (Err rule) there noted is b = absurd b
 
-        by_edge : (o : Option Insn) (note : Option StateKinds) → insn_at text n ≡ o → note_at notes n ≡ note → Among x (leading_to unit (edges_from n o note)) → IsPlain len x
+        by_edge : (o : Option Insn) (note : Option StateKinds) → insn_at text n ≡ o → note_at notes n ≡ note
+            → Among x (leading_to unit (edges_from n o note)) → IsPlain len x
         by_edge None _ there noted b = absurd b
         by_edge (Some i) None there noted b = absurd b
         by_edge (Some i) (Some s) there noted b = by_rule i s (transfer i s) there noted refl b
 
-    states_plain : (end fuel : ℕ) → AreStates (single len) text notes end → (unit : ℕ) (s : StateKinds) → unit < fuel → note_at notes unit ≡ Some s → IsPlain len s
+    states_plain : (end fuel : ℕ) → AreStates (single len) text notes end → (unit : ℕ) (s : StateKinds) → unit < fuel → note_at notes unit ≡ Some s
+        → IsPlain len s
     states_plain end zero are unit s l noted = absurd (omega (arith, l))
     states_plain end (suc fuel) are unit s l noted =
         let within : unit < units text = omega (arith, note_within notes unit s noted, are.count) in
         joined_plain s (arriving (single len) text notes unit end) (sym (are.each unit within) ∙ noted)
         (arrived_plain unit end (λ v t k e. states_plain end fuel are v t (omega (arith, k, l)) e))
 
-pub all_fit_lengths : ((len : ℕ) → StaysPlain len) → (bounds : Interval) (text : List Insn) (notes : Notes) → IsText text → IsLegalFlow text → AreStates bounds text notes (units text) → AllFitLengths bounds notes
+pub all_fit_lengths : ((len : ℕ) → StaysPlain len) → (bounds : Interval) (text : List Insn) (notes : Notes) → IsText text → IsLegalFlow text
+    → AreStates bounds text notes (units text) → AllFitLengths bounds notes
 all_fit_lengths law bounds text notes text_is legal are = record { each = λ unit state noted one. each unit state noted one }
   where
     each : (unit : ℕ) (state : StateKinds) → note_at notes unit ≡ Some state → bounds.lo ≡ bounds.hi → IsPlain bounds.lo state

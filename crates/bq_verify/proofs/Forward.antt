@@ -29,13 +29,15 @@ same_next text unit next h =
     let s : h.next ≡ next = cc in
     record { forward = subst (λ n. unit < n) s h.forward; insn = h.insn; begins = subst (λ n. insn_at text n ≡ Some h.insn) s h.begins }
 
-jumped : (text : List Insn) (unit : ℕ) (d : ℤ) → units text ≤ 4096 → unit < units text → IsForward text unit (destination unit d) → Leads text unit (target unit d)
+jumped : (text : List Insn) (unit : ℕ) (d : ℤ) → units text ≤ 4096 → unit < units text → IsForward text unit (destination unit d)
+    → Leads text unit (target unit d)
 jumped text unit d few within h =
     let inside : h.next < units text = insn_within text h.next h.insn h.begins in
     let e : target unit d ≡ h.next = in_words unit h.next d (omega (arith, few, within)) (omega (arith, few, inside)) h.is in
     record { forward = subst (λ n. unit < n) (sym e) h.forward; insn = h.insn; begins = subst (λ n. insn_at text n ≡ Some h.insn) (sym e) h.begins }
 
-along_lead : (text : List Insn) (unit next : ℕ) (o : Option StateKinds) (others : List (ℕ × StateKinds)) → Leads text unit next → AllLead text unit others → AllLead text unit (along next o ++ others)
+along_lead : (text : List Insn) (unit next : ℕ) (o : Option StateKinds) (others : List (ℕ × StateKinds)) → Leads text unit next
+    → AllLead text unit others → AllLead text unit (along next o ++ others)
 along_lead text unit next None others h more = more
 along_lead text unit next (Some s) others h more = (h, more)
 
@@ -43,7 +45,8 @@ one_lead : (text : List Insn) (unit next : ℕ) (o : Option StateKinds) → Lead
 one_lead text unit next None h = tt
 one_lead text unit next (Some s) h = (h, tt)
 
-pub edges_lead : (text : List Insn) (unit : ℕ) (i : Insn) (after : StateKinds) → units text ≤ 4096 → IsLegalFlow text → insn_at text unit ≡ Some i → AllLead text unit (edges unit i after)
+pub edges_lead : (text : List Insn) (unit : ℕ) (i : Insn) (after : StateKinds) → units text ≤ 4096 → IsLegalFlow text → insn_at text unit ≡ Some i
+    → AllLead text unit (edges unit i after)
 edges_lead text unit (insns.Alu w op d x) after few legal there = (same_next text unit (unit + 1) (legal.each unit (insns.Alu w op d x) (pos (unit + 1)) there (inl refl)), tt)
 edges_lead text unit (insns.Negate w d) after few legal there = (same_next text unit (unit + 1) (legal.each unit (insns.Negate w d) (pos (unit + 1)) there (inl refl)), tt)
 edges_lead text unit (insns.Extend k d s) after few legal there = (same_next text unit (unit + 1) (legal.each unit (insns.Extend k d s) (pos (unit + 1)) there (inl refl)), tt)

@@ -52,7 +52,8 @@ module _ (order : StatesAreOrdered) (monotone : StatesAreMonotone) (bounds : Int
         full = (monotone.joins x.note y.note a b (x.covers, x.full) (y.covers, y.full)).1;
       }
 
-  fold_below : (unit : ℕ) (s : StateKinds) (xs : List StateKinds) → Below unit s → ((x : StateKinds) → Among x xs → Below unit x) → Below unit (fold join_states s xs)
+  fold_below : (unit : ℕ) (s : StateKinds) (xs : List StateKinds) → Below unit s → ((x : StateKinds) → Among x xs → Below unit x)
+      → Below unit (fold join_states s xs)
   fold_below unit s [] h all = h
   fold_below unit s (x ∷ xs) h all = fold_below unit (join_states s x) xs (join_below unit s x h (all x (inl refl))) (λ y a. all y (inr a))
 
@@ -70,7 +71,8 @@ module _ (order : StatesAreOrdered) (monotone : StatesAreMonotone) (bounds : Int
   edge_below e (f ∷ fs) full (inr h) all = edge_below e fs full h all.1
 
   -- what edges bring to a unit is below the note there, where these edges lie below others that the notes cover
-  brought_below : (unit : ℕ) (x : StateKinds) (es fs : List (ℕ × StateKinds)) → AreEdgesAbove fs es → AllCovered others fs → Among x (leading_to unit es) → Below unit x
+  brought_below : (unit : ℕ) (x : StateKinds) (es fs : List (ℕ × StateKinds)) → AreEdgesAbove fs es → AllCovered others fs
+      → Among x (leading_to unit es) → Below unit x
   brought_below unit x [] fs h all a = absurd a
   brought_below unit x (e ∷ es) fs h all a = elim (cases_Bool (e.0 == unit)) [
     | inl t ↦
@@ -81,7 +83,8 @@ module _ (order : StatesAreOrdered) (monotone : StatesAreMonotone) (bounds : Int
   ]
 
   -- what an instruction leaves of a state below a note is below the notes where it leads
-  led_below : (n unit : ℕ) (i : Insn) (s after x : StateKinds) → insn_at text n ≡ Some i → Below n s → transfer i s ≡ Ok after → Among x (leading_to unit (edges n i after)) → Below unit x
+  led_below : (n unit : ℕ) (i : Insn) (s after x : StateKinds) → insn_at text n ≡ Some i → Below n s → transfer i s ≡ Ok after
+      → Among x (leading_to unit (edges n i after)) → Below unit x
   led_below n unit i s after x there h is a =
       let fine = passes.fine.each n h.note i (insn_within text n i there) h.there there in
       let less = monotone.transfers i h.note s fine.after (is_insn text n i text_is there) (h.covers, h.full) fine.rules in
@@ -92,7 +95,8 @@ module _ (order : StatesAreOrdered) (monotone : StatesAreMonotone) (bounds : Int
   entry_below : Below 0 (entry_state bounds)
   entry_below = record { note = passes.entry.note; there = passes.entry.there; covers = passes.entry.covers; full = monotone.entry bounds lengths }
 
-  arrived_below : (notes : Notes) (unit n : ℕ) → ((v : ℕ) (s : StateKinds) → v < unit → note_at notes v ≡ Some s → Below v s) → (x : StateKinds) → Among x (arriving bounds text notes unit n) → Below unit x
+  arrived_below : (notes : Notes) (unit n : ℕ) → ((v : ℕ) (s : StateKinds) → v < unit → note_at notes v ≡ Some s → Below v s) → (x : StateKinds)
+      → Among x (arriving bounds text notes unit n) → Below unit x
   arrived_below notes unit zero below x a = elim (cases_Bool (unit == 0)) [
     | inl t ↦
         let b : Among x (entry_state bounds ∷ []) = rw t at a in
@@ -105,18 +109,21 @@ module _ (order : StatesAreOrdered) (monotone : StatesAreMonotone) (bounds : Int
         | inr r ↦ by_edge (insn_at text n) (note_at notes n) refl refl r
       ]
     where
-      by_rule : (i : Insn) (s : StateKinds) (r : Result StateKinds Rule) → insn_at text n ≡ Some i → note_at notes n ≡ Some s → transfer i s ≡ r → Among x (leading_to unit (edges_after n i r)) → Below unit x
+      by_rule : (i : Insn) (s : StateKinds) (r : Result StateKinds Rule) → insn_at text n ≡ Some i → note_at notes n ≡ Some s → transfer i s ≡ r
+          → Among x (leading_to unit (edges_after n i r)) → Below unit x
       by_rule i s (Ok after) there noted is b =
           let forward = (came text n unit x (edges n i after) (edges_lead text n i after text_is.few passes.flow there) b).forward in
           led_below n unit i s after x there (below n s forward noted) is b
       by_rule i s (Err rule) there noted is b = absurd b
 
-      by_edge : (o : Option Insn) (note : Option StateKinds) → insn_at text n ≡ o → note_at notes n ≡ note → Among x (leading_to unit (edges_from n o note)) → Below unit x
+      by_edge : (o : Option Insn) (note : Option StateKinds) → insn_at text n ≡ o → note_at notes n ≡ note
+          → Among x (leading_to unit (edges_from n o note)) → Below unit x
       by_edge None _ there noted b = absurd b
       by_edge (Some i) None there noted b = absurd b
       by_edge (Some i) (Some s) there noted b = by_rule i s (transfer i s) there noted refl b
 
-  states_below : (notes : Notes) (end fuel : ℕ) → AreStates bounds text notes end → (unit : ℕ) (s : StateKinds) → unit < fuel → note_at notes unit ≡ Some s → Below unit s
+  states_below : (notes : Notes) (end fuel : ℕ) → AreStates bounds text notes end → (unit : ℕ) (s : StateKinds) → unit < fuel
+      → note_at notes unit ≡ Some s → Below unit s
   states_below notes end zero are unit s l noted = absurd (omega (arith, l))
   states_below notes end (suc fuel) are unit s l noted =
       let within : unit < units text = omega (arith, note_within notes unit s noted, are.count) in
@@ -124,7 +131,8 @@ module _ (order : StatesAreOrdered) (monotone : StatesAreMonotone) (bounds : Int
       (arrived_below notes unit end (λ v t k e. states_below notes end fuel are v t (omega (arith, k, l)) e))
 
   -- each of the states is covered by the note there of any notes that pass
-  state_below : (notes : Notes) (unit : ℕ) (state : StateKinds) → AreStates bounds text notes (units text) → note_at notes unit ≡ Some state → NoteCovers others (unit, state)
+  state_below : (notes : Notes) (unit : ℕ) (state : StateKinds) → AreStates bounds text notes (units text) → note_at notes unit ≡ Some state
+      → NoteCovers others (unit, state)
   state_below notes unit state are noted =
       let b = states_below notes (units text) (suc unit) are unit state (omega arith) noted in
       record { note = b.note; there = b.there; covers = b.covers }
@@ -146,8 +154,10 @@ module _ (order : StatesAreOrdered) (monotone : StatesAreMonotone) (bounds : Int
   none_refused Entry h other = h
   none_refused (NotCovered unit) h other = h
 
-pub are_least : StatesAreOrdered → StatesAreMonotone → (bounds : Interval) (text : List Insn) (notes : Notes) → AreLengths bounds → IsText text → AreStates bounds text notes (units text) → AreLeast bounds text notes
+pub are_least : StatesAreOrdered → StatesAreMonotone → (bounds : Interval) (text : List Insn) (notes : Notes) → AreLengths bounds → IsText text
+    → AreStates bounds text notes (units text) → AreLeast bounds text notes
 are_least order monotone bounds text notes lengths text_is are = record { each = λ others unit state passes noted. state_below order monotone bounds lengths text others text_is passes notes unit state are noted }
 
-pub none_pass : StatesAreOrdered → StatesAreMonotone → (bounds : Interval) (text : List Insn) (fault : CheckFault) → AreLengths bounds → IsText text → IsRefused bounds text fault → fault ≢ OutOfMemory → NonePass bounds text
+pub none_pass : StatesAreOrdered → StatesAreMonotone → (bounds : Interval) (text : List Insn) (fault : CheckFault) → AreLengths bounds → IsText text
+    → IsRefused bounds text fault → fault ≢ OutOfMemory → NonePass bounds text
 none_pass order monotone bounds text fault lengths text_is refused other = λ notes passes. none_refused order monotone bounds lengths text notes text_is passes fault refused other

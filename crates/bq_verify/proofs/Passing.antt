@@ -32,7 +32,8 @@ brought unit edge (f ∷ es) e (inr a) =
     among_right edge.1 (if f.0 == unit then f.1 ∷ [] else []) (leading_to unit es) (brought unit edge es e a)
 
 -- what came to a unit came by an edge
-pub came : (text : List Insn) (from unit : ℕ) (x : StateKinds) (es : List (ℕ × StateKinds)) → AllLead text from es → Among x (leading_to unit es) → Leads text from unit
+pub came : (text : List Insn) (from unit : ℕ) (x : StateKinds) (es : List (ℕ × StateKinds)) → AllLead text from es → Among x (leading_to unit es)
+    → Leads text from unit
 came text from unit x [] l a = absurd a
 came text from unit x (f ∷ es) l a =
     elim (cases_Bool (f.0 == unit)) [
@@ -40,7 +41,8 @@ came text from unit x (f ∷ es) l a =
       | inr n ↦ came text from unit x es l.1 (rw n at a)
     ]
 
-pub arrives : (bounds : Interval) (text : List Insn) (notes : List (Option StateKinds)) (unit from n : ℕ) (x : StateKinds) → from < n → Among x (leading_to unit (edges_from from (insn_at text from) (note_at notes from))) → Among x (arriving bounds text notes unit n)
+pub arrives : (bounds : Interval) (text : List Insn) (notes : List (Option StateKinds)) (unit from n : ℕ) (x : StateKinds) → from < n
+    → Among x (leading_to unit (edges_from from (insn_at text from) (note_at notes from))) → Among x (arriving bounds text notes unit n)
 arrives bounds text notes unit from zero x l a = absurd (omega (arith, l))
 arrives bounds text notes unit from (suc n) x l a =
     let left : List StateKinds = leading_to unit (edges_from n (insn_at text n) (note_at notes n)) in
@@ -60,7 +62,8 @@ entry_arrives bounds text notes zero = inl refl
 entry_arrives bounds text notes (suc n) = among_left (entry_state bounds) (arriving bounds text notes 0 n) (leading_to 0 (edges_from n (insn_at text n) (note_at notes n))) (entry_arrives bounds text notes n)
 
 -- at a unit where something arrives an instruction begins
-begins : (bounds : Interval) (text : List Insn) (notes : List (Option StateKinds)) (unit n : ℕ) (x : StateKinds) → IsText text → IsLegalFlow text → Among x (arriving bounds text notes unit n) → (i : Insn) × (insn_at text unit ≡ Some i)
+begins : (bounds : Interval) (text : List Insn) (notes : List (Option StateKinds)) (unit n : ℕ) (x : StateKinds) → IsText text → IsLegalFlow text
+    → Among x (arriving bounds text notes unit n) → (i : Insn) × (insn_at text unit ≡ Some i)
 begins bounds text notes unit zero x text_is legal a = elim (cases_Bool (unit == 0)) [
   | inl t ↦ subst (λ u. (i : Insn) × (insn_at text u ≡ Some i)) (sym (eqb-true unit 0 t)) (first_begins text (omega (arith, text_is.some)))
   | inr f ↦ absurd (rw f at a)
@@ -95,12 +98,14 @@ module _ (order : StatesAreOrdered) where
   joined_covers (y ∷ xs) x (inl e) = (fold join_states y xs, refl, subst (StateCovers (fold join_states y xs)) (sym e) (fold_covers_first order y xs))
   joined_covers (y ∷ xs) x (inr a) = (fold join_states y xs, refl, fold_covers order y xs x a)
 
-  noted : (bounds : Interval) (text : List Insn) (notes : List (Option StateKinds)) (edge : ℕ × StateKinds) → AreStates bounds text notes (units text) → edge.0 < units text → Among edge.1 (arriving bounds text notes edge.0 (units text)) → NoteCovers notes edge
+  noted : (bounds : Interval) (text : List Insn) (notes : List (Option StateKinds)) (edge : ℕ × StateKinds) → AreStates bounds text notes (units text)
+      → edge.0 < units text → Among edge.1 (arriving bounds text notes edge.0 (units text)) → NoteCovers notes edge
   noted bounds text notes edge a within arrived =
       let j = joined_covers (arriving bounds text notes edge.0 (units text)) edge.1 arrived in
       record { note = j.0; there = a.each edge.0 within ∙ j.1; covers = j.2 }
 
-  all_of : (notes : List (Option StateKinds)) (es : List (ℕ × StateKinds)) → ((edge : ℕ × StateKinds) → Among edge es → NoteCovers notes edge) → AllCovered notes es
+  all_of : (notes : List (Option StateKinds)) (es : List (ℕ × StateKinds)) → ((edge : ℕ × StateKinds) → Among edge es → NoteCovers notes edge)
+      → AllCovered notes es
   all_of notes [] h = tt
   all_of notes (edge ∷ es) h = (h edge (inl refl), all_of notes es (λ f a. h f (inr a)))
 
@@ -123,7 +128,8 @@ module _ (order : StatesAreOrdered) where
           subst (λ es. Among edge.1 (leading_to edge.0 es)) (sym are) (brought edge.0 edge (edges unit i after) refl among) in
           noted bounds text notes edge a (insn_within text edge.0 leads.insn leads.begins) (arrives bounds text notes edge.0 unit (units text) edge.1 within to)
 
-  pub states_pass : (bounds : Interval) (text : List Insn) (notes : List (Option StateKinds)) → AllFitLengths bounds notes → IsText text → IsLegalFlow text → AreStates bounds text notes (units text) → NoRuleBroken text notes (units text) → Passes bounds text notes
+  pub states_pass : (bounds : Interval) (text : List Insn) (notes : List (Option StateKinds)) → AllFitLengths bounds notes → IsText text
+      → IsLegalFlow text → AreStates bounds text notes (units text) → NoRuleBroken text notes (units text) → Passes bounds text notes
   states_pass bounds text notes fits text_is legal a unbroken = record {
     count = a.count;
     flow = legal;

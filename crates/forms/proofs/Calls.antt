@@ -42,7 +42,8 @@ tested_pass [] r h = refl
 tested_pass (t ∷ ts) r h = ap (λ (b : Bool). cond b (tested ts r) (Err t.1)) h.0 ∙ tested_pass ts r h.1
 
 -- tests that were passed are passed whatever follows
-pub passes : {A B E : Type 0} (ts : Tests E) (value x : A) (rest : Result B E) → (let r : Result A E = Ok x in r) ≡ tested ts (Ok value) → (x ≡ value) × AllHold ts × (tested ts rest ≡ rest)
+pub passes : {A B E : Type 0} (ts : Tests E) (value x : A) (rest : Result B E) → (let r : Result A E = Ok x in r) ≡ tested ts (Ok value)
+    → (x ≡ value) × AllHold ts × (tested ts rest ≡ rest)
 passes ts value x rest h =
     let ok = tested_ok ts (Ok value) x (sym h) in
     (same_answer x value (sym ok.1), ok.0, tested_pass ts rest ok.0)
@@ -50,7 +51,8 @@ passes ts value x rest h =
 -- ---- parts
 
 -- an accepted call's part was accepted, and so was the rest
-pub and_then_ok : {S A B E : Type 0} (r : Result (A × S) E) (rest : A → S → Result B E) (y : B) → and_then r rest ≡ Ok y → (a : A × S) × (r ≡ Ok a) × (rest a.0 a.1 ≡ Ok y)
+pub and_then_ok : {S A B E : Type 0} (r : Result (A × S) E) (rest : A → S → Result B E) (y : B) → and_then r rest ≡ Ok y
+    → (a : A × S) × (r ≡ Ok a) × (rest a.0 a.1 ≡ Ok y)
 and_then_ok (Ok a) rest y h = (a, refl, h)
 and_then_ok (Err e) rest y h = absurd (no_refusal e y h)
 

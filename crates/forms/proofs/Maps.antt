@@ -57,7 +57,8 @@ module _ {X : Type 0} where
   get_found es q = fin.get-from_entries nat_cmp_total es q ∙ find_found es q
 
   -- entries that differ at one key make maps that differ there
-  pub one_written : (es fs : List (ℕ × X)) (k : ℕ) (v : X) → ((q : ℕ) → found fs q ≡ cond (is_at (nat_cmp k) q) (Some v) (found es q)) → fin.from_entries {R = nat_cmp} fs ≡ fin.insert (fin.from_entries es) k v
+  pub one_written : (es fs : List (ℕ × X)) (k : ℕ) (v : X) → ((q : ℕ) → found fs q ≡ cond (is_at (nat_cmp k) q) (Some v) (found es q))
+      → fin.from_entries {R = nat_cmp} fs ≡ fin.insert (fin.from_entries es) k v
   one_written es fs k v h = fin.same_map nat_cmp_total fin.nat_cmp-IsAntisymmetric _ _ (λ q.
       get_found fs q ∙ h q ∙ ap (λ b. cond b (Some v) (found es q)) ((eq_by_cmp_equiv nat_cmp_total).symm k q)
       ∙ sym (fin.get-insert nat_cmp_total (fin.from_entries es) k v q ∙ ap (cond (is_at (nat_cmp q) k) (Some v)) (get_found es q)))

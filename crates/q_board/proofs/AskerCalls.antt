@@ -170,7 +170,8 @@ module _ (z : TableId) (me : Sat) (n k : ℕ) (free : List ℕ) (count cap : ℕ
         row_now : b₀.row ≡ set a₀.row k None
         row_now = ap (λ (x : ℕ). set a₀.row x None) spot_is
 
-        pub take_keeps : (z' : TableId) → z' ≡ z → (count' : ℕ) → count' ≡ count + 1 → (cap' : ℕ) → cap' ≡ cap → (now_free : List ℕ) (place : ℕ) → now_free ≡ place ∷ free → place ≡ k → IsAsker z' u n now_free count' cap'
+        pub take_keeps : (z' : TableId) → z' ≡ z → (count' : ℕ) → count' ≡ count + 1 → (cap' : ℕ) → cap' ≡ cap → (now_free : List ℕ) (place : ℕ)
+            → now_free ≡ place ∷ free → place ≡ k → IsAsker z' u n now_free count' cap'
         take_keeps z' same count' more cap' as_large now_free place free_are place_is =
             subst (λ (l : List ℕ). IsAsker z' u n l count' cap') (sym (free_are ∙ ap (λ (x : ℕ). x ∷ free) place_is))
             (asker_keeps z me n free count cap inv z' u b₀ (k ∷ free) count' cap' same took refl refl
@@ -180,7 +181,8 @@ module _ (z : TableId) (me : Sat) (n k : ℕ) (free : List ℕ) (count cap : ℕ
             as_large)
 
         -- me is the seat after the look, and first the seat before it
-        pub take_told : (done : Finished) → c ≡ cell.Finished done → (z' : TableId) → z' ≡ z → (first : Holder) (found : ℕ) → found ≡ 2 → a₀ ≡ looking (asking first) i found → (old : AskerModel) → old ≡ asker_model z first → Receives old i done (asker_model z' u.0)
+        pub take_told : (done : Finished) → c ≡ cell.Finished done → (z' : TableId) → z' ≡ z → (first : Holder) (found : ℕ) → found ≡ 2
+            → a₀ ≡ looking (asking first) i found → (old : AskerModel) → old ≡ asker_model z first → Receives old i done (asker_model z' u.0)
         take_told done c_is z' same first found found_is look_is old old_is =
             let done_is : d ≡ done = let e = sym take_cell ∙ c_is in cc in
             let P : AskerModel → Type 0 = λ y. Receives y i done (asker_model z' u.0) in

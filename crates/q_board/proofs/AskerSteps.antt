@@ -192,7 +192,8 @@ module _ (lanes id : ℕ) (a : Asking) (k : ℕ) (near : k < 8) where
         (d, word, ap (get_elem? a.row) spot_back ∙ open_job, refl),
       )
 
-  pub takes_home : (mine : List (ℕ × Content)) → a.opened ≡ k → Allows (Orderly lanes) lanes id (Asker a, mine) spot (λ n. n) (took_home (step lanes spot 0 0 none) (Asker a, mine))
+  pub takes_home : (mine : List (ℕ × Content)) → a.opened ≡ k
+      → Allows (Orderly lanes) lanes id (Asker a, mine) spot (λ n. n) (took_home (step lanes spot 0 0 none) (Asker a, mine))
   takes_home mine next s o wide me small =
       let f = o.fits id (Asker a) me in let f₀ = f.0 in
       let t = there o.phases spot (omega arith) in let p = t.0 in

@@ -17,5 +17,6 @@ runners_board z lanes askers (suc n) =
 pub all_askers : (z : TableId) (n : ℕ) (seats : List AskerModel) → seats ≡ opened_askers z n → All (λ (a : AskerModel). a.table ≡ z) seats
 all_askers z n seats e = subst (λ (l : List AskerModel). All (λ (a : AskerModel). a.table ≡ z) l) (sym e) (askers_board z n)
 
-pub all_runners : (z : TableId) (lanes askers n : ℕ) (seats : List RunnerModel) → seats ≡ opened_runners z lanes askers n → All (λ (r : RunnerModel). r.table ≡ z) seats
+pub all_runners : (z : TableId) (lanes askers n : ℕ) (seats : List RunnerModel) → seats ≡ opened_runners z lanes askers n
+    → All (λ (r : RunnerModel). r.table ≡ z) seats
 all_runners z lanes askers n seats e = subst (λ (l : List RunnerModel). All (λ (r : RunnerModel). r.table ≡ z) l) (sym e) (runners_board z lanes askers n)

@@ -39,7 +39,8 @@ map-replicate : {A B : Type 0} (f : A → B) (n : ℕ) (a : A) → map f (replic
 map-replicate f zero a = refl
 map-replicate {B = B} f (suc n) a = ap (λ (l : List B). f a ∷ l) (map-replicate f n a)
 
-pub opens : (lanes : ℕ) (words : List ℕ) (cells : List Content) → words ≡ replicate lanes 0 → cells ≡ replicate lanes cell.Vacant → Orderly lanes (opening words cells (maker lanes 0))
+pub opens : (lanes : ℕ) (words : List ℕ) (cells : List Content) → words ≡ replicate lanes 0 → cells ≡ replicate lanes cell.Vacant
+    → Orderly lanes (opening words cells (maker lanes 0))
 opens lanes words cells ws cs =
     let F : List Phase = replicate lanes fresh in
     let only = λ (i : ℕ) (v : Holder) (e : get_elem? (maker lanes 0 ∷ []) i ≡ some v). let T : Type 0 = (i ≡ 0) × (maker lanes 0 ≡ v) in
@@ -95,7 +96,8 @@ module _ (lanes made id : ℕ) (right : Holder) (place_is : place right ≡ made
         source = λ i d e. let x = o.source i d e in (x.0, x.1, keep x.0 x.1 x.2, x.3);
       }
 
-pub splits_asker : (lanes made id : ℕ) → 8 * made + 8 ≤ lanes → Splits (Orderly lanes) id (maker lanes made) (next_maker (maker lanes made)) (first_asker (maker lanes made))
+pub splits_asker : (lanes made id : ℕ) → 8 * made + 8 ≤ lanes
+    → Splits (Orderly lanes) id (maker lanes made) (next_maker (maker lanes made)) (first_asker (maker lanes made))
 splits_asker lanes made id room = parts lanes made id (Asker (new_asking made)) refl
     (λ s o seats none_yet. let count = o.count in (
       omega arith,
@@ -110,7 +112,8 @@ splits_asker lanes made id room = parts lanes made id (Asker (new_asking made)) 
     ))
 
 -- no slot is claimed by a runner that there is not
-unheld : (lanes made : ℕ) (s : State Content Holder) (o : Orderly lanes s) → length s.views ≡ made + 1 → (i : ℕ) (p : Phase) → get_elem? o.phases i ≡ some p → held_by (made + 1) p ≡ None
+unheld : (lanes made : ℕ) (s : State Content Holder) (o : Orderly lanes s) → length s.views ≡ made + 1 → (i : ℕ) (p : Phase)
+    → get_elem? o.phases i ≡ some p → held_by (made + 1) p ≡ None
 unheld lanes made s o seats i fresh e = refl
 unheld lanes made s o seats i empty e = refl
 unheld lanes made s o seats i (ready j) e = refl

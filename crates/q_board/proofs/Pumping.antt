@@ -33,13 +33,15 @@ module _ (a a₁ a₂ : AskerModel) (b b₁ b₂ : BookState) (places n m : ℕ)
     same = (o.same.0 ∙ r.same.0, o.same.1 ∙ r.same.1);
   }
 
-all_slots : (a : AskerModel) (looks : List Look) → length a.row ≡ 8 → slots_of looks ≡ open_slots (8 * a.number) (take 8 a.row) → slots_of looks ≡ open_slots (8 * a.number) a.row
+all_slots : (a : AskerModel) (looks : List Look) → length a.row ≡ 8 → slots_of looks ≡ open_slots (8 * a.number) (take 8 a.row)
+    → slots_of looks ≡ open_slots (8 * a.number) a.row
 all_slots a looks eight s = s ∙ ap (open_slots (8 * a.number)) (take_all 8 a.row (omega arith))
 
 pub pumps : (a a₁ a₂ : AskerModel) (b b₁ b₂ : BookState) (n : ℕ) → length a.row ≡ 8 → Receiving a b 8 n a₁ b₁ → OfferedAll a₁ b₁ a₂ b₂ → Pumped a b n a₂ b₂
 pumps a a₁ a₂ b b₁ b₂ n eight r o = record { carries = carries_both a a₁ a₂ b b₁ b₂ 8 n o.count r o.offering; each = all_slots a r.looks eight r.slots; count = r.count; ends = o.ends }
 
-pub stops_offering : (a a₁ a₂ : AskerModel) (b b₁ b₂ : BookState) (n : ℕ) (e : Reason) → length a.row ≡ 8 → Receiving a b 8 n a₁ b₁ → StopsOffering a₁ b₁ e a₂ b₂ → Stopped a b e a₂ b₂
+pub stops_offering : (a a₁ a₂ : AskerModel) (b b₁ b₂ : BookState) (n : ℕ) (e : Reason) → length a.row ≡ 8 → Receiving a b 8 n a₁ b₁
+    → StopsOffering a₁ b₁ e a₂ b₂ → Stopped a b e a₂ b₂
 stops_offering a a₁ a₂ b b₁ b₂ n e eight r o = record { carries = carries_both a a₁ a₂ b b₁ b₂ 8 n o.count r o.offering; why = inr (all_slots a r.looks eight r.slots, o.refused) }
 
 pub stops_receiving : (a a₁ : AskerModel) (b b₁ : BookState) (e : Reason) → NoRoomPast a b e a₁ b₁ → Stopped a b e a₁ b₁

@@ -106,10 +106,12 @@ module _ (s : Inside) (left : List ℕ) (slot : ℕ) (j : Job)
 
   -- after the store the seat has the claims that are left
   module _ (w u : Sat) (y : TableId) (same : y ≡ z) where
-    finish_leaves : (d : Finished) → w ≡ (me.0, (slot, cell.Finished d) ∷ bare 0 left) → u ≡ (Runner (finishing (running w.0) slot (front w.1)), rest w.1) → u ≡ (Runner (finishing r slot (cell.Finished d)), bare 0 left)
+    finish_leaves : (d : Finished) → w ≡ (me.0, (slot, cell.Finished d) ∷ bare 0 left)
+        → u ≡ (Runner (finishing (running w.0) slot (front w.1)), rest w.1) → u ≡ (Runner (finishing r slot (cell.Finished d)), bare 0 left)
     finish_leaves d is told = told ∙ ap (λ (x : Sat). (Runner (finishing (running x.0) slot (front x.1)), rest x.1)) is
 
-    give_leaves : w ≡ (me.0, (slot, cell.Offered j) ∷ bare 0 left) → u ≡ (Runner (returning (running w.0) slot), rest w.1) → u ≡ (Runner (returning r slot), bare 0 left)
+    give_leaves : w ≡ (me.0, (slot, cell.Offered j) ∷ bare 0 left) → u ≡ (Runner (returning (running w.0) slot), rest w.1)
+        → u ≡ (Runner (returning r slot), bare 0 left)
     give_leaves is told = told ∙ ap (λ (x : Sat). (Runner (returning (running x.0) slot), rest x.1)) is
 
     pub finish_told : (d : Finished) (ran : Ran) → d.job ≡ j → d.ran ≡ ran → w ≡ (me.0, (slot, cell.Finished d) ∷ bare 0 left) → u ≡ (Runner (finishing (running w.0) slot (front w.1)), rest w.1)
@@ -119,12 +121,14 @@ module _ (s : Inside) (left : List ℕ) (slot : ℕ) (j : Job)
         (ap (λ (x : TableId). runner_model x u.0 lanes next) same ∙ ap (λ (x : Sat). runner_model z x.0 lanes next) (finish_leaves d is told)
         ∙ ap (λ (x : Finished). runner_model z (Runner (finishing r slot (cell.Finished x))) lanes next) done_is)
 
-    pub give_told : w ≡ (me.0, (slot, cell.Offered j) ∷ bare 0 left) → u ≡ (Runner (returning (running w.0) slot), rest w.1) → GivesBack old slot (runner_model y u.0 lanes next)
+    pub give_told : w ≡ (me.0, (slot, cell.Offered j) ∷ bare 0 left) → u ≡ (Runner (returning (running w.0) slot), rest w.1)
+        → GivesBack old slot (runner_model y u.0 lanes next)
     give_told is told = subst (λ (x : RunnerModel). GivesBack x slot (runner_model y u.0 lanes next)) (sym old_is)
         (ap (λ (x : TableId). runner_model x u.0 lanes next) same ∙ ap (λ (x : Sat). runner_model z x.0 lanes next) (give_leaves is told))
 
     module _ (fewer_times : (k : ℕ) → times k claims ≡ times k (slot ∷ left)) (count' : ℕ) (fewer : count' + 1 ≡ count) (cap' : ℕ) (as_large : cap' ≡ cap) where
-      let_go : (r' : Running) → r'.number ≡ r.number → r'.held ≡ set r.held slot None → u ≡ (Runner r', bare 0 left) → IsRunner y u n left count' cap' lanes next
+      let_go : (r' : Running) → r'.number ≡ r.number → r'.held ≡ set r.held slot None → u ≡ (Runner r', bare 0 left)
+          → IsRunner y u n left count' cap' lanes next
       let_go r' number_is held_is u_is =
           runner_keeps z me n claims count cap lanes next inv y u r' left count' cap' same u_is number_is
           (ap length held_is ∙ length-set r.held slot None)
@@ -132,10 +136,12 @@ module _ (s : Inside) (left : List ℕ) (slot : ℕ) (j : Job)
           (λ k. omega (arith, ap (λ (l : List (Option Job)). has l k) held_is, has_set_none r.held slot k j mine, inv.4 k, fewer_times k))
           as_large
 
-      pub finish_keeps : (d : Finished) → w ≡ (me.0, (slot, cell.Finished d) ∷ bare 0 left) → u ≡ (Runner (finishing (running w.0) slot (front w.1)), rest w.1) → IsRunner y u n left count' cap' lanes next
+      pub finish_keeps : (d : Finished) → w ≡ (me.0, (slot, cell.Finished d) ∷ bare 0 left)
+          → u ≡ (Runner (finishing (running w.0) slot (front w.1)), rest w.1) → IsRunner y u n left count' cap' lanes next
       finish_keeps d is told = let_go (finishing r slot (cell.Finished d)) refl refl (finish_leaves d is told)
 
-      pub give_keeps : w ≡ (me.0, (slot, cell.Offered j) ∷ bare 0 left) → u ≡ (Runner (returning (running w.0) slot), rest w.1) → IsRunner y u n left count' cap' lanes next
+      pub give_keeps : w ≡ (me.0, (slot, cell.Offered j) ∷ bare 0 left) → u ≡ (Runner (returning (running w.0) slot), rest w.1)
+          → IsRunner y u n left count' cap' lanes next
       give_keeps is told = let_go (returning r slot) refl refl (give_leaves is told)
 
 -- One try at a slot
@@ -183,7 +189,8 @@ module _ (z : TableId) (me : Sat) (n : ℕ) (claims : List ℕ) (count cap lanes
           ∙ ap (λ (l : List (ℕ × Content)). (Runner (claiming r₀ i got.0), (i, cell.Vacant) ∷ l)) (ap (λ (y : Sat). y.1) inv.0)
           ∙ ap (λ (k : ℕ). (Runner (claiming r₀ i got.0), (k, cell.Vacant) ∷ bare 0 claims)) (sym (zero-add i))
 
-      pub hit_keeps : (z' : TableId) → z' ≡ z → (count' : ℕ) → count' ≡ count + 1 → (cap' : ℕ) → cap' ≡ cap → (now_claims : List ℕ) → now_claims ≡ i ∷ claims → IsRunner z' u n now_claims count' cap' lanes next
+      pub hit_keeps : (z' : TableId) → z' ≡ z → (count' : ℕ) → count' ≡ count + 1 → (cap' : ℕ) → cap' ≡ cap → (now_claims : List ℕ)
+          → now_claims ≡ i ∷ claims → IsRunner z' u n now_claims count' cap' lanes next
       hit_keeps z' same count' more cap' as_large now_claims claims_are =
           subst (λ (l : List ℕ). IsRunner z' u n l count' cap' lanes next) (sym claims_are)
           (runner_keeps z me n claims count cap lanes next inv z' u (claiming r₀ i got.0) (i ∷ claims) count' cap' same hit_seat refl
@@ -192,7 +199,8 @@ module _ (z : TableId) (me : Sat) (n : ℕ) (claims : List ℕ) (count cap lanes
           (λ k. omega (arith, inv.4 k, has_set_some r₀.held i k got.0 got.1))
           as_large)
 
-      pub hit_told : (j : Job) → c ≡ cell.Offered j → (z' : TableId) → z' ≡ z → (old : RunnerModel) → old ≡ runner_model z me.0 lanes next → Claims old i j (runner_model z' u.0 lanes next)
+      pub hit_told : (j : Job) → c ≡ cell.Offered j → (z' : TableId) → z' ≡ z → (old : RunnerModel) → old ≡ runner_model z me.0 lanes next
+          → Claims old i j (runner_model z' u.0 lanes next)
       hit_told j c_is z' same old old_is = let j_is : got.0 ≡ j = let e = sym hit_cell ∙ c_is in cc in
           subst (λ (y : RunnerModel). Claims y i j (runner_model z' u.0 lanes next)) (sym old_is)
           (got.1, ap (λ (y : TableId). runner_model y u.0 lanes next) same ∙ ap (λ (y : Sat). runner_model z y.0 lanes next) hit_seat ∙ ap (λ (y : Job). runner_model z (Runner (claiming r₀ i y)) lanes next) j_is)

@@ -25,7 +25,8 @@ total_none f [] none = refl
 total_none f (x ∷ xs) none = let n = none 0 x refl in let m = total_none f xs (λ k y e. none (suc k) y e) in omega arith
 
 -- all but one are 0
-total_one : {A : Type 0} (f : A → ℕ) (xs : List A) (i : ℕ) (a : A) → get_elem? xs i ≡ some a → ((k : ℕ) (x : A) → k ≢ i → get_elem? xs k ≡ some x → f x ≡ 0) → total f xs ≡ f a
+total_one : {A : Type 0} (f : A → ℕ) (xs : List A) (i : ℕ) (a : A) → get_elem? xs i ≡ some a
+    → ((k : ℕ) (x : A) → k ≢ i → get_elem? xs k ≡ some x → f x ≡ 0) → total f xs ≡ f a
 total_one f [] i a e none = absurd (some-ne-none a (sym e))
 total_one f (x ∷ xs) zero a e none =
     let n = total_none f xs (λ k y at. none (suc k) y (λ h. omega (arith, h)) at) in
@@ -39,7 +40,8 @@ over_both : (f g : ℕ → ℕ) (i n : ℕ) → over (λ k. f k + g k) i n ≡ o
 over_both f g i zero = refl
 over_both f g i (suc n) = let m = over_both f g (i + 1) n in omega arith
 
-over_row : (h : Job → ℕ) (row : List (Option Job)) (i : ℕ) (g : ℕ → ℕ) → ((k : ℕ) (x : Option Job) → get_elem? row k ≡ some x → weight h x ≡ g (i + k)) → total (weight h) row ≡ over g i (length row)
+over_row : (h : Job → ℕ) (row : List (Option Job)) (i : ℕ) (g : ℕ → ℕ)
+    → ((k : ℕ) (x : Option Job) → get_elem? row k ≡ some x → weight h x ≡ g (i + k)) → total (weight h) row ≡ over g i (length row)
 over_row h [] i g is = refl
 over_row h (x ∷ row) i g is =
     let n = is 0 x refl in
@@ -50,7 +52,8 @@ over_row h (x ∷ row) i g is =
 -- ---- one slot
 
 module _ (lanes : ℕ) (s : State Content Holder) (o : Orderly lanes s) (h : Job → ℕ) where
-  claim_is : (i id : ℕ) (p : Phase) (r : Running) → get_elem? o.phases i ≡ some p → get_elem? s.views id ≡ some (Runner r) → claimed_by h i (Runner r) ≡ weight h (held_by r.number p)
+  claim_is : (i id : ℕ) (p : Phase) (r : Running) → get_elem? o.phases i ≡ some p → get_elem? s.views id ≡ some (Runner r)
+      → claimed_by h i (Runner r) ≡ weight h (held_by r.number p)
   claim_is i id p r e at = ap (claim_weight h) (o.fits id (Runner r) at i p e)
 
   -- where no runner's number is claimed, no claim is held

@@ -45,7 +45,8 @@ open_none i zero (Some j ∷ row) e = let x : ◌≡◌ {A = Option Job} (Some j
 open_none i (suc k) (None ∷ row) e = open_none (i + 1) k row e
 open_none i (suc k) (Some j ∷ row) e = ap (λ (l : List ℕ). i ∷ l) (open_none (i + 1) k row e)
 
-open_some : (i k n : ℕ) (row : List (Option Job)) (j : Job) → n ≡ i + k → is_at row k (Some j) → open_slots i (take (suc k) row) ≡ open_slots i (take k row) ++ n ∷ []
+open_some : (i k n : ℕ) (row : List (Option Job)) (j : Job) → n ≡ i + k → is_at row k (Some j)
+    → open_slots i (take (suc k) row) ≡ open_slots i (take k row) ++ n ∷ []
 open_some i k n [] j is e = absurd (some-ne-none (Some j) (sym e))
 open_some i zero n (None ∷ row) j is e = let x : ◌≡◌ {A = Option Job} None (Some j) = some-injective None (Some j) e in absurd (cc)
 open_some i zero n (Some h ∷ row) j is e = let same : i ≡ n = omega arith in ap (λ (x : ℕ). x ∷ []) same
@@ -131,7 +132,8 @@ module _ (a a₁ a₂ : AskerModel) (b b₁ b₂ : BookState) (k n : ℕ) (is : 
   at_place : (x : Option Job) → is_at a₁.row k x → is_at a.row k x
   at_place x e = sym (r.behind k (omega arith)) ∙ e
 
-  slot_more : (j : Job) → is_at a₁.row k (Some j) → open_slots (8 * a.number) (take (suc k) a.row) ≡ open_slots (8 * a.number) (take k a.row) ++ (8 * a₁.number + k) ∷ []
+  slot_more : (j : Job) → is_at a₁.row k (Some j)
+      → open_slots (8 * a.number) (take (suc k) a.row) ≡ open_slots (8 * a.number) (take k a.row) ++ (8 * a₁.number + k) ∷ []
   slot_more j e = open_some (8 * a.number) k (8 * a₁.number + k) a.row j (omega (arith, r.same.1)) (at_place (Some j) e)
 
   noted_one : (d : Finished) (was : Bool) → PostsAreNoted → PostsOne was b₁ d b₂ → b₂.desk.journal ≡ b₁.desk.journal ++ map post_of (kept was d)
@@ -159,7 +161,8 @@ module _ (a a₁ a₂ : AskerModel) (b b₁ b₂ : BookState) (k n : ℕ) (is : 
 abbrev pub begins_offering : (a : AskerModel) (b : BookState) → Offering a b 0 a b
 begins_offering a b = record { handed = []; offered = sym (append-nil a.offered); looked = refl; received = refl; hands = refl; journal = sym (append-nil b.desk.journal); balance = omega arith; count = refl; same = (refl, refl) }
 
-pub offers_one : (a a₁ a₂ : AskerModel) (b b₁ b₂ : BookState) (n : ℕ) → Offering a b n a₁ b₁ → HandOutsAreNoted → OffersNext a₁ b₁ true a₂ b₂ → Offering a b (suc n) a₂ b₂
+pub offers_one : (a a₁ a₂ : AskerModel) (b b₁ b₂ : BookState) (n : ℕ) → Offering a b n a₁ b₁ → HandOutsAreNoted → OffersNext a₁ b₁ true a₂ b₂
+    → Offering a b (suc n) a₂ b₂
 offers_one a a₁ a₂ b b₁ b₂ n r noted o = let j = o.0 in let now = o.3.1 in record {
   handed = r.handed ++ j ∷ [];
   offered = grown a.offered r.handed (j ∷ []) r.offered (ap (λ (x : AskerModel). x.offered) now);
@@ -176,5 +179,6 @@ offers_one a a₁ a₂ b b₁ b₂ n r noted o = let j = o.0 in let now = o.3.1 
 
 -- ---- one place
 
-pub polls_received : (a a' : AskerModel) (b b' : BookState) (k i : ℕ) (is : Bool) (d : Finished) → i ≡ 8 * a.number + k → Receives a i d a' → jobs a'.row + 1 ≡ jobs a.row → PostsOne is b d b' → Polls a b k is a' b'
+pub polls_received : (a a' : AskerModel) (b b' : BookState) (k i : ℕ) (is : Bool) (d : Finished) → i ≡ 8 * a.number + k → Receives a i d a'
+    → jobs a'.row + 1 ≡ jobs a.row → PostsOne is b d b' → Polls a b k is a' b'
 polls_received a a' b b' k i is d at t fewer q = inr (inr (d, subst (λ (x : ℕ). Receives a x d a') at t, fewer, q))

@@ -34,7 +34,8 @@ use Rattle.q_book.proofs.Parts.{noted_is}
 use Rattle.q_book.proofs.Replays.{with, book_next}
 
 -- where a book passed its tests, they hold of it by its fields
-pub holds_inside : {A : Type 0} (tests : BookState → Tests Reason) (b seen : BookState) (value x : A) → b ≡ seen → (let t : Result A Reason = Ok x in t) ≡ tested (tests seen) (Ok value) → AllHold (tests b)
+pub holds_inside : {A : Type 0} (tests : BookState → Tests Reason) (b seen : BookState) (value x : A) → b ≡ seen
+    → (let t : Result A Reason = Ok x in t) ≡ tested (tests seen) (Ok value) → AllHold (tests b)
 holds_inside tests b seen value x same h =
     let rest : Result (Unit {0}) Reason = Ok tt in
     subst (λ (s : BookState). AllHold (tests s)) (sym same) (passes (tests seen) value x rest h).1
@@ -52,7 +53,8 @@ registered_book b program id d hold h r =
     book_next b (with b b.node d) (entry.Call (call.Register program)) r
     (reply.Registered id, ap (mapped reply.Registered) (tested_pass (present b) (by_desk (with_desk b) (desk.registered b.desk program)) hold ∙ ap (by_desk (with_desk b)) h), tt)
 
-pub handed_book : (b : BookState) (o : Option Job) (d : DeskState) → AllHold (present b) → desk.handed_out b.desk b.id ≡ Ok (o, d) → IsBook b → IsBook (with b b.node d)
+pub handed_book : (b : BookState) (o : Option Job) (d : DeskState) → AllHold (present b) → desk.handed_out b.desk b.id ≡ Ok (o, d) → IsBook b
+    → IsBook (with b b.node d)
 handed_book b None d hold h r = same_book b b.node d refl (sym (handed_after b.desk b.id (None, d) h)) r
 handed_book b (Some j) d hold h r =
     book_next b (with b b.node d) (entry.Call call.HandOut) r
@@ -87,7 +89,8 @@ with_node-ok f (Ok d) (Err e) y h = absurd (no_refusal _ y h)
 with_node-ok f (Err e) r y h = absurd (no_refusal _ y h)
 
 -- what the node and the desk did at a call that was noted
-pub noted_call : {A : Type 0} (d : DeskState) (e : Entry) (r : Result (A × NodeState) Reason) (a : A) (x : DeskState) (n : NodeState) → desk.noting d e r ≡ Ok (a, (x, n)) → (desk.with_entry d e ≡ x) × (r ≡ Ok (a, n))
+pub noted_call : {A : Type 0} (d : DeskState) (e : Entry) (r : Result (A × NodeState) Reason) (a : A) (x : DeskState) (n : NodeState)
+    → desk.noting d e r ≡ Ok (a, (x, n)) → (desk.with_entry d e ≡ x) × (r ≡ Ok (a, n))
 noted_call {A} d e r a x n h =
     let w = with_node-ok (λ u (y : A). y) (desk.noted d e) r (a, (x, n)) h in (
       ap (λ (p : Unit {0} × DeskState). p.1) (noted_is d e w.0 w.1) ∙ ap (λ (p : A × (DeskState × NodeState)). p.1.0) w.4,
@@ -101,12 +104,14 @@ call_refused old new said g r f (Ok a) is same told gives = absurd gives
 call_refused old new said g r f (Err e) is same told gives = (same, λ other. is ∙ ap (by_call g) (told (λ m. other (gives ∙ m))) ∙ sym (ap Err gives))
 
 -- a test that does not hold refuses whatever follows
-refuses_at : {A B : Type 0} (t : Bool) (e f : Reason) (r : Result A Reason) (s : Result B Reason) → (r ≡ Err e → s ≡ Err e) → (let x : Result A Reason = Err e in x) ≡ cond t r (Err f) → cond t s (Err f) ≡ Err e
+refuses_at : {A B : Type 0} (t : Bool) (e f : Reason) (r : Result A Reason) (s : Result B Reason) → (r ≡ Err e → s ≡ Err e)
+    → (let x : Result A Reason = Err e in x) ≡ cond t r (Err f) → cond t s (Err f) ≡ Err e
 refuses_at true e f r s later h = later (sym h)
 refuses_at {A} {B} false e f r s later h = ap (λ (x : Reason). let y : Result B Reason = Err x in y) (sym (same_fault e f h))
 
 -- tests that refuse refuse whatever follows
-tests_refuse : {A B : Type 0} (ts : Tests Reason) (value : A) (e : Reason) (rest : Result B Reason) → (let x : Result A Reason = Err e in x) ≡ tested ts (Ok value) → tested ts rest ≡ Err e
+tests_refuse : {A B : Type 0} (ts : Tests Reason) (value : A) (e : Reason) (rest : Result B Reason)
+    → (let x : Result A Reason = Err e in x) ≡ tested ts (Ok value) → tested ts rest ≡ Err e
 tests_refuse [] value e rest h = absurd (no_refusal e value h)
 tests_refuse (t ∷ ts) value e rest h = refuses_at t.0 e t.1 (tested ts (Ok value)) (tested ts rest) (λ k. tests_refuse ts value e rest (sym k)) h
 
@@ -135,7 +140,8 @@ module _ (b : BookState) where
       tested_pass (asking b program) (by_desk (asks_node b) (desk.asked b.desk b.node.operations program start)) hold
       ∙ by_both (asks b) (λ query begun. (query, begun)) asks_call (λ q d begun n. refl) (desk.asked b.desk b.node.operations program start) (node.collect_begun b.node)
 
-  pub stored_by : (value : List ℕ) → AllHold (storing b value) → stored b value ≡ by_call stores_call (desk.noting b.desk (entry.Call (call.Store value)) (node.store_begun b.node value))
+  pub stored_by : (value : List ℕ) → AllHold (storing b value)
+      → stored b value ≡ by_call stores_call (desk.noting b.desk (entry.Call (call.Store value)) (node.store_begun b.node value))
   stored_by value hold =
       tested_pass (storing b value) (by_desk (stores_node b value) (desk.noted b.desk (entry.Call (call.Store value)))) hold
       ∙ by_both (λ u d. stores b d) (λ u begun. begun) stores_call (λ u d begun n. refl) (desk.noted b.desk (entry.Call (call.Store value))) (node.store_begun b.node value)
@@ -145,7 +151,8 @@ module _ (b : BookState) where
       tested_pass (present b) (by_desk (leaves_node b) (desk.noted b.desk (entry.Call call.Leave))) hold
       ∙ by_both (λ u d. leaves b d) (λ u outs. outs) leaves_call (λ u d outs n. refl) (desk.noted b.desk (entry.Call call.Leave)) (node.left b.node)
 
-  pub delivered_by : (m : Message) → AllHold (taking b m) → delivered b m ≡ by_call delivers_call (desk.noting b.desk (entry.Deliver m) (node.delivered b.node m))
+  pub delivered_by : (m : Message) → AllHold (taking b m)
+      → delivered b m ≡ by_call delivers_call (desk.noting b.desk (entry.Deliver m) (node.delivered b.node m))
   delivered_by m hold =
       tested_pass (taking b m) (by_desk (delivers_node b m) (desk.noted b.desk (entry.Deliver m))) hold
       ∙ by_both (λ u d. delivers b d) (λ u told. told) delivers_call (λ u d told n. refl) (desk.noted b.desk (entry.Deliver m)) (node.delivered b.node m)

@@ -111,7 +111,8 @@ module _ (b : BookState) where
   seen_is f none r z y h same = ap (λ (x : _ × BookState). f x.0) same ∙ sym (ap (seen f none) h)
 
   -- what is seen of a call's reply
-  reply_is : {A X : Type 0} (f : Reply → X) (none : X) (g : A → Reply) (r : Result (A × BookState) Reason) (z y : A × BookState) → r ≡ Ok z → y ≡ z → f (g y.0) ≡ seen f none (mapped g r)
+  reply_is : {A X : Type 0} (f : Reply → X) (none : X) (g : A → Reply) (r : Result (A × BookState) Reason) (z y : A × BookState) → r ≡ Ok z → y ≡ z
+      → f (g y.0) ≡ seen f none (mapped g r)
   reply_is f none g r z y h same =
       ap (λ (x : _ × BookState). f (g x.0)) same ∙ sym (ap (λ (x : Result (_ × BookState) Reason). seen f none (mapped g x)) h)
 
@@ -175,7 +176,8 @@ module _ (b : BookState) where
       (reply_is reply_outs [] reply.Asked (book.asked b program start) z y h a.4) (reply_is reply_job None reply.Asked (book.asked b program start) z y h a.4)
       (asked_after b.desk b.id b.node.operations program start begun a.0 (collect_tag b.node a.2.1 begun a.3) a.1) tt)
 
-  registered-accepted : (program : Certificate) (z : ℕ × BookState) → book.registered b program ≡ Ok z → Accepts b (call.Register program) (reply.Registered z.0) z.1
+  registered-accepted : (program : Certificate) (z : ℕ × BookState) → book.registered b program ≡ Ok z
+      → Accepts b (call.Register program) (reply.Registered z.0) z.1
   registered-accepted program z h =
       let a = desk-parts b (desk.registered b.desk program) z h in
       let e = entry.Call (call.Register program) in
@@ -209,7 +211,8 @@ module _ (b : BookState) where
   hands-accepted (Some j) c h noted = handed-accepted j c h
 
   -- what a call answers is what is said of its part
-  by_reply : {A : Type 0} (g : A → Reply) (r : Result (A × BookState) Reason) (P : Reply × BookState → Type 0) → ((z : A × BookState) → r ≡ Ok z → P (g z.0, z.1)) → (y : Reply × BookState) → mapped g r ≡ Ok y → P y
+  by_reply : {A : Type 0} (g : A → Reply) (r : Result (A × BookState) Reason) (P : Reply × BookState → Type 0)
+      → ((z : A × BookState) → r ≡ Ok z → P (g z.0, z.1)) → (y : Reply × BookState) → mapped g r ≡ Ok y → P y
   by_reply g r P each y h = let m = mapped_ok g r y h in subst P m.2 (each m.0 m.1)
 
   called-accepted : (k : Call) (y : Reply × BookState) → called b k ≡ Ok y → IsNoted y.0 → Accepts b k y.0 y.1
@@ -223,7 +226,8 @@ module _ (b : BookState) where
   called-accepted call.HandOut y h noted =
       by_reply reply.HandedOut (book.handed_out b) (λ (x : Reply × BookState). IsNoted x.0 → Accepts b call.HandOut x.0 x.1) (λ z. hands-accepted z.0 z.1) y h noted
 
-  no_job : {A : Type 0} (g : A → Reply) (r : Result (A × BookState) Reason) (c : BookState) → ((a : A) → IsNoted (g a)) → mapped g r ≡ Ok (reply.HandedOut None, c) → ⊥
+  no_job : {A : Type 0} (g : A → Reply) (r : Result (A × BookState) Reason) (c : BookState) → ((a : A) → IsNoted (g a))
+      → mapped g r ≡ Ok (reply.HandedOut None, c) → ⊥
   no_job g r c noted h = by_reply g r (λ (x : Reply × BookState). IsNoted x.0) (λ z _. noted z.0) (reply.HandedOut None, c) h
 
   -- a call that is not noted changes nothing
@@ -243,7 +247,8 @@ module _ (b : BookState) where
       let p = posted_is b.desk j ran a.0 b.id a.1 in
       (p.0, subst (IsPosted b.desk j ran) (ap (λ (x : Unit {0} × BookState). x.1.desk) a.2) p.1)
 
-  pub posted-accepted : (j : Job) (ran : Ran) (c : BookState) → book.posted b j ran ≡ Ok (tt, c) → IsAccepted b (entry.Post j.query ran) Idles (idle (Some (j, ran))) c
+  pub posted-accepted : (j : Job) (ran : Ran) (c : BookState) → book.posted b j ran ≡ Ok (tt, c)
+      → IsAccepted b (entry.Post j.query ran) Idles (idle (Some (j, ran))) c
   posted-accepted j ran c h =
       let a = desk-parts b (desk.posted b.desk b.id j ran) (tt, c) h in
       subst (λ (x : Unit {0} × BookState). IsAccepted b (entry.Post j.query ran) Idles (idle (Some (j, ran))) x.1) a.2

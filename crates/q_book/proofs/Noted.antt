@@ -44,21 +44,25 @@ test-fault true true x f room h = absurd (cc)
 test-fault true false x f room h = absurd (cc)
 test-fault false roomy x f room h = stranger f h
 
-phase-fault : (s : DeskState) (j : Job) (ran : Ran) (q : Query) (p : Phase) (f : Reason) → desk.has_room s ≡ true → desk.posted_to s j ran q p ≡ Err f → IsResultFault f
+phase-fault : (s : DeskState) (j : Job) (ran : Ran) (q : Query) (p : Phase) (f : Reason) → desk.has_room s ≡ true → desk.posted_to s j ran q p ≡ Err f
+    → IsResultFault f
 phase-fault s j ran q (Running view) f room h = test-fault (desk.is_job_of s.programs j q view) (desk.has_room s) _ f room h
 phase-fault s j ran q (Answered view old) f room h = inr (sym (fault-of reasons.AlreadyAnswered f h))
 phase-fault s j ran q Collecting f room h = stranger f h
 phase-fault s j ran q (Ready view) f room h = stranger f h
 
-query-fault : (s : DeskState) (j : Job) (ran : Ran) (o : Option Query) (f : Reason) → desk.has_room s ≡ true → desk.posted_at s j ran o ≡ Err f → IsResultFault f
+query-fault : (s : DeskState) (j : Job) (ran : Ran) (o : Option Query) (f : Reason) → desk.has_room s ≡ true → desk.posted_at s j ran o ≡ Err f
+    → IsResultFault f
 query-fault s j ran (Some q) f room h = phase-fault s j ran q q.phase f room h
 query-fault s j ran None f room h = stranger f h
 
-own-fault : (own : Bool) (s : DeskState) (j : Job) (ran : Ran) (o : Option Query) (f : Reason) → desk.has_room s ≡ true → (if own then desk.posted_at s j ran o else Err reasons.Stranger) ≡ Err f → IsResultFault f
+own-fault : (own : Bool) (s : DeskState) (j : Job) (ran : Ran) (o : Option Query) (f : Reason) → desk.has_room s ≡ true
+    → (if own then desk.posted_at s j ran o else Err reasons.Stranger) ≡ Err f → IsResultFault f
 own-fault true s j ran o f room h = query-fault s j ran o f room h
 own-fault false s j ran o f room h = stranger f h
 
-desk-fault : (b : BookState) (r : Desked (Unit {0})) (e : Reason) → ((f : Reason) → r ≡ Err f → IsResultFault f) → by_desk (with_desk b) r ≡ Err e → IsResultFault e
+desk-fault : (b : BookState) (r : Desked (Unit {0})) (e : Reason) → ((f : Reason) → r ≡ Err f → IsResultFault f) → by_desk (with_desk b) r ≡ Err e
+    → IsResultFault e
 desk-fault b (Ok x) e faults h = absurd (cc)
 desk-fault b (Err f) e faults h = let same : f ≡ e = cc in subst IsResultFault same (faults f refl)
 

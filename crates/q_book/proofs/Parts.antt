@@ -23,7 +23,8 @@ use Rattle.q_book.specs.declared.answer.Asked.{Asked}
 use Rattle.q_book.specs.declared.answer.Delivery.{Delivery}
 
 -- the node's part was accepted
-pub by_node-ok : {A B : Type 0} (f : A → NodeState → B) (r : Result (A × NodeState) Reason) (z : B) → book.by_node f r ≡ Ok z → (a : A × NodeState) × (r ≡ Ok a) × (f a.0 a.1 ≡ z)
+pub by_node-ok : {A B : Type 0} (f : A → NodeState → B) (r : Result (A × NodeState) Reason) (z : B) → book.by_node f r ≡ Ok z
+    → (a : A × NodeState) × (r ≡ Ok a) × (f a.0 a.1 ≡ z)
 by_node-ok f r z h =
     let a = and_then_ok r (λ x n. Ok (f x n)) z h in
     (a.0, a.1, same_answer _ z a.2)
@@ -33,7 +34,8 @@ pub noted_is : (d : DeskState) (e : Entry) (y : Unit {0} × DeskState) → desk.
 noted_is d e y h = same_answer _ y (tested_ok (desk.room d) _ y h).1
 
 -- the desk had room for the entry
-pub noted-ok : {B : Type 0} (f : Unit {0} → DeskState → Result B Reason) (d : DeskState) (e : Entry) (z : B) → book.by_desk f (desk.noted d e) ≡ Ok z → f tt (desk.with_entry d e) ≡ Ok z
+pub noted-ok : {B : Type 0} (f : Unit {0} → DeskState → Result B Reason) (d : DeskState) (e : Entry) (z : B) → book.by_desk f (desk.noted d e) ≡ Ok z
+    → f tt (desk.with_entry d e) ≡ Ok z
 noted-ok f d e z h =
     let a = and_then_ok (desk.noted d e) f z h in
     subst (λ (x : Unit {0} × DeskState). f x.0 x.1 ≡ Ok z) (sym (noted_is d e a.0 a.1)) a.2

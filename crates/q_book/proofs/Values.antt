@@ -64,7 +64,8 @@ module _ (b : BookState) where
   did_fit Idles t n d fits =
       subst (λ (y : Told). Kept n y.outs) d.1 (subst (NodeHasValuesWithin l) d.0 fits, All-from_recursion (message.Fits b.version) [] tt)
 
-pub accepted_fit : (b : BookState) (e : Entry) (x : Deed) (t : Told) (c : BookState) → IsAccepted b e x t c → Fits b → Fits c × All (message.Fits b.version) (sends b e)
+pub accepted_fit : (b : BookState) (e : Entry) (x : Deed) (t : Told) (c : BookState) → IsAccepted b e x t c → Fits b
+    → Fits c × All (message.Fits b.version) (sends b e)
 accepted_fit b e x t c a fits =
     let kept = did_fit b x t c.node a.node fits in
     (subst Fits a.same kept.0, subst (All (message.Fits b.version)) a.sent kept.1)

@@ -40,9 +40,8 @@ pub struct Served {
 
 /// A founder of this version that is alone, before any call.
 fn founded(alloc: Global, version: Version) -> Option<Box<Founder>> {
-    let config = Config::new(4, 5, 4, 5).ok()?;
     let block = Block::new(alloc).ok()?;
-    let book = Book::founder_as(alloc, version, config, 1, &[1]).ok()?;
+    let book = Book::founder_as(alloc, version, Config::default(), 1, &[1]).ok()?;
     let sent = Vec::new(alloc);
     let founder = Founder {
         alloc,

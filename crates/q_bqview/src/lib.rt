@@ -1,17 +1,21 @@
 //! The program `bqview`, as a function of its words: programs of RFC 9669 as files, from the command line.
 //!
-//! | Command | Output |
-//! |---|---|
-//! | `asm FILE` | each unit of the program as 16 lower-case hexadecimal digits, one a line |
-//! | `dis FILE` | the assembler text of a program's bytes, one instruction a line |
-//! | `check FILE` | `accepted longest L`: the program never faults, and does L steps for a record at most |
-//! | `run FILE START RECORDS` | `acc A steps S`: the last accumulator, and all steps |
-//! | `sim [--strict] SCRIPT` | what each event of a script tells, over a cluster in memory |
-//! | `cluster [--strict] SCRIPT` | what each line of a script tells, over nodes with a thread and a socket each |
-//! | `audit JOURNAL` | `answer Q ACC STEPS` for each recorded answer, by its query's number; then `journal ok` |
-//! | `gather [--pairs] JOURNAL..` | each answer of the journals of all nodes, with its view; then `journals ok` |
-//! | `node FILE ID --clients ADDR --journal JOURNAL` | where it hears, what its console answers, its events |
-//! | `client [--strict] ADDR SCRIPT` | what each line of a client's script tells, over a connection with a node |
+//! The commands, and what each prints:
+//!
+//! - `asm FILE`: each unit of the program as 16 lower-case hexadecimal digits, one a line.
+//! - `dis FILE`: the assembler text of a program's bytes, one instruction a line.
+//! - `check FILE`: `accepted longest L`: the program never faults, and does L steps for a record at most.
+//! - `run FILE START RECORDS`: `acc A steps S`: the last accumulator, and all steps.
+//! - `sim [--strict] SCRIPT`: what each event of a script tells, over a cluster in memory.
+//! - `cluster [--strict] SCRIPT`: what each line of a script tells, over nodes with a thread and a UDP socket of
+//!   loopback each.
+//! - `audit JOURNAL`: `answer Q ACC STEPS` for each answer that a node recorded, by the numbers of its queries; then
+//!   `journal ok`.
+//! - `gather [--pairs] JOURNAL..`: each answer of the journals of all nodes, with its view; then `journals ok`.
+//! - `node FILE ID --clients ADDR --journal JOURNAL`: where a node that runs by itself hears, what its console answers,
+//!   and how many events its journal has.
+//! - `client [--strict] ADDR SCRIPT`: what each line of a client's script tells, over a connection with a node that
+//!   runs by itself.
 //!
 //! What each file, script and journal holds, what each line prints, which refusals a command prints and in which order,
 //! and its exit status stand in `docs/FORMATS.md`. A file of the name `-` is the standard input. All that a command

@@ -5,7 +5,8 @@ use q_cluster::Cluster;
 use q_desk::Call;
 use q_history::ClusterEvent;
 use q_script::{CallLine, Founding, Script, ScriptLine};
-use q_sim::{config_of, event_of};
+use q_sim::event_of;
+use sc_members::Config;
 use sc_msg::Version;
 use sc_view::Value;
 use std::alloc::Global;
@@ -39,7 +40,7 @@ fn events(alloc: Global, version: Version, script: &Script) -> Option<Vec<Cluste
 /// The cluster of the founders, of this version. It is held in a box, since a proof writes out the drop of what is held
 /// by value.
 fn founded(alloc: Global, version: Version, founding: &Founding) -> Option<Box<Cluster>> {
-    let config = config_of(founding).ok()?;
+    let config = Config::new(founding.beta, founding.gamma).ok()?;
     let ids: Vec<u64> = (1..=founding.count).collect(alloc).ok()?;
     let cluster = Cluster::new_as(alloc, version, config, ids.as_slice()).ok()?;
     Box::new(alloc, cluster).ok()

@@ -28,8 +28,7 @@ pub fn program(alloc: Global, version: Version, code: &[u8]) -> Option<Program> 
 /// The book of a founder that is alone. It is held in a box, since a proof writes out the drop of what is held by
 /// value.
 fn founder(alloc: Global, version: Version) -> Option<Box<Book>> {
-    let config = Config::new(4, 5, 4, 5).ok()?;
-    let book = Book::founder_as(alloc, version, config, 1, &[1]).ok()?;
+    let book = Book::founder_as(alloc, version, Config::default(), 1, &[1]).ok()?;
     Box::new(alloc, book).ok()
 }
 

@@ -53,11 +53,7 @@ posting number j ran =
     record { event = event.Finish number; said = λ b. book.posted b j ran; next = λ c. posts c j ran }
 
 abbrev pub delivering : ℕ → Message → ℕ → BookEvent Delivery
-delivering number m id = record {
-  event = event.Deliver number id;
-  said = λ b. book.delivered b m;
-  next = λ c. delivers c number id;
-}
+delivering number m id = record { event = event.Deliver number id; said = λ b. book.delivered b m; next = λ c. delivers c number id }
 
 abbrev pub delivers_note : ℕ → ℕ → Delivery → Note
 delivers_note number id a =

@@ -88,7 +88,8 @@ module _ (version : Version) (books : BookMap) (past : Past) (jobs : List Job) (
 
   module _ (absent : fin.get books id ≡ None) (b : BookState) (outs : List Message) (made : book.entered version past.config id ≡ (b, outs)) (books' : BookMap) (put_in : books' ≡ fin.insert books id b)
       (past' : Past) (records : past' ≡ recorded past (world_event.Enter id) id outs None None) (sent : Sent) (numbers : sent ≡ numbered past outs) where
-    entered_by : (t : ClusterStep) → t ≡ record { told = told.Entered; sent = sent } → entered c id (fin.get books id) ≡ Ok (t, cluster_of version books' past' jobs)
+    entered_by : (t : ClusterStep) → t ≡ record { told = told.Entered; sent = sent }
+        → entered c id (fin.get books id) ≡ Ok (t, cluster_of version books' past' jobs)
     entered_by t tells =
         ap (entered c id) absent ∙ ap (λ (e : BookState × List Message). let r : Said = Ok (enters c id e) in r) made
         ∙ (λ i. Ok (sym (tells ∙ ap (λ (s : Sent). let x : ClusterStep = record { told = told.Entered; sent = s } in x) numbers) i, cluster_of version (sym put_in i) (sym records i) jobs))

@@ -19,5 +19,6 @@ module _ (version : Version) (c : Config) (ids : List ℕ) where
   refused_by x f false true is has h = let e : reasons.BadFounders ≡ f = cc in (is, sym e)
 
   -- the refusal of one founder is that of all
-  pub found_refused : (x : ℕ) (f : Reason) → set.contains (set.from_list {R = nat_cmp} ids) x ≡ true → (f ≢ memory → book.founded version c x ids ≡ Err f) → f ≢ memory → (are_founders ids ≡ false) × (f ≡ reasons.BadFounders)
+  pub found_refused : (x : ℕ) (f : Reason) → set.contains (set.from_list {R = nat_cmp} ids) x ≡ true
+      → (f ≢ memory → book.founded version c x ids ≡ Err f) → f ≢ memory → (are_founders ids ≡ false) × (f ≡ reasons.BadFounders)
   found_refused x f has h loud = refused_by x f (are_founders ids) (set.contains (set.from_list {R = nat_cmp} ids) x) refl has (h loud)

@@ -79,7 +79,8 @@ module _ {A : Type 0} {version : Version} {books : BookMap} {past : Past} {jobs 
         (subst (λ (p : Past). IsCluster version books p jobs') (sym same_past) (subst (λ (js : List Job). IsCluster version books past js) (sym same_jobs) old))
 
     -- and so is the event, which asks for no answer of a job
-    pub refuses : ((q : Ran) → stepped q c k.event ≡ stepped ran c k.event) → (r : Result ClusterStep Reason) → IsErrAnd r (λ f. f ≡ y) → Takes x k.event (cluster_of version (table b') past' jobs') r
+    pub refuses : ((q : Ran) → stepped q c k.event ≡ stepped ran c k.event) → (r : Result ClusterStep Reason) → IsErrAnd r (λ f. f ≡ y)
+        → Takes x k.event (cluster_of version (table b') past' jobs') r
     refuses any r h =
         let why = err_from_is_err_and r h in
         subst (λ (z : ClusterState). Takes z k.event (cluster_of version (table b') past' jobs') r) same
@@ -146,7 +147,8 @@ module _ {A : Type 0} {version : Version} {books : BookMap} {past : Past} {jobs 
       noted_goes = goes past' jobs t noted_is
 
 -- what a book told of a message is what its node did
-told_by : (b : BookState) (m : Message) (a : Delivery) (b' : BookState) → book.delivered b m ≡ Ok (a, b') → (t : Delivered) × (n : NodeState) × (node.delivered b.node m ≡ Ok (t, n)) × (t.progress ≡ a.progress)
+told_by : (b : BookState) (m : Message) (a : Delivery) (b' : BookState) → book.delivered b m ≡ Ok (a, b')
+    → (t : Delivered) × (n : NodeState) × (node.delivered b.node m ≡ Ok (t, n)) × (t.progress ≡ a.progress)
 told_by b m a b' h =
     let p = delivered-parts b m (a, b') h in
     (p.0.0, p.0.1, p.1, ap (λ (x : Delivery × BookState). x.0.progress) p.2)

@@ -16,7 +16,8 @@ abbrev pub nothing : Ran
 nothing = record { acc = 0; steps = 0 }
 
 -- an event that finishes no job does what is said
-pub follows : (c : ClusterState) (e : ClusterEvent) (told : ClusterStep) (d : ClusterState) → ((ran : Ran) → AnswersTo c e ran) → ((ran : Ran) → stepped ran c e ≡ Ok (told, d)) → Follows c e told d
+pub follows : (c : ClusterState) (e : ClusterEvent) (told : ClusterStep) (d : ClusterState) → ((ran : Ran) → AnswersTo c e ran)
+    → ((ran : Ran) → stepped ran c e ≡ Ok (told, d)) → Follows c e told d
 follows c e told d any is = record { ran = nothing; right = any nothing; stepped = is nothing }
 
 -- some list of events leads from one cluster to the other

@@ -16,7 +16,8 @@ by_test : {A E : Type 0} (b : Bool) (p q : Result A E) (e x : E) → (p ≡ Err 
 by_test true p q e x f h = f h
 by_test false p q e x f h = h
 
-by_room : {A : Type 0} (b : Bool) (p q : A) (e x : Reason) → (let r : Result A Reason = cond b (Ok p) (Err e) in r) ≡ Err x → (let r : Result A Reason = cond b (Ok q) (Err e) in r) ≡ Err x
+by_room : {A : Type 0} (b : Bool) (p q : A) (e x : Reason) → (let r : Result A Reason = cond b (Ok p) (Err e) in r) ≡ Err x
+    → (let r : Result A Reason = cond b (Ok q) (Err e) in r) ≡ Err x
 by_room true p q e x h = absurd (cc)
 by_room false p q e x h = h
 
@@ -36,7 +37,8 @@ module _ (s : DeskState) (j : Job) (r r' : Ran) (x : Reason) where
   posted_err node h = by_test (j.node == node) _ _ reasons.Stranger x (λ k. at_err (slice_get s.queries j.query) k) h
 
 module _ (b : BookState) (j : Job) (r r' : Ran) (e : Reason) where
-  by_posted : (q : Result (Unit {0} × DeskState) Reason) → desk.posted b.desk b.id j r ≡ q → book.by_desk (book.with_desk b) q ≡ Err e → book.by_desk (book.with_desk b) (desk.posted b.desk b.id j r') ≡ Err e
+  by_posted : (q : Result (Unit {0} × DeskState) Reason) → desk.posted b.desk b.id j r ≡ q → book.by_desk (book.with_desk b) q ≡ Err e
+      → book.by_desk (book.with_desk b) (desk.posted b.desk b.id j r') ≡ Err e
   by_posted (Ok a) is h = absurd (cc)
   by_posted (Err x) is h = ap (book.by_desk (book.with_desk b)) (posted_err b.desk j r r' x b.id is) ∙ h
 

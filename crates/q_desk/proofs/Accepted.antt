@@ -102,7 +102,8 @@ pub record IsReadyJob (d : DeskState) (node : ℕ) (j : Job) : Type 0 where
   pub certified : slice_get d.programs j.program ≡ Some j.certified
 
 module _ (d : DeskState) (node : ℕ) where
-  job_is : (k : ℕ) (q : Query) (p : Phase) (c : Option Certificate) (j : Job) → slice_get d.queries k ≡ Some q → q.phase ≡ p → slice_get d.programs q.program ≡ c → desk.job_on node k q (desk.ready_view p) c ≡ Some j → IsReadyJob d node j
+  job_is : (k : ℕ) (q : Query) (p : Phase) (c : Option Certificate) (j : Job) → slice_get d.queries k ≡ Some q → q.phase ≡ p
+      → slice_get d.programs q.program ≡ c → desk.job_on node k q (desk.ready_view p) c ≡ Some j → IsReadyJob d node j
   job_is k q (Ready view) (Some c) j at is named h = subst (IsReadyJob d node) (same_some _ j h) (record { query = q; at = at; phase = is; by = refl; program = refl; start = refl; certified = named })
   job_is k q (Ready view) None j at is named h = absurd (no_some j h)
   job_is k q Collecting c j at is named h = absurd (no_some j h)

@@ -177,7 +177,8 @@ module _ (d : DeskState) (node : ℕ) where
       let k = passed (nat_lt (length d.programs) table.most_programs) reasons.TableFull _ r h in
       subst (λ (z : ℕ × List Certificate). slice_get z.1 i ≡ Some p) (same_answer _ r k.1) (get-front d.programs (c ∷ []) i p at)
 
-  pub registered_after : (program : Certificate) (y : ℕ × DeskState) → desk.registered d program ≡ Ok y → IsAfter d node (idle None) (entry.Call (call.Register program)) y.1 None
+  pub registered_after : (program : Certificate) (y : ℕ × DeskState) → desk.registered d program ≡ Ok y
+      → IsAfter d node (idle None) (entry.Call (call.Register program)) y.1 None
   registered_after program y h =
       let z = registered_is d program y h in
       subst (λ (x : ℕ × DeskState). IsAfter d node (idle None) (entry.Call (call.Register program)) x.1 None) z.2
@@ -248,7 +249,8 @@ module _ (d : DeskState) (node : ℕ) where
   pub handed_after : (y : Option Job × DeskState) → desk.handed_out d node ≡ Ok y → IsHanded y.1 y.0
   handed_after y h = hands_after (desk.next_job d node) y (next_is d node) h
 
-  pub posted_after : (j : Job) (ran : Ran) (y : Unit {0} × DeskState) → desk.posted d node j ran ≡ Ok y → IsAfter d node (idle (Some (j, ran))) (entry.Post j.query ran) y.1 None
+  pub posted_after : (j : Job) (ran : Ran) (y : Unit {0} × DeskState) → desk.posted d node j ran ≡ Ok y
+      → IsAfter d node (idle (Some (j, ran))) (entry.Post j.query ran) y.1 None
   posted_after j ran y h =
       let p = (posted_is d j ran y node h).1 in
       subst (λ (z : DeskState). IsAfter d node (idle (Some (j, ran))) (entry.Post j.query ran) z None) p.is

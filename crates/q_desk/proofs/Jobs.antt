@@ -28,7 +28,8 @@ use Rattle.q_desk.proofs.Accepted.{IsReadyJob, next_is, passed}
 use Rattle.q_desk.proofs.Keeps.{IsAppended, PhaseFits, desk-appended, desk-running, desk-with_phase}
 
 -- programs may run over views that have records of the lengths for which they were checked
-pub may_all_run : (lengths : Interval) (programs : List Certificate) (queries : List Query) → ProgramsFit lengths programs → ViewsFit lengths queries → MayAllRun programs queries
+pub may_all_run : (lengths : Interval) (programs : List Certificate) (queries : List Query) → ProgramsFit lengths programs → ViewsFit lengths queries
+    → MayAllRun programs queries
 may_all_run lengths programs queries checked fit k q program here named =
     subst (λ (l : Interval). IfSome (view_in q.phase) (HasRecordsWithin l)) (sym (checked q.program program named)) (fit k q here)
 
@@ -52,25 +53,32 @@ Moves queries after k from to = (q : Query) → slice_get queries k ≡ Some q �
 ready-fits : (s : DeskState) (node : ℕ) (j : Job) → IsReadyJob s node j → IsDesk s → HasRecordsWithin s.lengths j.view
 ready-fits s node j f d = subst (λ (p : Phase). PhaseFits s.lengths p) f.phase (d.fit j.query f.query f.at)
 
-pub desk-handed : (s : DeskState) (node : ℕ) (j : Job) (queries : List Query) (journal : List Entry) → IsDesk s → Some j ≡ next_job s node → IsAppended s (entry.Call call.HandOut) journal → ((view : ViewMap) → Moves s.queries queries j.query (Ready view) (Running view)) → IsDesk (record s { queries = queries; journal = journal })
+pub desk-handed : (s : DeskState) (node : ℕ) (j : Job) (queries : List Query) (journal : List Entry) → IsDesk s → Some j ≡ next_job s node
+    → IsAppended s (entry.Call call.HandOut) journal → ((view : ViewMap) → Moves s.queries queries j.query (Ready view) (Running view))
+    → IsDesk (record s { queries = queries; journal = journal })
 desk-handed s node j queries journal d next a moves =
     let f = next_is s node j (sym next) in
     subst (λ (x : List Query). IsDesk (record s { queries = x; journal = journal })) (sym (moves j.view f.query f.at f.phase))
     (desk-appended (record s { queries = with_phase s.queries j.query (Running j.view) }) (entry.Call call.HandOut) journal (record { room = a.room; is = a.is }) (desk-running s j.query j.view d (ready-fits s node j f d)))
 
-pub handed : (s : DeskState) (node : ℕ) (j : Job) (queries : List Query) (journal : List Entry) → Some j ≡ next_job s node → IsAppended s (entry.Call call.HandOut) journal → ((view : ViewMap) → Moves s.queries queries j.query (Ready view) (Running view)) → handed_out s node ≡ Ok (Some j, record s { queries = queries; journal = journal })
+pub handed : (s : DeskState) (node : ℕ) (j : Job) (queries : List Query) (journal : List Entry) → Some j ≡ next_job s node
+    → IsAppended s (entry.Call call.HandOut) journal → ((view : ViewMap) → Moves s.queries queries j.query (Ready view) (Running view))
+    → handed_out s node ≡ Ok (Some j, record s { queries = queries; journal = journal })
 handed s node j queries journal next a moves =
     let f = next_is s node j (sym next) in
     let room = a.room in
     let small : nat_lt (length s.journal) most_events ≡ true = search rules in
     rw (← next, small, moves j.view f.query f.at f.phase, a.is) refl
 
-pub jobs-handed : (s : DeskState) (node : ℕ) (j : Job) (queries : List Query) → Some j ≡ next_job s node → ((view : ViewMap) → Moves s.queries queries j.query (Ready view) (Running view)) → how_many_run queries ≡ how_many_run s.queries + 1
+pub jobs-handed : (s : DeskState) (node : ℕ) (j : Job) (queries : List Query) → Some j ≡ next_job s node
+    → ((view : ViewMap) → Moves s.queries queries j.query (Ready view) (Running view)) → how_many_run queries ≡ how_many_run s.queries + 1
 jobs-handed s node j queries next moves =
     let f = next_is s node j (sym next) in
     run-handed s.queries queries j.query f.query j.view f.at f.phase (moves j.view f.query f.at f.phase)
 
-pub desk-posted : (s : DeskState) (j : Job) (ran : Ran) (q : Query) (view : ViewMap) (queries : List Query) (journal : List Entry) → IsDesk s → slice_get s.queries j.query ≡ Some q → IsAnswered s q view ran → IsAppended s (entry.Post j.query ran) journal → queries ≡ with_phase s.queries j.query (Answered view ran) → IsDesk (record s { queries = queries; journal = journal })
+pub desk-posted : (s : DeskState) (j : Job) (ran : Ran) (q : Query) (view : ViewMap) (queries : List Query) (journal : List Entry) → IsDesk s
+    → slice_get s.queries j.query ≡ Some q → IsAnswered s q view ran → IsAppended s (entry.Post j.query ran) journal
+    → queries ≡ with_phase s.queries j.query (Answered view ran) → IsDesk (record s { queries = queries; journal = journal })
 desk-posted s j ran q view queries journal d there right a after =
     let kept = desk-with_phase s j.query (Answered view ran) d tt (λ p here v r e.
     let same : q ≡ p = cc in
@@ -83,7 +91,10 @@ desk-posted s j ran q view queries journal d there right a after =
     subst (λ (x : List Query). IsDesk (record s { queries = x; journal = journal })) (sym after)
     (desk-appended (record s { queries = with_phase s.queries j.query (Answered view ran) }) (entry.Post j.query ran) journal (record { room = a.room; is = a.is }) kept)
 
-pub posts : (s : DeskState) (node : ℕ) (j : Job) (ran : Ran) (q : Query) (view : ViewMap) (queries : List Query) (journal : List Entry) → (j.node == node) ≡ true → slice_get s.queries j.query ≡ Some q → q.phase ≡ Running view → true ≡ is_job_of s.programs j q view → IsAppended s (entry.Post j.query ran) journal → queries ≡ with_phase s.queries j.query (Answered view ran) → posted s node j ran ≡ Ok (tt, record s { queries = queries; journal = journal })
+pub posts : (s : DeskState) (node : ℕ) (j : Job) (ran : Ran) (q : Query) (view : ViewMap) (queries : List Query) (journal : List Entry)
+    → (j.node == node) ≡ true → slice_get s.queries j.query ≡ Some q → q.phase ≡ Running view → true ≡ is_job_of s.programs j q view
+    → IsAppended s (entry.Post j.query ran) journal → queries ≡ with_phase s.queries j.query (Answered view ran)
+    → posted s node j ran ≡ Ok (tt, record s { queries = queries; journal = journal })
 posts s node j ran q view queries journal own there phase fits a after =
     let room = a.room in
     let small : nat_lt (length s.journal) most_events ≡ true = search rules in
@@ -92,7 +103,8 @@ posts s node j ran q view queries journal own there phase fits a after =
 -- ---- results that may be recorded
 
 -- it is one of this node
-pub own_result : (programs : List Certificate) (queries : List Query) (node : ℕ) (j : Job) (u : Unit {0}) → checked programs queries node j ≡ Ok u → (j.node == node) ≡ true
+pub own_result : (programs : List Certificate) (queries : List Query) (node : ℕ) (j : Job) (u : Unit {0}) → checked programs queries node j ≡ Ok u
+    → (j.node == node) ≡ true
 own_result programs queries node j u h = (passed (j.node == node) reasons.Stranger (checked_at programs j (slice_get queries j.query)) u h).0
 
 -- ---- a result that may not be recorded is refused with what says so
@@ -127,5 +139,6 @@ some-runs programs held queries j same r =
     subst (λ (qs : List Query). 0 < how_many_run qs) same (run-some held j.query r.query r.at (ap is_running r.phase))
 
 -- a right answer of a job whose query runs is one of the query
-pub answers : (s : DeskState) (j : Job) (ran : Ran) (r : IsOfRunning s.programs s.queries j) → IsRight j.certified j.view j.start ran → IsAnswered s r.query r.view ran
+pub answers : (s : DeskState) (j : Job) (ran : Ran) (r : IsOfRunning s.programs s.queries j) → IsRight j.certified j.view j.start ran
+    → IsAnswered s r.query r.view ran
 answers s j ran r right = record { program = r.serves.program; named = r.serves.named; right = r.serves.right ran right }

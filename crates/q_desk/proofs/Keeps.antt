@@ -22,7 +22,9 @@ use Rattle.q_desk.proofs.Accepted.{same_answer, passed}
 use Rattle.q_desk.proofs.Lists.{get-front, get-snoc, get-written}
 
 -- an answer stays right where its program stays
-kept : (s t : DeskState) (q : Query) (view : ViewMap) (ran : Ran) → ((c : Certificate) → slice_get s.programs q.program ≡ Some c → slice_get t.programs q.program ≡ Some c) → IsAnswered s q view ran → IsAnswered t q view ran
+kept : (s t : DeskState) (q : Query) (view : ViewMap) (ran : Ran)
+    → ((c : Certificate) → slice_get s.programs q.program ≡ Some c → slice_get t.programs q.program ≡ Some c) → IsAnswered s q view ran
+    → IsAnswered t q view ran
 kept s t q view ran front a = record { program = a.program; named = front a.program a.named; right = a.right }
 
 -- nothing else of a desk speaks of its journal
@@ -50,7 +52,8 @@ abbrev pub PhaseFits : Interval → Phase → Type 0
 PhaseFits lengths p = IfSome (view_in p) (HasRecordsWithin lengths)
 
 -- a query begins
-pub desk-begun : (s : DeskState) (q : Query) → IsDesk s → length s.queries < most_queries → q.program < length s.programs → q.phase ≡ Collecting → IsDesk (record s { queries = s.queries ++ q ∷ [] })
+pub desk-begun : (s : DeskState) (q : Query) → IsDesk s → length s.queries < most_queries → q.program < length s.programs → q.phase ≡ Collecting
+    → IsDesk (record s { queries = s.queries ++ q ∷ [] })
 desk-begun s q d few known phase = record {
   table = d.table;
   few = omega (arith, length-append s.queries (q ∷ []));
@@ -65,7 +68,8 @@ desk-begun s q d few known phase = record {
 abbrev pub PhaseIsRight : DeskState → Query → Phase → Type 0
 PhaseIsRight s q p = (view : ViewMap) (ran : Ran) → p ≡ Answered view ran → IsAnswered s q view ran
 
-desk-written : (s : DeskState) (i : ℕ) (q : Query) (p : Phase) → IsDesk s → slice_get s.queries i ≡ Some q → PhaseFits s.lengths p → PhaseIsRight s q p → IsDesk (record s { queries = slice_set s.queries i (record q { phase = p }) })
+desk-written : (s : DeskState) (i : ℕ) (q : Query) (p : Phase) → IsDesk s → slice_get s.queries i ≡ Some q → PhaseFits s.lengths p
+    → PhaseIsRight s q p → IsDesk (record s { queries = slice_set s.queries i (record q { phase = p }) })
 desk-written s i q p d there fits right =
     let new : Query = record q { phase = p } in
     let t : DeskState = record s { queries = slice_set s.queries i new } in
@@ -79,18 +83,22 @@ desk-written s i q p d there fits right =
       right = λ k x view ran e f. ⊎_elim (λ a. kept s t x view ran (λ c h. h) (d.right k x view ran a.1 f)) (λ b. subst (λ (y : Query). IsAnswered t y view ran) b.1 (let a = right view ran (ap (λ (y : Query). y.phase) b.1 ∙ f) in record { program = a.program; named = a.named; right = a.right })) (get-written s.queries i new k x e);
     }
 
-desk-in_phase : (s : DeskState) (i : ℕ) (p : Phase) (o : Option Query) → slice_get s.queries i ≡ o → IsDesk s → PhaseFits s.lengths p → ((q : Query) → slice_get s.queries i ≡ Some q → PhaseIsRight s q p) → IsDesk (record s { queries = in_phase s.queries i p o })
+desk-in_phase : (s : DeskState) (i : ℕ) (p : Phase) (o : Option Query) → slice_get s.queries i ≡ o → IsDesk s → PhaseFits s.lengths p
+    → ((q : Query) → slice_get s.queries i ≡ Some q → PhaseIsRight s q p) → IsDesk (record s { queries = in_phase s.queries i p o })
 desk-in_phase s i p None there d fits right = d
 desk-in_phase s i p (Some q) there d fits right = desk-written s i q p d there fits (right q there)
 
 -- a query comes into another phase
-pub desk-with_phase : (s : DeskState) (i : ℕ) (p : Phase) → IsDesk s → PhaseFits s.lengths p → ((q : Query) → slice_get s.queries i ≡ Some q → PhaseIsRight s q p) → IsDesk (record s { queries = with_phase s.queries i p })
+pub desk-with_phase : (s : DeskState) (i : ℕ) (p : Phase) → IsDesk s → PhaseFits s.lengths p
+    → ((q : Query) → slice_get s.queries i ≡ Some q → PhaseIsRight s q p) → IsDesk (record s { queries = with_phase s.queries i p })
 desk-with_phase s i p d fits right = desk-in_phase s i p (slice_get s.queries i) refl d fits right
 
-pub desk-ready : (s : DeskState) (i : ℕ) (view : ViewMap) → IsDesk s → HasRecordsWithin s.lengths view → IsDesk (record s { queries = with_phase s.queries i (Ready view) })
+pub desk-ready : (s : DeskState) (i : ℕ) (view : ViewMap) → IsDesk s → HasRecordsWithin s.lengths view
+    → IsDesk (record s { queries = with_phase s.queries i (Ready view) })
 desk-ready s i view d fits = desk-with_phase s i (Ready view) d fits (λ q there v r e. absurd (cc))
 
-pub desk-running : (s : DeskState) (i : ℕ) (view : ViewMap) → IsDesk s → HasRecordsWithin s.lengths view → IsDesk (record s { queries = with_phase s.queries i (Running view) })
+pub desk-running : (s : DeskState) (i : ℕ) (view : ViewMap) → IsDesk s → HasRecordsWithin s.lengths view
+    → IsDesk (record s { queries = with_phase s.queries i (Running view) })
 desk-running s i view d fits = desk-with_phase s i (Running view) d fits (λ q there v r e. absurd (cc))
 
 -- ---- programs
@@ -102,7 +110,8 @@ grown ps qs c id None e =
     inr (ap (λ (r : ℕ × List Certificate). r.1) (same_answer _ (id, qs) room.1))
 
 -- a table that only grew, by a program for records of the desk's lengths
-desk-grown : (s : DeskState) (c : Certificate) → c.lengths ≡ s.lengths → IsDesk s → IsTable (s.programs ++ c ∷ []) → IsDesk (record s { programs = s.programs ++ c ∷ [] })
+desk-grown : (s : DeskState) (c : Certificate) → c.lengths ≡ s.lengths → IsDesk s → IsTable (s.programs ++ c ∷ [])
+    → IsDesk (record s { programs = s.programs ++ c ∷ [] })
 desk-grown s c same d is_table =
     let t : DeskState = record s { programs = s.programs ++ c ∷ [] } in
     record {
@@ -115,7 +124,8 @@ desk-grown s c same d is_table =
       right = λ k q view ran e f. kept s t q view ran (λ p h. get-front s.programs (c ∷ []) q.program p h) (d.right k q view ran e f);
     }
 
-pub desk-registered : (s : DeskState) (qs : List Certificate) (c : Certificate) (id : ℕ) (o : Option ℕ) → registered_at s.programs c o ≡ Ok (id, qs) → c.lengths ≡ s.lengths → IsDesk s → IsTable qs → IsDesk (record s { programs = qs })
+pub desk-registered : (s : DeskState) (qs : List Certificate) (c : Certificate) (id : ℕ) (o : Option ℕ) → registered_at s.programs c o ≡ Ok (id, qs)
+    → c.lengths ≡ s.lengths → IsDesk s → IsTable qs → IsDesk (record s { programs = qs })
 desk-registered s qs c id o e same d is_table =
     ⊎_elim (λ a. subst (λ (ps : List Certificate). IsDesk (record s { programs = ps })) a d)
     (λ b. subst (λ (ps : List Certificate). IsDesk (record s { programs = ps })) b (desk-grown s c same d (subst IsTable (sym b) is_table)))

@@ -7,13 +7,15 @@ get-front [] ys k x h = absurd (cc)
 get-front (y ∷ xs) ys zero x h = h
 get-front (y ∷ xs) ys (suc k) x h = get-front xs ys k x h
 
-pub get-snoc : {X : Type 0} (xs : List X) (y : X) (k : ℕ) (x : X) → slice_get (xs ++ y ∷ []) k ≡ Some x → (slice_get xs k ≡ Some x) ⊎ ((k ≡ length xs) × (y ≡ x))
+pub get-snoc : {X : Type 0} (xs : List X) (y : X) (k : ℕ) (x : X) → slice_get (xs ++ y ∷ []) k ≡ Some x
+    → (slice_get xs k ≡ Some x) ⊎ ((k ≡ length xs) × (y ≡ x))
 get-snoc [] y zero x h = inr (refl, cc)
 get-snoc [] y (suc k) x h = absurd (cc)
 get-snoc (z ∷ xs) y zero x h = inl h
 get-snoc (z ∷ xs) y (suc k) x h = ⊎_elim (λ a. inl a) (λ b. inr (ap suc b.0, b.1)) (get-snoc xs y k x h)
 
-pub get-written : {X : Type 0} (xs : List X) (i : ℕ) (y : X) (k : ℕ) (x : X) → slice_get (slice_set xs i y) k ≡ Some x → ((k ≢ i) × (slice_get xs k ≡ Some x)) ⊎ ((k ≡ i) × (y ≡ x))
+pub get-written : {X : Type 0} (xs : List X) (i : ℕ) (y : X) (k : ℕ) (x : X) → slice_get (slice_set xs i y) k ≡ Some x
+    → ((k ≢ i) × (slice_get xs k ≡ Some x)) ⊎ ((k ≡ i) × (y ≡ x))
 get-written [] i y k x h = absurd (cc)
 get-written (z ∷ xs) zero y zero x h = inr (refl, cc)
 get-written (z ∷ xs) zero y (suc k) x h = inl ((λ e. absurd (cc)), h)

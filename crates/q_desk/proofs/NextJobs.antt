@@ -12,7 +12,8 @@ use Rattle.q_session.specs.declared.query.Query.{Query}
 use Rattle.q_desk.specs.Queries.{is_ready, ready_view, job_on, next_at, next_from, next_of}
 
 -- a ready query has its job
-job-ready : (node k : ℕ) (q : Query) (p : Phase) (c : Certificate) → is_ready p ≡ true → option_map (job_over node k q c) (view_in p) ≡ job_on node k q (ready_view p) (Some c)
+job-ready : (node k : ℕ) (q : Query) (p : Phase) (c : Certificate) → is_ready p ≡ true
+    → option_map (job_over node k q c) (view_in p) ≡ job_on node k q (ready_view p) (Some c)
 job-ready node k q (Ready view) c r = refl
 job-ready node k q Collecting c r = absurd (false≢true r)
 job-ready node k q (Running view) c r = absurd (false≢true r)

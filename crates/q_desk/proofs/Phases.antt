@@ -12,13 +12,15 @@ set-twice [] k y z = refl
 set-twice (x ∷ xs) zero y z = refl
 set-twice (x ∷ xs) (suc k) y z = ap (λ (r : List _). x ∷ r) (set-twice xs k y z)
 
-twice : (xs : List Query) (k : ℕ) (q : Query) (p r : Phase) → slice_get xs k ≡ Some q → with_phase (slice_set xs k (record q { phase = r })) k p ≡ with_phase xs k p
+twice : (xs : List Query) (k : ℕ) (q : Query) (p r : Phase) → slice_get xs k ≡ Some q
+    → with_phase (slice_set xs k (record q { phase = r })) k p ≡ with_phase xs k p
 twice xs k q p r there =
     let new : Query = record q { phase = r } in
     ap (in_phase (slice_set xs k new) k p) (get-same xs k q new there) ∙ set-twice xs k new (record q { phase = p }) ∙ sym (ap (in_phase xs k p) there)
 
 -- a query that was taken out goes back with another phase
-pub put_back : (xs new : List Query) (k : ℕ) (q : Query) (held came p : Phase) → slice_get xs k ≡ Some q → new ≡ with_phase (slice_set xs k (record q { phase = held })) k came → came ≡ p → new ≡ with_phase xs k p
+pub put_back : (xs new : List Query) (k : ℕ) (q : Query) (held came p : Phase) → slice_get xs k ≡ Some q
+    → new ≡ with_phase (slice_set xs k (record q { phase = held })) k came → came ≡ p → new ≡ with_phase xs k p
 put_back xs new k q held came p there is now = is ∙ ap (with_phase (slice_set xs k (record q { phase = held })) k) now ∙ twice xs k q p held there
 
 pub found-there : (xs : List Query) (k : ℕ) (at q : Query) → k < length xs → at ≡ get_or xs k at → slice_get xs k ≡ Some q → at ≡ q

@@ -30,7 +30,8 @@ run-set (x ∷ qs) zero q r there =
     omega (arith, is)
 run-set (x ∷ qs) (suc k) q r there = omega (arith, run-set qs k q r there)
 
-run-in_phase : (qs : List Query) (k : ℕ) (q : Query) (p : Phase) (o : Option Query) → slice_get qs k ≡ o → o ≡ Some q → how_many_run (in_phase qs k p o) + one q.phase ≡ how_many_run qs + one p
+run-in_phase : (qs : List Query) (k : ℕ) (q : Query) (p : Phase) (o : Option Query) → slice_get qs k ≡ o → o ≡ Some q
+    → how_many_run (in_phase qs k p o) + one q.phase ≡ how_many_run qs + one p
 run-in_phase qs k q p None there h = absurd (cc)
 run-in_phase qs k q p (Some x) there h =
     let same : x ≡ q = cc in
@@ -38,7 +39,8 @@ run-in_phase qs k q p (Some x) there h =
     omega (arith, run-set qs k x (record x { phase = p }) there, is)
 
 -- a query comes into another phase
-pub run-with_phase : (qs : List Query) (k : ℕ) (q : Query) (p : Phase) → slice_get qs k ≡ Some q → how_many_run (with_phase qs k p) + one q.phase ≡ how_many_run qs + one p
+pub run-with_phase : (qs : List Query) (k : ℕ) (q : Query) (p : Phase) → slice_get qs k ≡ Some q
+    → how_many_run (with_phase qs k p) + one q.phase ≡ how_many_run qs + one p
 run-with_phase qs k q p there = run-in_phase qs k q p (slice_get qs k) refl there
 
 -- one of the queries runs
@@ -57,7 +59,8 @@ collecting-idle (Running view) e = absurd (cc)
 collecting-idle (Answered view ran) e = absurd (cc)
 
 -- the query that waits for a collect is ready
-pub run-returned : (qs after : List Query) (tag k : ℕ) (view : ViewMap) → position (waits tag) qs ≡ Some k → after ≡ with_phase qs k (Ready view) → how_many_run after ≡ how_many_run qs
+pub run-returned : (qs after : List Query) (tag k : ℕ) (view : ViewMap) → position (waits tag) qs ≡ Some k → after ≡ with_phase qs k (Ready view)
+    → how_many_run after ≡ how_many_run qs
 run-returned qs after tag k view first is =
     let none = begun 0 0 0 in
     let passes = position-Some (waits tag) qs k none first in
@@ -66,13 +69,15 @@ run-returned qs after tag k view first is =
     omega (arith, ap how_many_run is, run-with_phase qs k q (Ready view) (slice_get-get_or qs k none passes.0), idle)
 
 -- a ready query runs
-pub run-handed : (qs after : List Query) (k : ℕ) (q : Query) (view : ViewMap) → slice_get qs k ≡ Some q → q.phase ≡ Ready view → after ≡ with_phase qs k (Running view) → how_many_run after ≡ how_many_run qs + 1
+pub run-handed : (qs after : List Query) (k : ℕ) (q : Query) (view : ViewMap) → slice_get qs k ≡ Some q → q.phase ≡ Ready view
+    → after ≡ with_phase qs k (Running view) → how_many_run after ≡ how_many_run qs + 1
 run-handed qs after k q view there ready is =
     let idle : one q.phase ≡ 0 = ap one ready in
     omega (arith, ap how_many_run is, run-with_phase qs k q (Running view) there, idle)
 
 -- a running query is answered
-pub run-answered : (qs after : List Query) (k : ℕ) (q : Query) (view : ViewMap) (ran : Ran) → slice_get qs k ≡ Some q → q.phase ≡ Running view → after ≡ with_phase qs k (Answered view ran) → how_many_run after + 1 ≡ how_many_run qs
+pub run-answered : (qs after : List Query) (k : ℕ) (q : Query) (view : ViewMap) (ran : Ran) → slice_get qs k ≡ Some q → q.phase ≡ Running view
+    → after ≡ with_phase qs k (Answered view ran) → how_many_run after + 1 ≡ how_many_run qs
 run-answered qs after k q view ran there runs is =
     let one-runs : one q.phase ≡ 1 = ap one runs in
     omega (arith, ap how_many_run is, run-with_phase qs k q (Answered view ran) there, one-runs)

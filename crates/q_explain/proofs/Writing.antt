@@ -4,7 +4,8 @@ use Rattle.std.specs.Prelude.{Result, Ok, Err, OnOk, if◌then◌else◌}
 use Rattle.std.specs.Result.{is_ok}
 
 -- the first part stands there, and then the rest
-pub both : {X E : Type 0} (r : Result X E) (before first rest between after : List ℕ) → between ≡ before ++ first → OnOk r (after ≡ between ++ rest) → OnOk r (after ≡ before ++ (first ++ rest))
+pub both : {X E : Type 0} (r : Result X E) (before first rest between after : List ℕ) → between ≡ before ++ first → OnOk r (after ≡ between ++ rest)
+    → OnOk r (after ≡ before ++ (first ++ rest))
 both (Ok x) before first rest between after h k = k ∙ ap (λ text. text ++ rest) h ∙ append_assoc before first rest
 both (Err e) before first rest between after h k = tt
 

@@ -37,7 +37,8 @@ not_distinct books n x here has distinct =
     let same : has.place ≡ n = distinct has.place n has.book x (sym (get_take books n has.place less) ∙ has.at) here has.of in
     omega (arith, less, same)
 
-pub distinct_next : (books : List BookState) (n : ℕ) (x : BookState) → slice_get books n ≡ Some x → (HasBook (take n books) x.id → ⊥) → DistinctBelow books n → DistinctBelow books (n + 1)
+pub distinct_next : (books : List BookState) (n : ℕ) (x : BookState) → slice_get books n ≡ Some x → (HasBook (take n books) x.id → ⊥)
+    → DistinctBelow books n → DistinctBelow books (n + 1)
 distinct_next books n x here none below k b less at has = elim (cases_eq k n) [
   | inl same ↦
       let one : b ≡ x = same_some b x (sym at ∙ ap (slice_get books) same ∙ here) in
@@ -93,7 +94,8 @@ nobody_agrees books none (version, config, founders, a) = by_first founders a
         no_some (x ∷ xs) (sym (none has.place has.book has.at) ∙ founders)
 
 -- where the books agree, they have one version
-pub versions_one : (books : List BookState) (i k : ℕ) (a b : BookState) → Agree books → slice_get books i ≡ Some a → slice_get books k ≡ Some b → a.version ≡ b.version
+pub versions_one : (books : List BookState) (i k : ℕ) (a b : BookState) → Agree books → slice_get books i ≡ Some a → slice_get books k ≡ Some b
+    → a.version ≡ b.version
 versions_one books i k a b agree at here = agree.3.versions i a at ∙ sym (agree.3.versions k b here)
 
 pub versions_refused : (journals : List (List ℕ)) (books : List BookState) (i k : ℕ) (a b : BookState) → AreReplayed journals books → AreDistinct books → slice_get books i ≡ Some a → slice_get books k ≡ Some b
@@ -105,7 +107,8 @@ versions_refused journals books i k a b r distinct at here other = (books, r, di
 pub starts : (version : Version) (config : Config) (ids : List ℕ) (c : ClusterState) → started version config ids ≡ Ok c → c ≡ start version config ids
 starts version config ids c h = same_answer {E = Reason} c (start version config ids) (sym (passed (are_founders ids) reasons.BadFounders (Ok (start version config ids)) c h).1)
 
-pub agree_on : (books : List BookState) (version : Version) (config : Config) (ids : List ℕ) (c : ClusterState) → started version config ids ≡ Ok c → AreHeaded books version config ids → AreThere books ids → AgreeOn books version config ids
+pub agree_on : (books : List BookState) (version : Version) (config : Config) (ids : List ℕ) (c : ClusterState) → started version config ids ≡ Ok c
+    → AreHeaded books version config ids → AreThere books ids → AgreeOn books version config ids
 agree_on books version config ids c h heads there = record {
   taken = h ∙ ap (λ (x : ClusterState). let r : Result ClusterState Reason = Ok x in r) (starts version config ids c h);
   versions = λ k b at. (heads k b at).0;

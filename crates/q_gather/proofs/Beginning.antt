@@ -58,7 +58,8 @@ module _ (version : Version) (config : Config) (ids : List ℕ) where
         Away (absent_by b.id (book_at c b.id) refl away) (heads ∙ none) refl t
 
   -- nothing is gathered yet
-  pub begins : (books : List BookState) (lists : List (List (Step Message))) → AreDistinct books → AreRight books → AgreeOn books version config ids → AreTraces books lists → IsUnderWay books c lists
+  pub begins : (books : List BookState) (lists : List (List (Step Message))) → AreDistinct books → AreRight books → AgreeOn books version config ids
+      → AreTraces books lists → IsUnderWay books c lists
   begins books lists distinct right agree traces =
       let h : IsHistory c = ([], refl, agree.taken) in
       record {
@@ -77,7 +78,8 @@ module _ (version : Version) (config : Config) (ids : List ℕ) where
       }
 
 -- where the steps that are left merge, all books are gathered
-pub gathers : {given : List Message} {lists : List (List (Step Message))} → Merges Message given lists → (books : List BookState) (c : ClusterState) → c.past.sent ≡ given → IsUnderWay books c lists → (d : ClusterState) × IsGathered books d
+pub gathers : {given : List Message} {lists : List (List (Step Message))} → Merges Message given lists → (books : List BookState) (c : ClusterState)
+    → c.past.sent ≡ given → IsUnderWay books c lists → (d : ClusterState) × IsGathered books d
 gathers (Over {lists = lists} over) books c same u = (c, gathered books c lists u over)
 gathers (Takes {given = given} {lists = lists} k s rest at can then) books c same u =
     let g = step_goes books c lists u k s rest at (subst (λ (x : List Message). CanGo x s) (sym same) can) in

@@ -22,7 +22,8 @@ use Rattle.q_gather.proofs.Cutting.{first_on}
 pub whole_begun : (b : BookState) → IsReplay b → IsBeginningOf b b
 whole_begun b r = record { version = refl; id = refl; config = refl; founders = refl; entries = length b.desk.journal; journal = sym (take-length b.desk.journal); replay = r }
 
-pub wholes_begun : (books : List BookState) (version : Version) (config : Config) (founders : List ℕ) → MayGather books version config founders → AreBeginnings books books × HoldWhatTheyDeliver books
+pub wholes_begun : (books : List BookState) (version : Version) (config : Config) (founders : List ℕ) → MayGather books version config founders
+    → AreBeginnings books books × HoldWhatTheyDeliver books
 wholes_begun books version config founders may = (
   record {
     distinct = may.distinct;
@@ -48,7 +49,8 @@ head_begun b first h = record {
 pub heads_hold : (books : List BookState) → ((k : ℕ) (b : BookState) → slice_get books k ≡ Some b → b.desk.journal ≡ []) → HoldWhatTheyDeliver books
 heads_hold books heads k place b m here at = absurd (no_some (entry.Deliver m) (ap (λ (x : List Entry). slice_get x place) (sym (heads k b here)) ∙ at))
 
-pub head_gives : (version : Version) (config : Config) (id : ℕ) (m : Message) → (entered version config id).1 ≡ m ∷ [] → IsGivenBy m (entered version config id).0
+pub head_gives : (version : Version) (config : Config) (id : ℕ) (m : Message) → (entered version config id).1 ≡ m ∷ []
+    → IsGivenBy m (entered version config id).0
 head_gives version config id m h = record {
   steps = record { wants = None; gives = (entered version config id).1 } ∷ [];
   trace = record { first = (node.entered config id).0; begun = refl; rest = []; trace = (refl, refl); is = refl };

@@ -18,7 +18,8 @@ use Rattle.q_gather.proofs.Merging.{over_at}
 -- ---- one node
 
 -- a node at which nothing happens stays where it is
-pub at_stays : (c d : ClusterState) (whole : BookState) (left : List Entry) (steps : List (Step Message)) → book_at d whole.id ≡ book_at c whole.id → IsAt c whole left steps → IsAt d whole left steps
+pub at_stays : (c d : ClusterState) (whole : BookState) (left : List Entry) (steps : List (Step Message)) → book_at d whole.id ≡ book_at c whole.id
+    → IsAt c whole left steps → IsAt d whole left steps
 at_stays c d whole left steps same (Away absent none is t) = Away (same ∙ absent) none is t
 at_stays c d whole left steps same (There b at t) = There b (same ∙ at) t
 
@@ -57,7 +58,8 @@ module _ (books : List BookState) (k : ℕ) (whole : BookState) (mine : slice_ge
 pub no_first : (x : Step Message) (xs : List (Step Message)) → [] ≡ x ∷ xs → ⊥
 no_first x xs e = absurd (cc)
 
-done_by : (c : ClusterState) (whole b : BookState) (left : List Entry) → book_at c whole.id ≡ Some b → IsTraceFrom b left [] whole → book_at c whole.id ≡ Some whole
+done_by : (c : ClusterState) (whole b : BookState) (left : List Entry) → book_at c whole.id ≡ Some b → IsTraceFrom b left [] whole
+    → book_at c whole.id ≡ Some whole
 done_by c whole b [] at t = at ∙ ap (λ (x : BookState). let o : Option BookState = Some x in o) (sym t.1)
 done_by c whole b (e ∷ es) at t = absurd (no_first (step_of b e) t.2 t.3)
 

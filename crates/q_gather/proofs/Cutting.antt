@@ -36,7 +36,8 @@ module _ (whole : BookState) where
   begins n = new_book whole.version whole.id whole.config whole.founders n
 
   -- the first state is that of each book with this head
-  pub first_on : (n : NodeState) (d : DeskState) (first : NodeState) (founders : Option (List ℕ)) → IsFirst whole first founders → IsFirst (record whole { node = n; desk = d }) first founders
+  pub first_on : (n : NodeState) (d : DeskState) (first : NodeState) (founders : Option (List ℕ)) → IsFirst whole first founders
+      → IsFirst (record whole { node = n; desk = d }) first founders
   first_on n d first (Some ids) h = h
   first_on n d first None h = h
 

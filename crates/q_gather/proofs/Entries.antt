@@ -99,13 +99,15 @@ answers d view ran k = tested (desk.room d) (Ok (tt, with_answer d k view ran))
 
 -- two jobs of one query
 module _ (d : DeskState) (node : ℕ) (i j : Job) (ran : Ran) (q : Query) (view : ViewMap) (same : j.query ≡ i.query) (at : slice_get d.queries i.query ≡ Some q) (phase : q.phase ≡ Running view) where
-  posted_as : (x : Job) → (x.node == node) ≡ true → slice_get d.queries x.query ≡ Some q → desk.is_job_of d.programs x q view ≡ true → desk.posted d node x ran ≡ answers d view ran x.query
+  posted_as : (x : Job) → (x.node == node) ≡ true → slice_get d.queries x.query ≡ Some q → desk.is_job_of d.programs x q view ≡ true
+      → desk.posted d node x ran ≡ answers d view ran x.query
   posted_as x own here fits =
       tested_pass ((x.node == node, reasons.Stranger) ∷ []) (desk.posted_at d x ran (slice_get d.queries x.query)) (own, tt)
       ∙ ap (desk.posted_at d x ran) here ∙ ap (desk.posted_to d x ran q) phase
       ∙ tested_pass ((desk.is_job_of d.programs x q view, reasons.Stranger) ∷ []) (answers d view ran x.query) (fits, tt)
 
-  pub same_post : (i.node == node) ≡ true → (j.node == node) ≡ true → desk.is_job_of d.programs i q view ≡ true → desk.is_job_of d.programs j q view ≡ true → desk.posted d node j ran ≡ desk.posted d node i ran
+  pub same_post : (i.node == node) ≡ true → (j.node == node) ≡ true → desk.is_job_of d.programs i q view ≡ true
+      → desk.is_job_of d.programs j q view ≡ true → desk.posted d node j ran ≡ desk.posted d node i ran
   same_post mine yours one two =
       posted_as j yours (ap (slice_get d.queries) same ∙ at) two ∙ ap (answers d view ran) same ∙ sym (posted_as i mine at one)
 
@@ -181,7 +183,8 @@ module _ (c : ClusterState) (h : IsHistory c) (id : ℕ) (b d : BookState) (up :
   stands : book_at c id ≡ Some b
   stands = at_live c id b up
 
-  post_makes : (query : ℕ) (ran : Ran) (i : Job) (number : ℕ) → IsRightLater d.desk → i.query ≡ query → book.posted b i ran ≡ Ok (tt, d) → IsJobFor c.jobs id query number → Makes c (event.Finish number) id d []
+  post_makes : (query : ℕ) (ran : Ran) (i : Job) (number : ℕ) → IsRightLater d.desk → i.query ≡ query → book.posted b i ran ≡ Ok (tt, d)
+      → IsJobFor c.jobs id query number → Makes c (event.Finish number) id d []
   post_makes query ran i number right of posts it =
       subst (λ (x : ℕ). Makes c (event.Finish number) x d []) it.by
       (finish_makes c b d ran i it.job (ap (live_at c) it.by ∙ up) (((history_kept c h).headed id b stands).id ∙ sym it.by) (it.of ∙ sym of) posts
@@ -225,10 +228,12 @@ module _ (c : ClusterState) (h : IsHistory c) (id : ℕ) (b d : BookState) (up :
 
 -- ---- as laws
 
-pub next_event : (c : ClusterState) (id : ℕ) (b d : BookState) (e : Entry) → IsHistory c → IsNext c id b e d → CanGo c.past.sent (step_of b e) → (ev : ClusterEvent) × IsEventOf c id e ev
+pub next_event : (c : ClusterState) (id : ℕ) (b d : BookState) (e : Entry) → IsHistory c → IsNext c id b e d → CanGo c.past.sent (step_of b e)
+    → (ev : ClusterEvent) × IsEventOf c id e ev
 next_event c id b d e h n can = entry_event c h id b d (next_up c id b d e n) e n.takes can
 
-pub next_makes : (c : ClusterState) (id : ℕ) (b d : BookState) (e : Entry) (ev : ClusterEvent) → IsHistory c → IsNext c id b e d → AnswersAreRight d.desk → IsEventOf c id e ev → Makes c ev id d (sends b e)
+pub next_makes : (c : ClusterState) (id : ℕ) (b d : BookState) (e : Entry) (ev : ClusterEvent) → IsHistory c → IsNext c id b e d
+    → AnswersAreRight d.desk → IsEventOf c id e ev → Makes c ev id d (sends b e)
 next_makes c id b d e ev h n right is =
     entry_makes c h id b d (next_up c id b d e n) e ev (record { later = d.desk; keeps = keeps_itself d.desk; right = right }) n.takes is
 
@@ -238,7 +243,8 @@ enter_turn c id =
     let e = book.entered c.version c.past.config id in
     put_turn c (recorded c.past (world_event.Enter id) id e.1 None None) c.jobs id e.0 e.1 refl
 
-pub enter_makes : (c : ClusterState) (id : ℕ) → book_at c id ≡ None → Makes c (event.Enter id) id (book.entered c.version c.past.config id).0 (book.entered c.version c.past.config id).1
+pub enter_makes : (c : ClusterState) (id : ℕ) → book_at c id ≡ None
+    → Makes c (event.Enter id) id (book.entered c.version c.past.config id).0 (book.entered c.version c.past.config id).1
 enter_makes c id absent =
     let e = book.entered c.version c.past.config id in
     makes c (event.Enter id) id e.0 e.1 nothing (enters c id e) tt (λ r _. ap (entered c id) absent) (enter_turn c id)

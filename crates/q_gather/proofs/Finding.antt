@@ -44,5 +44,6 @@ place_of ids x h =
     (a.0, slice_get_read ids (length ids) a.0 a.1 refl a.2 (sym a.3) ∙ ap (λ (y : ℕ). let o : Option ℕ = Some y in o) (eqb-true a.1 x a.4))
 
 -- a job that stands there and passes both tests
-pub job_for : {jobs : List Job} {id query number node of : ℕ} {job : Job} → Some job ≡ slice_get jobs number → node ≡ job.node → node ≡ id → of ≡ job.query → of ≡ query → IsJobFor jobs id query number
+pub job_for : {jobs : List Job} {id query number node of : ℕ} {job : Job} → Some job ≡ slice_get jobs number → node ≡ job.node → node ≡ id
+    → of ≡ job.query → of ≡ query → IsJobFor jobs id query number
 job_for {job = job} at node own of its = record { job = job; at = sym at; by = sym node ∙ own; of = sym of ∙ its }

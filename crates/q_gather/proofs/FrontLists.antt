@@ -18,7 +18,8 @@ abbrev pub Found : {X : Type 0} → List X → (ℕ → ℕ → Type 0) → ℕ 
 Found {X} xs R j = ((k : ℕ) × (x : X) × (slice_get xs k ≡ Some x) × R k j) ⊎ ((k : ℕ) (x : X) → slice_get xs k ≡ Some x → R k j → ⊥)
 
 module _ {X : Type 0} (y : X) (ys : List X) (R : ℕ → ℕ → Type 0) (one : (k i j : ℕ) → R k i → R k j → i ≡ j) (j : ℕ) where
-  nowhere : (i : ℕ) → R 0 i → (i ≡ j → ⊥) → ((k : ℕ) (x : X) → slice_get ys k ≡ Some x → R (suc k) j → ⊥) → (k : ℕ) (x : X) → slice_get (y ∷ ys) k ≡ Some x → R k j → ⊥
+  nowhere : (i : ℕ) → R 0 i → (i ≡ j → ⊥) → ((k : ℕ) (x : X) → slice_get ys k ≡ Some x → R (suc k) j → ⊥) → (k : ℕ) (x : X)
+      → slice_get (y ∷ ys) k ≡ Some x → R k j → ⊥
   nowhere i r away none zero x h s = away (one 0 i j r s)
   nowhere i r away none (suc k) x h s = none k x h s
 
@@ -27,7 +28,8 @@ module _ {X : Type 0} (y : X) (ys : List X) (R : ℕ → ℕ → Type 0) (one : 
   found_by i r (inr none) = elim (cases_eq i j) [ inl same ↦ inl (0, y, refl, subst (R 0) same r) | inr away ↦ inr (nowhere i r away none) ]
 
 -- of a relation by which each place has one number
-pub find_place : {X : Type 0} (xs : List X) (R : ℕ → ℕ → Type 0) → ((k : ℕ) (x : X) → slice_get xs k ≡ Some x → (j : ℕ) × R k j) → ((k i j : ℕ) → R k i → R k j → i ≡ j) → (j : ℕ) → Found xs R j
+pub find_place : {X : Type 0} (xs : List X) (R : ℕ → ℕ → Type 0) → ((k : ℕ) (x : X) → slice_get xs k ≡ Some x → (j : ℕ) × R k j)
+    → ((k i j : ℕ) → R k i → R k j → i ≡ j) → (j : ℕ) → Found xs R j
 find_place [] R each one j = inr (λ k x h r. no_some x h)
 find_place (y ∷ ys) R each one j =
     let first = each 0 y refl in

@@ -60,7 +60,8 @@ module _ {M : Type 0} (lists : List (List (Step M))) (j : ℕ) (s : Step M) (res
   given_before m g = record { list = g.list; step = g.step; has = has_before g.list g.step g.has; gives = g.gives }
 
 -- in lists that merge each message that a step wants is given by a step
-pub all_given : {M : Type 0} {given : List M} {lists : List (List (Step M))} → Merges M given lists → (m : M) (i : ℕ) (t : Step M) → HasStep lists i t → t.wants ≡ Some m → Contains given m ⊎ IsGiven lists m
+pub all_given : {M : Type 0} {given : List M} {lists : List (List (Step M))} → Merges M given lists → (m : M) (i : ℕ) (t : Step M) → HasStep lists i t
+    → t.wants ≡ Some m → Contains given m ⊎ IsGiven lists m
 all_given (Over {lists = lists} over) m i t h is = absurd (no_some t (ap (λ (x : List (Step _)). slice_get x h.place) (sym (over_at lists i h.steps over h.at)) ∙ h.there))
 all_given {M} (Takes {given = given} {lists = lists} j s rest at can then) m i t h is =
     ⊎_elim (λ first. inl (subst (λ (o : Option M). IfSome o (Contains given)) (ap (λ (x : Step M). x.wants) first ∙ is) can))
@@ -112,7 +113,8 @@ module _ {M : Type 0} (From : ℕ → ℕ → Type 0) (once : (i k j : ℕ) → 
 
     -- the first step of a list goes
     module _ (j : ℕ) (s : Step M) (rest : List (Step M)) (at : slice_get lists j ≡ Some (s ∷ rest)) (can : CanGo given s) where
-      alone_on : (m : M) (i k : ℕ) (a b : Step M) → HasStep (slice_set lists j rest) i a → HasStep (slice_set lists j rest) k b → Contains a.gives m → Contains b.gives m → i ≡ k
+      alone_on : (m : M) (i k : ℕ) (a b : Step M) → HasStep (slice_set lists j rest) i a → HasStep (slice_set lists j rest) k b → Contains a.gives m
+          → Contains b.gives m → i ≡ k
       alone_on m i k a b h g x y = f.alone m i k a b (has_before lists j s rest at i a h) (has_before lists j s rest at k b g) x y
 
       -- what stands elsewhere is a front of what it was a front of
@@ -177,7 +179,8 @@ module _ {M : Type 0} (From : ℕ → ℕ → Type 0) (once : (i k j : ℕ) → 
               front_elsewhere i steps p (λ same. away (once i k j (subst (From i) same p.comes) comes))
         ]
 
-        taken_held : (m : M) (i : ℕ) (t : Step M) → HasStep (slice_set kept k left) i t → t.wants ≡ Some m → Contains (more ++ s.gives) m ⊎ IsGiven (slice_set kept k left) m
+        taken_held : (m : M) (i : ℕ) (t : Step M) → HasStep (slice_set kept k left) i t → t.wants ≡ Some m
+            → Contains (more ++ s.gives) m ⊎ IsGiven (slice_set kept k left) m
         taken_held m i t h is = elim (f.held m i t (has_before kept k s left here i t h) is) [
           | inl now ↦ inl (Contains-append_left more s.gives m now)
           | inr g ↦ elim (has_after kept k s left here g.list g.step g.has) [
@@ -216,7 +219,8 @@ module _ {M : Type 0} (From : ℕ → ℕ → Type 0) (once : (i k j : ℕ) → 
           | inr none ↦ on more kept (skipped (λ k steps here from. absurd (none k steps here from)))
         ]
 
-  pub fronts_merge : {given : List M} {lists : List (List (Step M))} → Merges M given lists → (more : List M) (kept : List (List (Step M))) → AreFronts given more lists kept → Merges M more kept
+  pub fronts_merge : {given : List M} {lists : List (List (Step M))} → Merges M given lists → (more : List M) (kept : List (List (Step M)))
+      → AreFronts given more lists kept → Merges M more kept
   fronts_merge (Over {given = given} {lists = lists} over) more kept f = Over (over_kept given more lists kept f over)
   fronts_merge (Takes {given = given} {lists = lists} j s rest at can then) more kept f =
       goes_on given more lists kept f j s rest at can (λ later those g. fronts_merge then later those g)

@@ -75,7 +75,8 @@ module _ (books : List BookState) (lists : List Steps) (traces : AreTraces books
       among_given m (hold k e.0 b.book m b.here e.1)
 
   -- the message that a step gives names the node of its book
-  gives_own : (m : Message) (k : ℕ) (s : Step Message) → HasStep lists k s → Contains s.gives m → (b : BookState) × (slice_get books k ≡ Some b) × (m.from ≡ b.id)
+  gives_own : (m : Message) (k : ℕ) (s : Step Message) → HasStep lists k s → Contains s.gives m
+      → (b : BookState) × (slice_get books k ≡ Some b) × (m.from ≡ b.id)
   gives_own m k s h gives =
       let b = traced k h.steps h.at in
       let at = slice_get_read s.gives (length s.gives) gives.0 m refl gives.1 (sym gives.2) in
@@ -153,7 +154,8 @@ module _ (wholes parts : List BookState) (version : Version) (config : Config) (
       let own = trace_some b w.is.replay in
       right_part b w.whole w.is.replay (part_keeps b w.whole w.is own.0 t.0 own.1 t.2) (right w.place w.whole w.at)
 
-traced_more : (b : BookState) (bs : List BookState) (steps : Steps) (lists : List Steps) → IsTrace b steps → AreTraces bs lists → AreTraces (b ∷ bs) (steps ∷ lists)
+traced_more : (b : BookState) (bs : List BookState) (steps : Steps) (lists : List Steps) → IsTrace b steps → AreTraces bs lists
+    → AreTraces (b ∷ bs) (steps ∷ lists)
 traced_more b bs steps lists t rest = record { each = each_more; few = few_more }
   where
     each_more : (k : ℕ) (x : BookState) → slice_get (b ∷ bs) k ≡ Some x → (own : Steps) × (slice_get (steps ∷ lists) k ≡ Some own) × IsTrace x own

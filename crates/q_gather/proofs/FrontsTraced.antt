@@ -42,7 +42,8 @@ module _ (whole : BookState) (n : NodeState) (d : DeskState) where
   abbrev Between : Steps → Steps → Type 0
   Between steps others = IsFront steps others × Keeps d whole.desk
 
-  with_front : (entries : ℕ) → d.journal ≡ take entries whole.desk.journal → (steps others : Steps) → IsTrace part steps → IsTrace whole others → Between steps others
+  with_front : (entries : ℕ) → d.journal ≡ take entries whole.desk.journal → (steps others : Steps) → IsTrace part steps → IsTrace whole others
+      → Between steps others
   with_front entries journal steps others t u =
       let rest = drop entries whole.desk.journal in
       let same : u.first ≡ t.first = first_same whole part refl refl u.first t.first whole.founders u.begun t.begun in
@@ -114,16 +115,19 @@ module _ (b : BookState) (rest : Steps) where
   entry_by None es at zero s m h is = absurd (no_some m (ap (λ (x : Step Message). x.wants) (same_some _ s h) ∙ is))
   entry_by None es at (suc k) s m h is = (k, at k s m h is)
 
-  step_by : (founders : Option (List ℕ)) (k : ℕ) (s : Step Message) → slice_get rest k ≡ Some s → (place : ℕ) × (slice_get (entering b founders ++ rest) place ≡ Some s)
+  step_by : (founders : Option (List ℕ)) (k : ℕ) (s : Step Message) → slice_get rest k ≡ Some s
+      → (place : ℕ) × (slice_get (entering b founders ++ rest) place ≡ Some s)
   step_by (Some ids) k s h = (k, h)
   step_by None k s h = (suc k, h)
 
 module _ (b : BookState) (steps : Steps) (t : IsTrace b steps) where
-  pub step_entry : (k : ℕ) (s : Step Message) (m : Message) → slice_get steps k ≡ Some s → s.wants ≡ Some m → (place : ℕ) × (slice_get b.desk.journal place ≡ Some (entry.Deliver m))
+  pub step_entry : (k : ℕ) (s : Step Message) (m : Message) → slice_get steps k ≡ Some s → s.wants ≡ Some m
+      → (place : ℕ) × (slice_get b.desk.journal place ≡ Some (entry.Deliver m))
   step_entry k s m h is =
       entry_by b t.rest b.founders b.desk.journal (λ i x y at w. from_entry b.desk.journal _ b t.rest t.trace i x y at w) k s m (ap (λ (x : Steps). slice_get x k) (sym t.is) ∙ h) is
 
-  pub entry_step : (place : ℕ) (m : Message) → slice_get b.desk.journal place ≡ Some (entry.Deliver m) → (k : ℕ) × (s : Step Message) × (slice_get steps k ≡ Some s) × (s.wants ≡ Some m)
+  pub entry_step : (place : ℕ) (m : Message) → slice_get b.desk.journal place ≡ Some (entry.Deliver m)
+      → (k : ℕ) × (s : Step Message) × (slice_get steps k ≡ Some s) × (s.wants ≡ Some m)
   entry_step place m h =
       let r = from_step b.desk.journal _ b t.rest t.trace place m h in
       let at = step_by b t.rest b.founders place r.0 r.1 in

@@ -41,7 +41,8 @@ module _ (books : List BookState) (c later : ClusterState) (numbers after : Numb
   goes : Goes books c g.left n.place turn.step turn.rest ev
   goes = turn_goes books c g.left g.under_way n.place n.book n.at ev turn
 
-  pub goes_on : ((outs : List Message) → AreNumbers c.past.sent numbers → later.past.sent ≡ c.past.sent ++ outs → AreNumbers later.past.sent after) → IsGathering books later after
+  pub goes_on : ((outs : List Message) → AreNumbers c.past.sent numbers → later.past.sent ≡ c.past.sent ++ outs → AreNumbers later.past.sent after)
+      → IsGathering books later after
   goes_on numbered =
       let rests : List (List (Step Message)) = slice_set g.left n.place turn.rest in
       let sent : later.past.sent ≡ c.past.sent ++ turn.step.gives = goes.sent told later f in
@@ -137,11 +138,7 @@ module _ (books : List BookState) (c : ClusterState) (numbers : NumberList) (g :
   taken_by : AreOver g.left → HaveTaken c books
   taken_by over k b here =
       let p = g.under_way.at k b here in
-      record {
-        book = b;
-        at = done_at c b p.2 (subst (IsAt c b p.2) (over_at g.left k p.0 over p.1) p.3);
-        all = refl;
-      }
+      record { book = b; at = done_at c b p.2 (subst (IsAt c b p.2) (over_at g.left k p.0 over p.1) p.3); all = refl }
 
   -- where no event is next and some entries are left, they do not merge
   pub stuck : ((ev : ClusterEvent) → IsNextAmong c books ev → ⊥) → (HaveTaken c books → ⊥) → Merge books → ⊥

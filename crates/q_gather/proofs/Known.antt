@@ -35,13 +35,15 @@ some_program c None h = absurd (cc)
 some_program c (Some program) h = (program, refl)
 
 -- the program of a query to which a job belongs
-job_program : (programs : List Certificate) (j : Job) (q : Query) (view : ViewMap) → desk.is_job_of programs j q view ≡ true → (program : Certificate) × (slice_get programs q.program ≡ Some program)
+job_program : (programs : List Certificate) (j : Job) (q : Query) (view : ViewMap) → desk.is_job_of programs j q view ≡ true
+    → (program : Certificate) × (slice_get programs q.program ≡ Some program)
 job_program programs j q view h =
     some_program j.certified (slice_get programs q.program)
     (and_right (desk.is_same_view j.view view) _ (and_right (j.start == q.start) _ (and_right (j.program == q.program) _ h)))
 
 module _ (d e : DeskState) (node : ℕ) (t : Told) (known : AreKnown d) where
-  known_goes : (k : ℕ) (q : Query) (p : Phase) (o : Option Job) → GoesOver d node k q p t o → (view : ViewMap) (ran : Ran) → p ≡ Answered view ran → HasProgram d q
+  known_goes : (k : ℕ) (q : Query) (p : Phase) (o : Option Job) → GoesOver d node k q p t o → (view : ViewMap) (ran : Ran) → p ≡ Answered view ran
+      → HasProgram d q
   known_goes k q p o (readied v r to none) view ran answered = let no : Ready v ≡ Answered view ran = sym to ∙ answered in absurd (cc)
   known_goes k q p o (handed j r of to some) view ran answered = let no : Running j.view ≡ Answered view ran = sym to ∙ answered in absurd (cc)
   known_goes k q p o (recorded j v x told is fits to none) view ran answered = job_program d.programs j q v fits
@@ -53,7 +55,8 @@ module _ (d e : DeskState) (node : ℕ) (t : Told) (known : AreKnown d) where
       (had.0, ap (λ (x : Query). slice_get d.programs x.program) (sym same) ∙ had.1)
 
   -- programs stay, and so what is known of the queries that were there
-  known_by : (o : Option Job) → ((i : ℕ) (p : Certificate) → slice_get d.programs i ≡ Some p → slice_get e.programs i ≡ Some p) → Change d node t e o → AreKnown e
+  known_by : (o : Option Job) → ((i : ℕ) (p : Certificate) → slice_get d.programs i ≡ Some p → slice_get e.programs i ≡ Some p) → Change d node t e o
+      → AreKnown e
   known_by o more change k q view ran at is = elim (change_queries d node t e o change k q at) [
     | inl old ↦ let a = known k q view ran old is in (a.0, more q.program a.0 a.1)
     | inr new ↦ let a = known_new q o new view ran is in (a.0, more q.program a.0 a.1)

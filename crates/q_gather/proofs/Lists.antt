@@ -16,5 +16,6 @@ get_map f (x ∷ xs) zero y h = (x, refl, cc)
 get_map f (x ∷ xs) (suc k) y h = get_map f xs k y h
 
 -- what stands there stood there, or was written there
-pub get_after : {X : Type 0} (xs : List X) (i : ℕ) (y : X) (k : ℕ) (x : X) → slice_get (slice_set xs i y) k ≡ Some x → (slice_get xs k ≡ Some x) ⊎ ((k ≡ i) × (y ≡ x))
+pub get_after : {X : Type 0} (xs : List X) (i : ℕ) (y : X) (k : ℕ) (x : X) → slice_get (slice_set xs i y) k ≡ Some x
+    → (slice_get xs k ≡ Some x) ⊎ ((k ≡ i) × (y ≡ x))
 get_after xs i y k x h = ⊎_elim (λ a. inl a.1) (λ b. inr b) (get-written xs i y k x h)

@@ -106,7 +106,8 @@ module _ (books : List BookState) (distinct : AreDistinct books) (c later : Clus
     }
 
   -- behind its new book the node has these entries left
-  left_there : (id : ℕ) (d : BookState) (whole : BookState) (left : List Entry) (steps : Steps) → book_at later id ≡ Some d → whole.id ≡ id → IsAt later whole left steps → IsTraceFrom d left steps whole
+  left_there : (id : ℕ) (d : BookState) (whole : BookState) (left : List Entry) (steps : Steps) → book_at later id ≡ Some d → whole.id ≡ id
+      → IsAt later whole left steps → IsTraceFrom d left steps whole
   left_there id d whole left steps here of (Away absent none is t) = absurd (no_some d (sym absent ∙ ap (book_at later) of ∙ here))
   left_there id d whole left steps here of (There b at t) = subst (λ (x : BookState). IsTraceFrom x left steps whole) (same_some b d (sym at ∙ ap (book_at later) of ∙ here)) t
 
@@ -147,7 +148,9 @@ module _ (books : List BookState) (distinct : AreDistinct books) (c later : Clus
     entered_alone : whole.founders ≡ None
     entered_alone = ap (λ (x : BookState). x.founders) (sym on.same)
 
-  enters_back : (id : ℕ) → book_at c id ≡ None → IsTurn c id (book.entered c.version c.past.config id).0 (book.entered c.version c.past.config id).1 later → (more : List Steps) × IsComing books c more
+  enters_back : (id : ℕ) → book_at c id ≡ None
+      → IsTurn c id (book.entered c.version c.past.config id).0 (book.entered c.version c.past.config id).1 later
+      → (more : List Steps) × IsComing books c more
   enters_back id absent turn =
       let e = book.entered c.version c.past.config id in
       let h = coming.all id e.0 turn.book in
@@ -162,7 +165,8 @@ module _ (books : List BookState) (distinct : AreDistinct books) (c later : Clus
   back (Goes id b d e here f can turn) = goes_back id b d e here f can turn
   back (Enters id absent turn) = enters_back id absent turn
 
-run_back : (books : List BookState) → AreDistinct books → (es : List ClusterEvent) (c d : ClusterState) → Reaches c es d → (lists : List Steps) → IsComing books d lists → (more : List Steps) × IsComing books c more
+run_back : (books : List BookState) → AreDistinct books → (es : List ClusterEvent) (c d : ClusterState) → Reaches c es d → (lists : List Steps)
+    → IsComing books d lists → (more : List Steps) × IsComing books c more
 run_back books distinct [] c d r lists coming = (lists, subst (λ (x : ClusterState). IsComing books x lists) r coming)
 run_back books distinct (e ∷ es) c d r lists coming =
     let rest = run_back books distinct es r.1 d r.3 lists coming in
@@ -173,7 +177,8 @@ run_back books distinct (e ∷ es) c d r lists coming =
 nothing_at : (books : List BookState) (k : ℕ) (b : BookState) → slice_get books k ≡ Some b → slice_get (nothing_left books) k ≡ Some []
 nothing_at books k b h = slice_get-map no_steps books k ∙ ap (option_map no_steps) h
 
-nothing_few : (books : List BookState) (k : ℕ) (steps : Steps) → slice_get (nothing_left books) k ≡ Some steps → (steps ≡ []) × ((b : BookState) × (slice_get books k ≡ Some b))
+nothing_few : (books : List BookState) (k : ℕ) (steps : Steps) → slice_get (nothing_left books) k ≡ Some steps
+    → (steps ≡ []) × ((b : BookState) × (slice_get books k ≡ Some b))
 nothing_few books k steps h = let b = get_map no_steps books k steps h in (sym b.2, (b.0, b.1))
 
 nothing_over : (books : List BookState) → AreOver (nothing_left books)

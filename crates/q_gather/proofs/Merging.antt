@@ -32,7 +32,8 @@ both_on given more outs within m h =
     ⊎_elim (λ a. Contains-append_left more outs m (within m a)) (λ b. Contains-append_right more outs m b) (Contains-append_cases given outs m h)
 
 -- only what is among the given messages counts, and more of them do no harm
-pub merges_on : {M : Type 0} {given : List M} {lists : List (List (Step M))} → Merges M given lists → (more : List M) → IsWithin given more → Merges M more lists
+pub merges_on : {M : Type 0} {given : List M} {lists : List (List (Step M))} → Merges M given lists → (more : List M) → IsWithin given more
+    → Merges M more lists
 merges_on (Over over) more within = Over over
 merges_on (Takes {given = given} k s rest at can then) more within =
     Takes k s rest at (goes_on given more s within can) (merges_on then (more ++ s.gives) (both_on given more s.gives within))

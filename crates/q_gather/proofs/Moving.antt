@@ -29,9 +29,11 @@ pub data IsMove (c later : ClusterState) : Type 0 where
   -- the books are as they were, and nothing was sent
   Rests : ((id : ℕ) → book_at later id ≡ book_at c id) → later.past.sent ≡ c.past.sent → IsMove c later
   -- a book takes an entry; what it wants was sent before
-  Goes : (id : ℕ) (b d : BookState) (e : Entry) → book_at c id ≡ Some b → replays.Follows b e d → CanGo c.past.sent (step_of b e) → IsTurn c id d (sends b e) later → IsMove c later
+  Goes : (id : ℕ) (b d : BookState) (e : Entry) → book_at c id ≡ Some b → replays.Follows b e d → CanGo c.past.sent (step_of b e)
+      → IsTurn c id d (sends b e) later → IsMove c later
   -- a node enters
-  Enters : (id : ℕ) → book_at c id ≡ None → IsTurn c id (book.entered c.version c.past.config id).0 (book.entered c.version c.past.config id).1 later → IsMove c later
+  Enters : (id : ℕ) → book_at c id ≡ None → IsTurn c id (book.entered c.version c.past.config id).0 (book.entered c.version c.past.config id).1 later
+      → IsMove c later
 
 module _ (c : ClusterState) where
   -- what the entry wants was sent

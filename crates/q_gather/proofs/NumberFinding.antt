@@ -26,7 +26,8 @@ first_by true k n rest more h f = h
 first_by false k n rest more h f = f h
 
 -- what stands at the end is found where nothing before it is
-number_last : (bytes other : List ℕ) (n : ℕ) (es : NumberList) → number_of bytes es ≡ None → number_of bytes (es ++ (other, n) ∷ []) ≡ cond (bytes_eq bytes other) (Some n) None
+number_last : (bytes other : List ℕ) (n : ℕ) (es : NumberList) → number_of bytes es ≡ None
+    → number_of bytes (es ++ (other, n) ∷ []) ≡ cond (bytes_eq bytes other) (Some n) None
 number_last bytes other n [] none = refl
 number_last bytes other n (e ∷ es) none =
     last_by (bytes_eq bytes e.0) e.1 (number_of bytes es) (number_of bytes (es ++ (other, n) ∷ [])) (cond (bytes_eq bytes other) (Some n) None) none (λ h. number_last bytes other n es h)
@@ -58,7 +59,8 @@ module _ (one : OneSpelling) (sent : List Message) (es : NumberList) (are : AreN
   first_sent : IsLeastNumber sent m None → IsLeastNumber (sent ++ m ∷ []) m (Some (length sent))
   first_sent h = (slice_get_last sent m, λ k less at. h k (earlier sent m k less at))
 
-  there_by : (x : Message) → IsMessage Second x → (o : Option ℕ) → number_of (message_bytes Second x) es ≡ o → is_some (number_of (message_bytes Second m) es) ≡ true → IsLeastNumber (sent ++ m ∷ []) x o
+  there_by : (x : Message) → IsMessage Second x → (o : Option ℕ) → number_of (message_bytes Second x) es ≡ o
+      → is_some (number_of (message_bytes Second m) es) ≡ true → IsLeastNumber (sent ++ m ∷ []) x o
   there_by x good (Some n) at some = kept x n (subst (IsLeastNumber sent x) at (are x good))
   there_by x good None at some =
       not_sent x (subst (IsLeastNumber sent x) at (are x good))
@@ -81,7 +83,8 @@ module _ (one : OneSpelling) (sent : List Message) (es : NumberList) (are : AreN
           let both : false ≡ true = sym is ∙ (bytes_eq-Decides (message_bytes Second x) (message_bytes Second m)).1 (ap (message_bytes Second) (sym same)) in
           absurd (cc))
 
-  by_test : (b : Bool) → is_some (number_of (message_bytes Second m) es) ≡ b → AreNumbers (sent ++ m ∷ []) (cond b es (es ++ (message_bytes Second m, length sent) ∷ []))
+  by_test : (b : Bool) → is_some (number_of (message_bytes Second m) es) ≡ b
+      → AreNumbers (sent ++ m ∷ []) (cond b es (es ++ (message_bytes Second m, length sent) ∷ []))
   by_test true is x good = there_by x good (number_of (message_bytes Second x) es) refl is
   by_test false is x good = new_by x good (number_of (message_bytes Second x) es) refl (none_there (number_of (message_bytes Second m) es) is)
 

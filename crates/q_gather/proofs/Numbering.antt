@@ -29,7 +29,8 @@ numbered_next more sent numbers after m n at legal is are =
     subst (λ (x : List Message). AreNumbers x after) (sym list) (subst (λ (x : NumberList). AreNumbers (take n sent ++ m ∷ []) x) (sym is) so)
 
 -- the messages that were sent before the event are the first
-pub sent_before : (old new outs : List Message) (n : ℕ) (numbers : NumberList) → n ≡ length old → new ≡ old ++ outs → AreNumbers old numbers → AreNumbers (take n new) numbers
+pub sent_before : (old new outs : List Message) (n : ℕ) (numbers : NumberList) → n ≡ length old → new ≡ old ++ outs → AreNumbers old numbers
+    → AreNumbers (take n new) numbers
 sent_before old new outs n numbers long is are =
     let le : length old ≤ length old = omega arith in
     let whole : take n new ≡ old =
@@ -38,7 +39,8 @@ sent_before old new outs n numbers long is are =
 
 -- ---- what was taken
 
-pub taken_test : (c : ClusterState) (whole b : BookState) (n m : ℕ) → Some b ≡ book_at c whole.id → n ≡ length b.desk.journal → m ≡ length whole.desk.journal → MatchBool (nat_eq n m) (HasTaken c whole) (HasTaken c whole → ⊥)
+pub taken_test : (c : ClusterState) (whole b : BookState) (n m : ℕ) → Some b ≡ book_at c whole.id → n ≡ length b.desk.journal
+    → m ≡ length whole.desk.journal → MatchBool (nat_eq n m) (HasTaken c whole) (HasTaken c whole → ⊥)
 taken_test c whole b n m at is are = go (nat_eq n m) refl
   where
     go : (t : Bool) → nat_eq n m ≡ t → MatchBool t (HasTaken c whole) (HasTaken c whole → ⊥)

@@ -24,7 +24,8 @@ use Rattle.q_gather.proofs.Finding.{get_take}
 -- ---- one journal after another
 
 -- the bytes at a place
-pub text_at : (js : List (Bor (List ℕ))) (k : ℕ) (d : Bor (List ℕ)) → k < length js → slice_get (map (λ (bytes : Bor (List ℕ)). bytes.now) js) k ≡ Some (get_or js k d).now
+pub text_at : (js : List (Bor (List ℕ))) (k : ℕ) (d : Bor (List ℕ)) → k < length js
+    → slice_get (map (λ (bytes : Bor (List ℕ)). bytes.now) js) k ≡ Some (get_or js k d).now
 text_at js k d less = slice_get-map (λ (bytes : Bor (List ℕ)). bytes.now) js k ∙ ap (option_map (λ (bytes : Bor (List ℕ)). bytes.now)) (slice_get-get_or js k d less)
 
 pub replayed_text : (js : List (Bor (List ℕ))) (books more : List BookState) (place : ℕ) (d : Bor (List ℕ)) (b : BookState) → place < length js → AreReplayed (take place (map (λ (bytes : Bor (List ℕ)). bytes.now) js)) books
@@ -49,7 +50,8 @@ abbrev pub NoFault : Type 0
 NoFault = (b : BookState) (e : ReplayFault) → IsJournalled b → IsFault (journal_of b) e → e ≡ replay_fault.OutOfMemory
 
 -- journals have one list of books
-books_one : OneBook → (books others : List BookState) → AllByRecursion IsJournalled books → AllByRecursion IsJournalled others → map journal_of books ≡ map journal_of others → books ≡ others
+books_one : OneBook → (books others : List BookState) → AllByRecursion IsJournalled books → AllByRecursion IsJournalled others
+    → map journal_of books ≡ map journal_of others → books ≡ others
 books_one one [] [] all more same = refl
 books_one one [] (y ∷ ys) all more same = absurd (cc)
 books_one one (x ∷ xs) [] all more same = absurd (cc)
@@ -63,7 +65,8 @@ replayed_one : OneBook → (journals : List (List ℕ)) (books others : List Boo
 replayed_one one journals books others r s = books_one one books others r.each s.each (sym r.are ∙ s.are)
 
 -- each of the journals is that of a book
-journal_at : (books : List BookState) → AllByRecursion IsJournalled books → (k : ℕ) (bytes : List ℕ) → slice_get (map journal_of books) k ≡ Some bytes → (b : BookState) × IsJournalled b × (journal_of b ≡ bytes)
+journal_at : (books : List BookState) → AllByRecursion IsJournalled books → (k : ℕ) (bytes : List ℕ) → slice_get (map journal_of books) k ≡ Some bytes
+    → (b : BookState) × IsJournalled b × (journal_of b ≡ bytes)
 journal_at [] all k bytes at = absurd (no_some bytes at)
 journal_at (x ∷ xs) all zero bytes at = (x, all.0, same_some (journal_of x) bytes at)
 journal_at (x ∷ xs) all (suc k) bytes at = journal_at xs all.1 k bytes at

@@ -70,7 +70,8 @@ entry_own b c e f =
 
 -- ---- the steps of a trace
 
-from_own : (es : List Entry) (b c : BookState) (steps : List (Step Message)) → IsTraceFrom b es steps c → (id : ℕ) → b.node.id ≡ id → (k : ℕ) (t : Step Message) → slice_get steps k ≡ Some t → AreOwn id t.gives
+from_own : (es : List Entry) (b c : BookState) (steps : List (Step Message)) → IsTraceFrom b es steps c → (id : ℕ) → b.node.id ≡ id
+    → (k : ℕ) (t : Step Message) → slice_get steps k ≡ Some t → AreOwn id t.gives
 from_own [] b c steps r id named k t h = absurd (no_some t (ap (λ (x : List (Step Message)). slice_get x k) (sym r.0) ∙ h))
 from_own (e ∷ es) b c steps r id named zero t h =
     let first : step_of b e ≡ t = same_some (step_of b e) t (ap (λ (x : List (Step Message)). slice_get x 0) (sym r.3) ∙ h) in

@@ -20,7 +20,8 @@ use Rattle.q_gather.specs.declared.fault.GatherFault.TheVariants.{Journal, IdUse
 -- ---- the start
 
 -- before any event
-gathering_starts : (books : List BookState) → AreReplays books → AreDistinct books → (version : Version) (config : Config) (founders : List ℕ) → AgreeOn books version config founders → IsGathering books (start version config founders) []
+gathering_starts : (books : List BookState) → AreReplays books → AreDistinct books → (version : Version) (config : Config) (founders : List ℕ)
+    → AgreeOn books version config founders → IsGathering books (start version config founders) []
 gathering_starts books all distinct version config founders agree =
     let t = all_traced books (λ k b at. (all k b at).0) in
     let right : AreRight books = λ k b at. (all k b at).1 in

@@ -19,14 +19,17 @@ pub listed_snoc : (es : Entries) (k : Vec ℕ Global) (n : ℕ) → listed (es +
 listed_snoc es k n = map-append (λ e. (e.0.items, e.1)) es ((k, n) ∷ [])
 
 -- what a look-up finds
-pub found_number : (bytes m : List ℕ) (es : Entries) (now : NumberList) (r : Option ℕ) → bytes ≡ m → listed es ≡ now → r ≡ lookup (λ (k : Vec ℕ Global). bytes_eq bytes k.items) es → r ≡ number_of m now
+pub found_number : (bytes m : List ℕ) (es : Entries) (now : NumberList) (r : Option ℕ) → bytes ≡ m → listed es ≡ now
+    → r ≡ lookup (λ (k : Vec ℕ Global). bytes_eq bytes k.items) es → r ≡ number_of m now
 found_number bytes m es now r spelled is at = at ∙ lookup_is bytes es ∙ (λ i. number_of (spelled i) (is i))
 
-some_number : (bytes m : List ℕ) (es : Entries) (now : NumberList) (b : Bool) → bytes ≡ m → listed es ≡ now → is_some (lookup (λ (k : Vec ℕ Global). bytes_eq bytes k.items) es) ≡ b → is_some (number_of m now) ≡ b
+some_number : (bytes m : List ℕ) (es : Entries) (now : NumberList) (b : Bool) → bytes ≡ m → listed es ≡ now
+    → is_some (lookup (λ (k : Vec ℕ Global). bytes_eq bytes k.items) es) ≡ b → is_some (number_of m now) ≡ b
 some_number bytes m es now b spelled is some = ap (λ (o : Option ℕ). is_some o) (sym (lookup_is bytes es ∙ (λ i. number_of (spelled i) (is i)))) ∙ some
 
 -- bytes that have a number
-pub added_there : (bytes m : List ℕ) (es : Entries) (now : NumberList) (n : ℕ) → bytes ≡ m → listed es ≡ now → is_some (lookup (λ (k : Vec ℕ Global). bytes_eq bytes k.items) es) ≡ true → now ≡ added m n now
+pub added_there : (bytes m : List ℕ) (es : Entries) (now : NumberList) (n : ℕ) → bytes ≡ m → listed es ≡ now
+    → is_some (lookup (λ (k : Vec ℕ Global). bytes_eq bytes k.items) es) ≡ true → now ≡ added m n now
 added_there bytes m es now n spelled is some = sym (ap (λ (b : Bool). cond b now (now ++ (m, n) ∷ [])) (some_number bytes m es now true spelled is some))
 
 -- and bytes that have none yet

@@ -17,14 +17,16 @@ use Rattle.q_gather.specs.Gathered.{AreTraces}
 
 -- ---- all entries
 
-pub from_one : (es : List Entry) (b c d : BookState) (steps others : List (Step Message)) → IsTraceFrom b es steps c → IsTraceFrom b es others d → steps ≡ others
+pub from_one : (es : List Entry) (b c d : BookState) (steps others : List (Step Message)) → IsTraceFrom b es steps c → IsTraceFrom b es others d
+    → steps ≡ others
 from_one [] b c d steps others t u = t.0 ∙ sym u.0
 from_one (e ∷ es) b c d steps others t u =
     let same = follows_one b t.0 u.0 e t.1 u.1 in
     let rest = from_one es u.0 c d t.2 u.2 (subst (λ (x : BookState). IsTraceFrom x es t.2 c) same t.4) u.4 in
     t.3 ∙ ap (λ (x : List (Step Message)). step_of b e ∷ x) rest ∙ sym u.3
 
-pub first_same : (a b : BookState) → a.id ≡ b.id → a.config ≡ b.config → (n m : NodeState) (founders : Option (List ℕ)) → IsFirst a n founders → IsFirst b m founders → n ≡ m
+pub first_same : (a b : BookState) → a.id ≡ b.id → a.config ≡ b.config → (n m : NodeState) (founders : Option (List ℕ)) → IsFirst a n founders
+    → IsFirst b m founders → n ≡ m
 first_same a b id config n m (Some ids) h k = same_answer {E = Reason} n m (sym h ∙ (λ i. node.founded (config i) (id i) ids) ∙ k)
 first_same a b id config n m None h k = h ∙ (λ i. (node.entered (config i) (id i)).0) ∙ sym k
 

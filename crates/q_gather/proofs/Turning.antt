@@ -32,7 +32,8 @@ pub call_says : {A : Type 0} (c : ClusterState) (id : ℕ) (b d : BookState) →
 call_says c id b d up next call a h = ap (λ (o : Option BookState). by_book o (λ x. lift next (call x))) up ∙ ap (lift next) h
 
 -- a book is put in
-pub put_turn : (c : ClusterState) (p : Past) (jobs : List Job) (id : ℕ) (d : BookState) (outs : List Message) → p.sent ≡ c.past.sent ++ outs → IsTurn c id d outs (With c p jobs id d)
+pub put_turn : (c : ClusterState) (p : Past) (jobs : List Job) (id : ℕ) (d : BookState) (outs : List Message) → p.sent ≡ c.past.sent ++ outs
+    → IsTurn c id d outs (With c p jobs id d)
 put_turn c p jobs id d outs sent = record {
   book = get-insert_same c.books id d;
   others = λ q away. get-insert c.books id d q ∙ ap (λ (b : Bool). cond b (Some d) (fin.get c.books q)) (ne_eqb q id away);

@@ -31,7 +31,8 @@ use Rattle.q_gather.proofs.Keeping.{trace_later}
 
 -- ---- the journal of a later book
 
-pub trace_length : (es : List Entry) (b : BookState) (steps : List (Step Message)) (c : BookState) → IsTraceFrom b es steps c → length c.desk.journal ≡ length b.desk.journal + length es
+pub trace_length : (es : List Entry) (b : BookState) (steps : List (Step Message)) (c : BookState) → IsTraceFrom b es steps c
+    → length c.desk.journal ≡ length b.desk.journal + length es
 trace_length es b steps c t = ap (λ (xs : List Entry). length xs) (trace_later es b c steps t).adds ∙ length-append b.desk.journal es
 
 get_behind : {X : Type 0} (xs ys : List X) → slice_get (xs ++ ys) (length xs) ≡ slice_get ys 0
@@ -39,7 +40,8 @@ get_behind [] ys = refl
 get_behind (x ∷ xs) ys = get_behind xs ys
 
 -- the entry behind those that were taken is the first that is left
-pub entry_behind : (es : List Entry) (b : BookState) (steps : List (Step Message)) (c : BookState) → IsTraceFrom b es steps c → slice_get c.desk.journal (length b.desk.journal) ≡ slice_get es 0
+pub entry_behind : (es : List Entry) (b : BookState) (steps : List (Step Message)) (c : BookState) → IsTraceFrom b es steps c
+    → slice_get c.desk.journal (length b.desk.journal) ≡ slice_get es 0
 entry_behind es b steps c t = ap (λ (xs : List Entry). slice_get xs (length b.desk.journal)) (trace_later es b c steps t).adds ∙ get_behind b.desk.journal es
 
 -- ---- how much is left
@@ -52,7 +54,8 @@ left_by whole (Some b) = length whole.desk.journal - length b.desk.journal
 abbrev pub left_of : ClusterState → BookState → ℕ
 left_of c whole = left_by whole (book_at c whole.id)
 
-left_there : (es : List Entry) (b : BookState) (steps : List (Step Message)) (whole : BookState) (c : ClusterState) → IsTraceFrom b es steps whole → book_at c whole.id ≡ Some b → left_of c whole ≡ length es
+left_there : (es : List Entry) (b : BookState) (steps : List (Step Message)) (whole : BookState) (c : ClusterState) → IsTraceFrom b es steps whole
+    → book_at c whole.id ≡ Some b → left_of c whole ≡ length es
 left_there es b steps whole c t at =
     let long = trace_length es b steps whole t in
     ap (left_by whole) at ∙ omega (arith, long)
@@ -87,12 +90,14 @@ module _ (books : List BookState) (c : ClusterState) (lists : List (List (Step M
   }
 
   module _ (ev : ClusterEvent) (next : IsNextOf c whole ev) where
-    entry_is : (b : BookState) → book_at c whole.id ≡ Some b → (left : List Entry) (steps : List (Step Message)) → IsTraceFrom b left steps whole → IsNextEntry c whole.id (slice_get left 0) ev
+    entry_is : (b : BookState) → book_at c whole.id ≡ Some b → (left : List Entry) (steps : List (Step Message)) → IsTraceFrom b left steps whole
+        → IsNextEntry c whole.id (slice_get left 0) ev
     entry_is b here left steps t =
         let after : IsNextAfter c whole (Some b) ev = subst (λ (o : Option BookState). IsNextAfter c whole o ev) here next in
         subst (λ (o : Option Entry). IsNextEntry c whole.id o ev) (entry_behind left b steps whole t) after
 
-    turn_there : (steps : List (Step Message)) → slice_get lists k ≡ Some steps → (b : BookState) → book_at c whole.id ≡ Some b → (left : List Entry) → IsTraceFrom b left steps whole → Turn c lists k whole ev
+    turn_there : (steps : List (Step Message)) → slice_get lists k ≡ Some steps → (b : BookState) → book_at c whole.id ≡ Some b → (left : List Entry)
+        → IsTraceFrom b left steps whole → Turn c lists k whole ev
     turn_there steps at b here [] t = absurd (entry_is b here [] steps t)
     turn_there steps at b here (e ∷ es) t =
         let is : IsEventOf c whole.id e ev = entry_is b here (e ∷ es) steps t in
@@ -111,7 +116,8 @@ module _ (books : List BookState) (c : ClusterState) (lists : List (List (Step M
         }
 
     -- the node enters
-    turn_away : (steps : List (Step Message)) → slice_get lists k ≡ Some steps → book_at c whole.id ≡ None → whole.founders ≡ None → IsTrace whole steps → Turn c lists k whole ev
+    turn_away : (steps : List (Step Message)) → slice_get lists k ≡ Some steps → book_at c whole.id ≡ None → whole.founders ≡ None
+        → IsTrace whole steps → Turn c lists k whole ev
     turn_away steps at absent none t =
         let its = u.versions k whole mine in
         let same = u.same k whole mine in
@@ -142,7 +148,8 @@ module _ (books : List BookState) (c : ClusterState) (lists : List (List (Step M
     turn_of = let p = u.at k whole mine in turn_by p.0 p.1 p.2 p.3
 
   module _ (s : Step Message) (rest : List (Step Message)) (can : CanGo c.past.sent s) where
-    next_there : (b : BookState) → book_at c whole.id ≡ Some b → (left : List Entry) → IsTraceFrom b left (s ∷ rest) whole → (ev : ClusterEvent) × IsNextOf c whole ev
+    next_there : (b : BookState) → book_at c whole.id ≡ Some b → (left : List Entry) → IsTraceFrom b left (s ∷ rest) whole
+        → (ev : ClusterEvent) × IsNextOf c whole ev
     next_there b here [] t = absurd (no_first s rest (sym t.0))
     next_there b here (e ∷ es) t =
         let first = (same_first s (step_of b e) rest t.2 t.3).0 in
@@ -209,7 +216,8 @@ step_goes books c lists u k s rest at can =
 -- ---- less is left
 
 -- after the turn, one step less of this book
-pub left_later : (c later : ClusterState) (lists : List (List (Step Message))) (k : ℕ) (whole : BookState) (ev : ClusterEvent) (t : Turn c lists k whole ev) → IsTurn c whole.id t.book t.step.gives later → left_of later whole < left_of c whole
+pub left_later : (c later : ClusterState) (lists : List (List (Step Message))) (k : ℕ) (whole : BookState) (ev : ClusterEvent)
+    (t : Turn c lists k whole ev) → IsTurn c whole.id t.book t.step.gives later → left_of later whole < left_of c whole
 left_later c later lists k whole ev t turn =
     let now : left_of later whole ≡ length t.left = left_there t.left t.book t.rest whole later t.trace turn.book in
     let before : left_of c whole ≡ suc (length t.left) = t.before in
@@ -221,7 +229,8 @@ all_left c [] = 0
 all_left c (b ∷ bs) = left_of c b + all_left c bs
 
 module _ (c later : ClusterState) where
-  same_left : (books : List BookState) → ((i : ℕ) (b : BookState) → slice_get books i ≡ Some b → left_of later b ≡ left_of c b) → all_left later books ≡ all_left c books
+  same_left : (books : List BookState) → ((i : ℕ) (b : BookState) → slice_get books i ≡ Some b → left_of later b ≡ left_of c b)
+      → all_left later books ≡ all_left c books
   same_left [] same = refl
   same_left (b ∷ bs) same =
       let head = same 0 b refl in

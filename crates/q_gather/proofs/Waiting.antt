@@ -34,20 +34,23 @@ module _ (c : ClusterState) (books : List BookState) where
       waits (sym is ∙ own.0) k b ev own.1 at next
 
   -- nothing is next of one that waits
-  pub none_waiting : (places : List ℕ) (place : ℕ) → list_any (nat_eq place) places ≡ true → AreIdle c books places → IsNextWithin c books place (place + 1) None
+  pub none_waiting : (places : List ℕ) (place : ℕ) → list_any (nat_eq place) places ≡ true → AreIdle c books places
+      → IsNextWithin c books place (place + 1) None
   none_waiting places place among idle k b ev low high at next =
       let same : place ≡ k = omega (arith, low, high) in
       idle k b ev (subst (λ (n : ℕ). list_any (nat_eq n) places ≡ true) same among) at next
 
   module _ (place : ℕ) (own : BookState) (here : slice_get books place ≡ Some own) where
-    idle_by : (old : List ℕ) → IsIdle c own → AreIdle c books old → (k : ℕ) (b : BookState) (ev : ClusterEvent) (t : Bool) → nat_eq place k ≡ t → cond t true (list_any (nat_eq k) old) ≡ true → slice_get books k ≡ Some b → IsNextOf c b ev → ⊥
+    idle_by : (old : List ℕ) → IsIdle c own → AreIdle c books old → (k : ℕ) (b : BookState) (ev : ClusterEvent) (t : Bool) → nat_eq place k ≡ t
+        → cond t true (list_any (nat_eq k) old) ≡ true → slice_get books k ≡ Some b → IsNextOf c b ev → ⊥
     idle_by old idle known k b ev true is among at next =
         let same : own ≡ b = same_some own b (sym here ∙ ap (slice_get books) (eqb-true place k is) ∙ at) in
         idle ev (subst (λ (x : BookState). IsNextOf c x ev) (sym same) next)
     idle_by old idle known k b ev false is among at next = known k b ev among at next
 
     -- one more that cannot
-    pub idle_more : (old new : List ℕ) → IsIdle c own → ((q : ℕ) → list_any (nat_eq q) new ≡ cond (nat_eq place q) true (list_any (nat_eq q) old)) → AreIdle c books old → AreIdle c books new
+    pub idle_more : (old new : List ℕ) → IsIdle c own → ((q : ℕ) → list_any (nat_eq q) new ≡ cond (nat_eq place q) true (list_any (nat_eq q) old))
+        → AreIdle c books old → AreIdle c books new
     idle_more old new idle more known k b ev among at next = idle_by old idle known k b ev (nat_eq place k) refl (sym (more k) ∙ among) at next
 
     -- ---- what is next
@@ -65,7 +68,8 @@ module _ (c : ClusterState) (books : List BookState) where
     found_at (Some ev) is = record { place = place; book = own; at = here; next = is }
 
   -- nothing, of one more
-  pub none_more : (first place : ℕ) → IsNextWithin c books first place None → IsNextWithin c books place (place + 1) None → IsNextWithin c books first (place + 1) None
+  pub none_more : (first place : ℕ) → IsNextWithin c books first place None → IsNextWithin c books place (place + 1) None
+      → IsNextWithin c books first (place + 1) None
   none_more first place before own k b ev low high at next = elim (cases_lt k place) [
     | inl less ↦ before k b ev low less at next
     | inr past ↦ own k b ev past high at next
@@ -79,7 +83,8 @@ module _ (c : ClusterState) (books : List BookState) where
   none_until first place end past none k b ev low high at next = none k b ev low (omega (arith, past, high)) at next
 
   -- of all, in a round
-  pub round : (first end : ℕ) → end ≡ length books → IsNextWithin c books first end None → (o : Option ClusterEvent) → IsNextWithin c books 0 first o → Finds (IsNextAmong c books) o
+  pub round : (first end : ℕ) → end ≡ length books → IsNextWithin c books first end None → (o : Option ClusterEvent) → IsNextWithin c books 0 first o
+      → Finds (IsNextAmong c books) o
   round first end all behind None before = λ ev n. elim (cases_lt n.place first) [
     | inl less ↦ before n.place n.book ev (omega arith) less n.at n.next
     | inr past ↦
@@ -88,6 +93,7 @@ module _ (c : ClusterState) (books : List BookState) where
   ]
   round first end all behind (Some ev) before = before
 
-  pub round_ok : {E : Type 0} (first end : ℕ) → end ≡ length books → IsNextWithin c books first end None → (r : Result (Option ClusterEvent) E) → IfOk r (IsNextWithin c books 0 first) → IfOk r (Finds (IsNextAmong c books))
+  pub round_ok : {E : Type 0} (first end : ℕ) → end ≡ length books → IsNextWithin c books first end None → (r : Result (Option ClusterEvent) E)
+      → IfOk r (IsNextWithin c books 0 first) → IfOk r (Finds (IsNextAmong c books))
   round_ok first end all behind (Ok o) before = round first end all behind o before
   round_ok first end all behind (Err e) before = tt

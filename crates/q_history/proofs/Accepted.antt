@@ -58,7 +58,8 @@ module _ (w : WorldState) (n : NodeState) (r : Outcome) where
     still_onward e still = after_onward w e id r (λ o in' k some by tagged. absurd (no_some k (sym still ∙ some)))
 
     -- a message that is delivered moves an operation that has not ended
-    delivery_onward : (e : WorldEvent) (o : Option Message) → IsLinked w → fin.get w.nodes id ≡ Some n → delivers o n ≡ Ok r → IsOnward w.ops (after w e id r).ops
+    delivery_onward : (e : WorldEvent) (o : Option Message) → IsLinked w → fin.get w.nodes id ≡ Some n → delivers o n ≡ Ok r
+        → IsOnward w.ops (after w e id r).ops
     delivery_onward e None linked at gives = absurd (no_refusal _ r gives)
     delivery_onward e (Some m) linked at gives =
         subst (λ (x : Outcome). IsOnward w.ops (after w e id x).ops) (delivers-ok m n r gives)

@@ -38,7 +38,8 @@ pub record IsAt (c : ClusterState) (id : ℕ) (f : BookState → Said) (y : Clus
   pub live : live_at c id ≡ Some book
   pub gives : f book ≡ Ok y
 
-by_book-ok : (c : ClusterState) (id : ℕ) (f : BookState → Said) (y : ClusterStep × ClusterState) (b : Option BookState) → live_at c id ≡ b → by_book b f ≡ Ok y → IsAt c id f y
+by_book-ok : (c : ClusterState) (id : ℕ) (f : BookState → Said) (y : ClusterStep × ClusterState) (b : Option BookState) → live_at c id ≡ b
+    → by_book b f ≡ Ok y → IsAt c id f y
 by_book-ok c id f y (Some b) live h = record { book = b; live = live; gives = h }
 by_book-ok c id f y None live h = absurd (no_refusal _ y h)
 

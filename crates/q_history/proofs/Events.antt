@@ -44,7 +44,8 @@ module _ (c : ClusterState) (kept : IsKept c) where
   w = world_in c
 
   -- the book that is there keeps what another keeps
-  keeps_here : (id : ℕ) (b later : BookState) → fin.get c.books id ≡ Some b → Keeps b.desk later.desk → (x : BookState) → fin.get c.books id ≡ Some x → Keeps x.desk later.desk
+  keeps_here : (id : ℕ) (b later : BookState) → fin.get c.books id ≡ Some b → Keeps b.desk later.desk → (x : BookState) → fin.get c.books id ≡ Some x
+      → Keeps x.desk later.desk
   keeps_here id b later at keeps x here = subst (λ (z : BookState). Keeps z.desk later.desk) (same_some b x (sym at ∙ here)) keeps
 
   -- the node is put in again as it was
@@ -117,9 +118,11 @@ module _ (c : ClusterState) (kept : IsKept c) where
     lawful : IsLawful (world_of (fin.insert (nodes_of c.books) id r.node) (past_in c p))
     onward : IsOnward c.past.ops p.ops
     begun : (a : BegunOp) → r.begun ≡ Some a → (o : Op) × Among o p.ops × (o.node ≡ id) × (o.tag ≡ a.tag)
-    returned : (x : Ended) (view : ViewMap) → r.ended ≡ Some x → x.what ≡ op_result.Returned view → HasReturned (world_of (fin.insert (nodes_of c.books) id r.node) (past_in c p)) (world.clock w) id x.tag view
+    returned : (x : Ended) (view : ViewMap) → r.ended ≡ Some x → x.what ≡ op_result.Returned view
+        → HasReturned (world_of (fin.insert (nodes_of c.books) id r.node) (past_in c p)) (world.clock w) id x.tag view
 
-  acted_by : (id : ℕ) (b : BookState) → live_at c id ≡ Some b → (o : Option WorldEvent) (r : world.Outcome) → Acted id c.past.sent o b.node r → IsActed id (ledger c.past id o r) r
+  acted_by : (id : ℕ) (b : BookState) → live_at c id ≡ Some b → (o : Option WorldEvent) (r : world.Outcome) → Acted id c.past.sent o b.node r
+      → IsActed id (ledger c.past id o r) r
   acted_by id b live None r h =
       subst (IsActed id c.past) h
       (record {

@@ -44,14 +44,18 @@ module _ (version : Version) (config : Config) (ids : List ℕ) where
     messages = All-from_recursion (Fits version) [] tt;
   }
 
-  founders_are : (b : Bool) → are_founders ids ≡ b → (let r : Result ClusterState Reason = cond b (Ok (start version config ids)) (Err reasons.BadFounders) in r) ≡ Ok (start version config ids) → are_founders ids ≡ true
+  founders_are : (b : Bool) → are_founders ids ≡ b
+      → (let r : Result ClusterState Reason = cond b (Ok (start version config ids)) (Err reasons.BadFounders) in r) ≡ Ok (start version config ids)
+      → are_founders ids ≡ true
   founders_are true is h = is
   founders_are false is h = absurd (no_refusal _ _ h)
 
-  pub every_are : (es : List ClusterEvent) (c : ClusterState) → started version config ids ≡ Ok (start version config ids) → Reaches (start version config ids) es c → AreBooks c
+  pub every_are : (es : List ClusterEvent) (c : ClusterState) → started version config ids ≡ Ok (start version config ids)
+      → Reaches (start version config ids) es c → AreBooks c
   every_are es c begun r = run_books es (start version config ids) c (start_kept version config ids) (start_books (founders_are (are_founders ids) refl begun)) r
 
-  pub every_book : (es : List ClusterEvent) (c : ClusterState) → started version config ids ≡ Ok (start version config ids) → Reaches (start version config ids) es c → BooksAreReplays c
+  pub every_book : (es : List ClusterEvent) (c : ClusterState) → started version config ids ≡ Ok (start version config ids)
+      → Reaches (start version config ids) es c → BooksAreReplays c
   every_book es c begun r id b at =
       ((run_kept es (start version config ids) c (start_kept version config ids) r).kept.headed id b at, (every_are es c begun r).replays id b at)
 
@@ -61,6 +65,7 @@ history_are c h = every_are c.version c.past.config c.past.founders h.0 c h.2 h.
 pub history_books : (c : ClusterState) → IsHistory c → BooksAreReplays c
 history_books c h = every_book c.version c.past.config c.past.founders h.0 c h.2 h.1
 
-pub every_message : (version : Version) (config : Config) (ids : List ℕ) (es : List ClusterEvent) (c : ClusterState) → started version config ids ≡ Ok (start version config ids) → Reaches (start version config ids) es c → Fit version c.past.sent
+pub every_message : (version : Version) (config : Config) (ids : List ℕ) (es : List ClusterEvent) (c : ClusterState)
+    → started version config ids ≡ Ok (start version config ids) → Reaches (start version config ids) es c → Fit version c.past.sent
 every_message version config ids es c begun r =
     subst (λ (v : Version). Fit v c.past.sent) (run_kept es (start version config ids) c (start_kept version config ids) r).version (every_are version config ids es c begun r).messages

@@ -80,7 +80,8 @@ module _ (version : Version) (config : Config) (ids : List ℕ) where
 
 -- ---- what is said of the world
 
-pub every_world : (version : Version) (config : Config) (ids : List ℕ) (es : List ClusterEvent) (c : ClusterState) → Reaches (start version config ids) es c → world.IsHistory (world_in c)
+pub every_world : (version : Version) (config : Config) (ids : List ℕ) (es : List ClusterEvent) (c : ClusterState)
+    → Reaches (start version config ids) es c → world.IsHistory (world_in c)
 every_world version config ids es c r = (run_kept es (start version config ids) c (start_kept version config ids) r).kept.world.history
 
 -- ---- what is said of answers
@@ -117,13 +118,16 @@ kept_true c kept node k b q view ran at here is = record {
   returned = kept_returned c kept node k b q view at here (ap view_of is);
 }
 
-pub every_true : (version : Version) (config : Config) (ids : List ℕ) (es : List ClusterEvent) (c : ClusterState) → Reaches (start version config ids) es c → AnswersAreTrue c
+pub every_true : (version : Version) (config : Config) (ids : List ℕ) (es : List ClusterEvent) (c : ClusterState)
+    → Reaches (start version config ids) es c → AnswersAreTrue c
 every_true version config ids es c r = kept_true c (run_kept es (start version config ids) c (start_kept version config ids) r).kept
 
-pub every_returned : (version : Version) (config : Config) (ids : List ℕ) (es : List ClusterEvent) (c : ClusterState) → Reaches (start version config ids) es c → ViewsAreReturned c
+pub every_returned : (version : Version) (config : Config) (ids : List ℕ) (es : List ClusterEvent) (c : ClusterState)
+    → Reaches (start version config ids) es c → ViewsAreReturned c
 every_returned version config ids es c r = kept_returned c (run_kept es (start version config ids) c (start_kept version config ids) r).kept
 
-pub every_stays : (version : Version) (config : Config) (ids : List ℕ) (es fs : List ClusterEvent) (c d : ClusterState) → Reaches (start version config ids) es c → Reaches c fs d → AnswersStay c d
+pub every_stays : (version : Version) (config : Config) (ids : List ℕ) (es fs : List ClusterEvent) (c d : ClusterState)
+    → Reaches (start version config ids) es c → Reaches c fs d → AnswersStay c d
 every_stays version config ids es fs c d r s node k x q view ran at here is =
     let kept = (run_kept es (start version config ids) c (start_kept version config ids) r).kept in
     let y = (run_kept fs c d kept s).stays node x at in

@@ -64,7 +64,8 @@ module _ (version : Version) (config : Config) (ids : List ℕ) where
   comes_next p qs books id false is h = inr h
 
   -- each founder is there
-  pub founder_there : (qs : List ℕ) (books : BookMap) (id : ℕ) → Comes books qs id → (b : BookState) × (fin.get (books_with version config ids books qs) id ≡ Some b)
+  pub founder_there : (qs : List ℕ) (books : BookMap) (id : ℕ) → Comes books qs id
+      → (b : BookState) × (fin.get (books_with version config ids books qs) id ≡ Some b)
   founder_there [] books id (inl h) = h
   founder_there [] books id (inr h) = let none : false ≡ true = sym (set.contains-empty nat_cmp id) ∙ h in absurd (cc)
   founder_there (p ∷ qs) books id (inl h) = founder_there qs (fin.insert books p (founder_book p)) id (inl (insert_has books p (founder_book p) id h.0 (id == p) refl h.1))

@@ -17,7 +17,8 @@ reaches_on (x ∷ es) fs c d e r s = (r.0, r.1, r.2, reaches_on es fs r.1 d e r.
 pub reaches_one : (c d : ClusterState) (e : ClusterEvent) (told : ClusterStep) → Follows c e told d → Reaches c (e ∷ []) d
 reaches_one c d e told f = (told, d, f, refl)
 
-pub reaches_next : (es : List ClusterEvent) (c d : ClusterState) (e : ClusterEvent) (told : ClusterStep) (f : ClusterState) → Reaches c es d → Follows d e told f → Reaches c (es ++ e ∷ []) f
+pub reaches_next : (es : List ClusterEvent) (c d : ClusterState) (e : ClusterEvent) (told : ClusterStep) (f : ClusterState) → Reaches c es d
+    → Follows d e told f → Reaches c (es ++ e ∷ []) f
 reaches_next es c d e told f r s = reaches_on es (e ∷ []) c d f r (reaches_one d f e told s)
 
 pub history_kept : (c : ClusterState) → IsHistory c → IsKept c

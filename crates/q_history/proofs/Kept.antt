@@ -99,7 +99,8 @@ known_on old new j stays k =
     record { book = s.0; at = s.1; certified = s.2.programs j.program j.certified k.certified }
 
 -- a book is headed alike in each cluster of the same founders
-pub head_in : (c d : ClusterState) (id : ℕ) (b : BookState) → d.version ≡ c.version → d.past.config ≡ c.past.config → d.past.founders ≡ c.past.founders → IsHeaded c id b → IsHeaded d id b
+pub head_in : (c d : ClusterState) (id : ℕ) (b : BookState) → d.version ≡ c.version → d.past.config ≡ c.past.config
+    → d.past.founders ≡ c.past.founders → IsHeaded c id b → IsHeaded d id b
 head_in c d id b version config founders h = record {
   version = h.version ∙ sym version;
   id = h.id;
@@ -234,7 +235,8 @@ module _ (c : ClusterState) (kept : IsKept c) (p : Past) (id : ℕ) (b : BookSta
       put c.jobs lawful onward head new keeps (λ k j at. known_on c.books (fin.insert c.books id b) j (put_stays keeps) (kept.jobs k j at))
 
 -- a job that is handed out is one more
-pub which_job : (jobs : List Job) (o : Option Job) (number : ℕ) (j : Job) → slice_get (with_job jobs o) number ≡ Some j → (slice_get jobs number ≡ Some j) ⊎ (o ≡ Some j)
+pub which_job : (jobs : List Job) (o : Option Job) (number : ℕ) (j : Job) → slice_get (with_job jobs o) number ≡ Some j
+    → (slice_get jobs number ≡ Some j) ⊎ (o ≡ Some j)
 which_job jobs None number j at = inl at
 which_job jobs (Some i) number j at = elim (get_snoc jobs i number j at) [
   | inl old ↦ inl old

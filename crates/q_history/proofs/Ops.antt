@@ -45,12 +45,14 @@ open_returns o v running h =
     let k : None ≡ Some v = sym (ap (λ (x : Option ℕ). returned_by (kind_of o.session) x (stored o.session)) running ∙ none_returned (kind_of o.session) (stored o.session)) ∙ h in
     absurd (cc)
 
-pub insert_has : {X : Type 0} (m : fin.FinMap nat_cmp X) (k : ℕ) (v : X) (q : ℕ) (x : X) (b : Bool) → (q == k) ≡ b → fin.get m q ≡ Some x → (y : X) × (fin.get (fin.insert m k v) q ≡ Some y)
+pub insert_has : {X : Type 0} (m : fin.FinMap nat_cmp X) (k : ℕ) (v : X) (q : ℕ) (x : X) (b : Bool) → (q == k) ≡ b → fin.get m q ≡ Some x
+    → (y : X) × (fin.get (fin.insert m k v) q ≡ Some y)
 insert_has m k v q x true is at = (v, get-insert m k v q ∙ ap (λ (b : Bool). cond b (Some v) (fin.get m q)) is)
 insert_has m k v q x false is at = (x, get-insert m k v q ∙ ap (λ (b : Bool). cond b (Some v) (fin.get m q)) is ∙ at)
 
 module _ {X : Type 0} (m : fin.FinMap nat_cmp X) (k : ℕ) (v : X) (P : ℕ → X → Type 0) where
-  each_by : (q : ℕ) (x : X) (here : Bool) → (q == k) ≡ here → P k v → ((p : ℕ) (y : X) → fin.get m p ≡ Some y → P p y) → cond here (Some v) (fin.get m q) ≡ Some x → P q x
+  each_by : (q : ℕ) (x : X) (here : Bool) → (q == k) ≡ here → P k v → ((p : ℕ) (y : X) → fin.get m p ≡ Some y → P p y)
+      → cond here (Some v) (fin.get m q) ≡ Some x → P q x
   each_by q x true is new old at = subst (λ (p : ℕ). P p x) (sym (eqb-true q k is)) (subst (P k) (same_some v x at) new)
   each_by q x false is new old at = old q x at
 
@@ -67,7 +69,8 @@ pub insert_same : {X : Type 0} (m : fin.FinMap nat_cmp X) (k : ℕ) (v : X) → 
 insert_same m k v at = fin.same_map nat_cmp_total fin.nat_cmp-IsAntisymmetric _ m (λ q. get-insert m k v q ∙ there m k q (Some v) (q == k) refl at)
 
 module _ (w : WorldState) (e : WorldEvent) (q : ℕ) (r : Outcome) where
-  kept_view : (p : Option Progress) (o : Op) → ((k : Progress) → p ≡ Some k → o.node ≡ q → o.tag ≡ k.tag → o.end ≡ None) → (v : ViewMap) → returned o ≡ Some v → returned (advanced q (clock w) p o) ≡ Some v
+  kept_view : (p : Option Progress) (o : Op) → ((k : Progress) → p ≡ Some k → o.node ≡ q → o.tag ≡ k.tag → o.end ≡ None) → (v : ViewMap)
+      → returned o ≡ Some v → returned (advanced q (clock w) p o) ≡ Some v
   kept_view None o running v h = h
   kept_view (Some p) o running v h = advance_op q (clock w) p o (λ (y : Op). returned y ≡ Some v) (λ by tagged. absurd (open_returns o v (running p refl by tagged) h)) (λ _. h)
 
@@ -83,5 +86,6 @@ module _ (w : WorldState) (e : WorldEvent) (q : ℕ) (r : Outcome) where
       }
 
   -- an event that moves only operations that have not ended
-  pub after_onward : ((o : Op) → Among o w.ops → (k : Progress) → r.progress ≡ Some k → o.node ≡ q → o.tag ≡ k.tag → o.end ≡ None) → IsOnward w.ops (after w e q r).ops
+  pub after_onward : ((o : Op) → Among o w.ops → (k : Progress) → r.progress ≡ Some k → o.node ≡ q → o.tag ≡ k.tag → o.end ≡ None)
+      → IsOnward w.ops (after w e q r).ops
   after_onward running o in' = later o in' (running o in')

@@ -47,7 +47,8 @@ pub nodes-empty : nodes_of fin.empty ≡ fin.empty
 nodes-empty = same_nodes _ _ (λ q. get-nodes fin.empty q ∙ ap (option_map node_of) (fin.get-empty nat_cmp q) ∙ sym (fin.get-empty nat_cmp q))
 
 -- a book that is put in puts in its node
-pub world_put : (c : ClusterState) (p : Past) (jobs : List Job) (id : ℕ) (b : BookState) → world_of (fin.insert (nodes_of c.books) id b.node) p ≡ world_in (put c p jobs id b)
+pub world_put : (c : ClusterState) (p : Past) (jobs : List Job) (id : ℕ) (b : BookState)
+    → world_of (fin.insert (nodes_of c.books) id b.node) p ≡ world_in (put c p jobs id b)
 world_put c p jobs id b = ap (λ (m : fin.FinMap nat_cmp NodeState). world_of m p) (sym (nodes-insert c.books id b))
 
 if_gone : (gone : Bool) (b : BookState) → (let o : Option NodeState = cond gone None (Some b.node) in o) ≡ option_map node_of (cond gone None (Some b))

@@ -17,7 +17,8 @@ pub whole_of : (a b : Option (List ℕ)) (n : ℕ) (xs : List ℕ) → length xs
 whole_of a b n xs h p = subst (Consumes a b) (take_all n xs h) p
 
 -- a number's bytes were all read
-pub number_read : (width m n : ℕ) (a b : Option (List ℕ)) (bytes : List ℕ) → length bytes ≤ n → Consumes a b (take n bytes) → number_bytes width m ≡ bytes → Consumes a b (number_bytes width m)
+pub number_read : (width m n : ℕ) (a b : Option (List ℕ)) (bytes : List ℕ) → length bytes ≤ n → Consumes a b (take n bytes)
+    → number_bytes width m ≡ bytes → Consumes a b (number_bytes width m)
 number_read width m n a b bytes all read is = subst (Consumes a b) (sym is) (whole_of a b n bytes all read)
 
 pub taken_length : (n : ℕ) (xs ys : List ℕ) → length xs ≡ length (take n ys) → n ≤ length ys → length xs ≡ n
@@ -29,11 +30,13 @@ front_of n xs rest is = subst (λ (k : ℕ). take k (xs ++ rest) ≡ xs) is (tak
 
 -- ---- reads that fail
 
-pub next_failed : {E : Type 0} (P : E → Type 0) (version : Version) (front : List ℕ) (a b : Option (List ℕ)) (r : Result Incoming E) → IsErrAnd r P → (part : List ℕ) × Consumes a b part → GetsNext version front a b r
+pub next_failed : {E : Type 0} (P : E → Type 0) (version : Version) (front : List ℕ) (a b : Option (List ℕ)) (r : Result Incoming E) → IsErrAnd r P
+    → (part : List ℕ) × Consumes a b part → GetsNext version front a b r
 next_failed P version front a b (Ok n) h p = absurd h
 next_failed P version front a b (Err e) h p = p
 
-pub blob_failed : {E : Type 0} (P : E → Type 0) (len : ℕ) (a b : Option (List ℕ)) (r : Result ReadBlob E) → IsErrAnd r P → (part : List ℕ) × Consumes a b part → GetsBlob len a b r
+pub blob_failed : {E : Type 0} (P : E → Type 0) (len : ℕ) (a b : Option (List ℕ)) (r : Result ReadBlob E) → IsErrAnd r P
+    → (part : List ℕ) × Consumes a b part → GetsBlob len a b r
 blob_failed P len a b (Ok n) h p = absurd h
 blob_failed P len a b (Err e) h p = p
 
@@ -42,18 +45,24 @@ then_failed a b c bytes first failed = (bytes ++ failed.0, Consumes-trans a b c 
 
 -- ---- what was got
 
-pub got_some : {A : Type 0} (bytes_of : A → List ℕ) (len : ℕ) (a b : Option (List ℕ)) (o : Option A) (x : A) → o ≡ Some x → Got bytes_of len a b o → Consumes a b (bytes_of x)
+pub got_some : {A : Type 0} (bytes_of : A → List ℕ) (len : ℕ) (a b : Option (List ℕ)) (o : Option A) (x : A) → o ≡ Some x → Got bytes_of len a b o
+    → Consumes a b (bytes_of x)
 got_some bytes_of len a b o x is h = subst (Got bytes_of len a b) is h
 
-pub got_none : {A : Type 0} (bytes_of : A → List ℕ) (len : ℕ) (a b : Option (List ℕ)) (o : Option A) → o ≡ None → Got bytes_of len a b o → (part : List ℕ) × Consumes a b part × (length part < len) × IsAtEnd b
+pub got_none : {A : Type 0} (bytes_of : A → List ℕ) (len : ℕ) (a b : Option (List ℕ)) (o : Option A) → o ≡ None → Got bytes_of len a b o
+    → (part : List ℕ) × Consumes a b part × (length part < len) × IsAtEnd b
 got_none bytes_of len a b o is h = subst (Got bytes_of len a b) is h
 
 -- a number of four bytes was got, and what comes behind it failed
-pub short_then_failed : {E : Type 0} (P : E → Type 0) (version : Version) (front : List ℕ) (a b c : Option (List ℕ)) (r : Result Incoming E) (o : Option ℕ) (n : ℕ) → IsErrAnd r P → o ≡ Some n → Got (number_bytes 4) 4 a b o → (part : List ℕ) × Consumes b c part → GetsNext version front a c r
+pub short_then_failed : {E : Type 0} (P : E → Type 0) (version : Version) (front : List ℕ) (a b c : Option (List ℕ)) (r : Result Incoming E)
+    (o : Option ℕ) (n : ℕ) → IsErrAnd r P → o ≡ Some n → Got (number_bytes 4) 4 a b o → (part : List ℕ) × Consumes b c part
+    → GetsNext version front a c r
 short_then_failed P version front a b c r o n h is got failed = next_failed P version front a c r h (then_failed a b c (number_bytes 4 n) (got_some (number_bytes 4) 4 a b o n is got) failed)
 
 -- the same of a byte
-pub byte_then_failed : {E : Type 0} (P : E → Type 0) (version : Version) (front : List ℕ) (a b c : Option (List ℕ)) (r : Result Incoming E) (o : Option ℕ) (n : ℕ) → IsErrAnd r P → o ≡ Some n → Got (λ (b : ℕ). b ∷ []) 1 a b o → (part : List ℕ) × Consumes b c part → GetsNext version front a c r
+pub byte_then_failed : {E : Type 0} (P : E → Type 0) (version : Version) (front : List ℕ) (a b c : Option (List ℕ)) (r : Result Incoming E)
+    (o : Option ℕ) (n : ℕ) → IsErrAnd r P → o ≡ Some n → Got (λ (b : ℕ). b ∷ []) 1 a b o → (part : List ℕ) × Consumes b c part
+    → GetsNext version front a c r
 byte_then_failed P version front a b c r o n h is got failed = next_failed P version front a c r h (then_failed a b c (n ∷ []) (got_some (λ (b : ℕ). b ∷ []) 1 a b o n is got) failed)
 
 -- the next byte, where it has this value
@@ -89,7 +98,8 @@ ended_at version a b c place front first allowed whole consumed ended =
 
 -- ---- what is behind some bytes
 
-pub next_behind : {E : Type 0} (version : Version) (front more : List ℕ) (a b c : Option (List ℕ)) (r : Result Incoming E) → Consumes a b more → GetsNext version (front ++ more) b c r → GetsNext version front a c r
+pub next_behind : {E : Type 0} (version : Version) (front more : List ℕ) (a b c : Option (List ℕ)) (r : Result Incoming E) → Consumes a b more
+    → GetsNext version (front ++ more) b c r → GetsNext version front a c r
 next_behind version front more a b c (Ok n) consumed h =
     let (bytes, rest, is, end) = h in
     (more ++ bytes, Consumes-trans a b c more bytes consumed rest, subst (λ (l : List ℕ). IsNext version l n) (append_assoc front more bytes) is, end)
@@ -100,13 +110,16 @@ next_behind version front more a b c (Err e) consumed h = (more ++ h.0, Consumes
 abbrev pub to_text : List ℕ → List ℕ
 to_text text = 1 ∷ number_bytes 4 (length text) ++ text
 
-pub blob_cut : (len : ℕ) (a b : Option (List ℕ)) (p : ReadBlob) → p ≡ piece.Cut → GotBlob len a b p → (part : List ℕ) × Consumes a b part × (length part < len) × IsAtEnd b
+pub blob_cut : (len : ℕ) (a b : Option (List ℕ)) (p : ReadBlob) → p ≡ piece.Cut → GotBlob len a b p
+    → (part : List ℕ) × Consumes a b part × (length part < len) × IsAtEnd b
 blob_cut len a b p is h = subst (GotBlob len a b) is h
 
-pub blob_lost : (len : ℕ) (a b : Option (List ℕ)) (p : ReadBlob) → p ≡ piece.Lost → GotBlob len a b p → (bytes : List ℕ) × Consumes a b bytes × (length bytes ≡ len)
+pub blob_lost : (len : ℕ) (a b : Option (List ℕ)) (p : ReadBlob) → p ≡ piece.Lost → GotBlob len a b p
+    → (bytes : List ℕ) × Consumes a b bytes × (length bytes ≡ len)
 blob_lost len a b p is h = subst (GotBlob len a b) is h
 
-pub blob_whole : (len : ℕ) (a b : Option (List ℕ)) (p : ReadBlob) (bytes : List ℕ) → p ≡ piece.Whole bytes → GotBlob len a b p → Consumes a b bytes × (length bytes ≡ len)
+pub blob_whole : (len : ℕ) (a b : Option (List ℕ)) (p : ReadBlob) (bytes : List ℕ) → p ≡ piece.Whole bytes → GotBlob len a b p
+    → Consumes a b bytes × (length bytes ≡ len)
 blob_whole len a b p bytes is h = subst (GotBlob len a b) is h
 
 -- the notes behind a text

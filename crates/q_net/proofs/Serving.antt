@@ -17,10 +17,9 @@ use Rattle.q_net.specs.declared.served.Registered.TheVariants as registered
 use Rattle.q_net.specs.declared.incoming.Incoming.{Incoming}
 use Rattle.q_net.specs.declared.incoming.Incoming.TheVariants as next
 use Rattle.q_net.specs.Requests.{spelling, spellings, IsRequest, IsGot}
-use Rattle.q_net.specs.Replies.{reply_bytes, Replies}
+use Rattle.q_net.specs.Replies.{reply_bytes, Replies, stop_number}
 use Rattle.std.specs.Prelude.{IsErrAnd}
 use Rattle.q_outside.specs.declared.fault.TransportFailed.{TransportFailed}
-use Rattle.q_net.specs.Replies.{stop_number}
 use Rattle.q_net.specs.Serves.{Serves, IsAtHand, IsBroken, IsServed, IsTaken, IsTurn, IsEnd, last_reply}
 
 -- So far all is served, and nothing else was read or written.

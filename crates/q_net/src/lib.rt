@@ -1,14 +1,15 @@
 //! Client requests to a book, from any reader to any writer.
 //!
-//! A request begins with the byte of its kind. Numbers have their lowest byte first.
+//! A request begins with the byte of its kind. Numbers have their lowest byte first. The kinds, each with what stands
+//! behind that byte, and with the bytes of the reply:
 //!
-//! | Kind | Behind it | Reply |
-//! |---|---|---|
-//! | 1 register | a text's length in four bytes, the text, the notes' in four, the notes | 0, the program in four |
-//! | 2 ask | the program's number in four bytes, the start in eight | 0, the query's number in eight bytes |
-//! | 3 store | 48 bytes | 0, the operation's tag in eight bytes |
-//! | 4 answer | the query's number in eight bytes | 0 0 if it has none; else 0 1, accumulator, steps, in eight each |
-//! | 5 store | the length of a value in one byte, the value | as for 3 |
+//! - 1, register: the length of a text in four bytes, the text, the length of notes in four bytes, and the notes. Reply:
+//!   0, and the program's number in four bytes.
+//! - 2, ask: the program's number in four bytes, and the start in eight. Reply: 0, and the query's number in eight bytes.
+//! - 3, store: 48 bytes. Reply: 0, and the operation's tag in eight bytes.
+//! - 4, answer: the query's number in eight bytes. Reply: 0 0 where it has none yet; else 0 1, the accumulator and the
+//!   steps, eight bytes each.
+//! - 5, store: the length of a value in one byte, and the value. Reply: as for 3.
 //!
 //! A request that is refused is replied to by one byte, the number of the refusal. A registration is decoded, its notes
 //! are read and checked against the text, and only then the book is asked. Notes have the form of the book's version,

@@ -3,14 +3,16 @@
 //! [`run_node`] runs one over any socket, door, journal's file, console and output; [`run_file`] is the command `node`,
 //! which opens them by the words of the command line.
 //!
-//! | Thread | Waits for | Does |
-//! |---|---|---|
-//! | hearing | a datagram | takes its message under the lock, settles, and sends with the lock free |
-//! | asking again | a tenth of a second | sends again what open operations wait for; watches the book's limits |
-//! | runners | jobs | run them; after each the node takes the result, settles and sends |
-//! | the door | clients | starts a thread for each, 64 at most |
-//! | each client | a request | reads it; takes it under the lock, settles, sends; replies when it is due |
-//! | the caller's | a line of the console | `status`, `leave`, `end` |
+//! Its threads, each with what it waits for and what it does then:
+//!
+//! - hearing: a datagram. It takes the message under the lock, settles, and sends with the lock free.
+//! - asking again: a tenth of a second. What open operations still wait for goes again, and it watches the limits of
+//!   the book.
+//! - the runners: jobs. They run them; after each the node takes the result, settles and sends.
+//! - the door: clients. It starts a thread for each, 64 at most.
+//! - one for each client: a request. It reads it without the lock; takes it under the lock, settles, and sends; and
+//!   replies when the reply is due.
+//! - the caller's: a line of the console, `status`, `leave` or `end`.
 //!
 //! All that may change the book ends with settling (`q_kept`): no message leaves before the journal that gave it is
 //! written, and no reply is given before either. After a write that failed the node is mute, which for the others is a

@@ -16,7 +16,7 @@ use Rattle.q_history.proofs.Lists.{same_some}
 use Rattle.q_script.specs.declared.call_line.CallLine.TheVariants as line
 use Rattle.q_nodes.specs.Found.{IsOnly}
 use Rattle.q_nodes.specs.Faults.{no_such_node}
-use Rattle.q_sim.specs.Simulates.{program_id}
+use Rattle.q_table.specs.Programs.{program_id}
 use Rattle.q_nodes.specs.Lines.{IsNode, CallsAt, Has, IsProgramOf, IsQueryOf, IsStoreOf}
 use Rattle.q_nodes.specs.declared.outcome.Outcome.{Outcome}
 use Rattle.q_nodes.specs.declared.outcome.Outcome.TheVariants as outcome

@@ -19,7 +19,7 @@ use Rattle.q_history.proofs.Lists.{same_some, no_some}
 use Rattle.q_gather.specs.Gather.{GathersBooks}
 use Rattle.q_script.specs.declared.call_line.CallLine.TheVariants as line
 use Rattle.q_nodes.specs.Headline.{AnswersAreTrue, IsTrueAnswer}
-use Rattle.q_sim.specs.Simulates.{program_id}
+use Rattle.q_table.specs.Programs.{program_id}
 use Rattle.q_nodes.specs.Lines.{IsQueryOf, IsTold}
 use Rattle.q_nodes.specs.Runs.{IsClusterOf, IsFoundedBy, IsWritten}
 use Rattle.q_nodes.specs.declared.report.Report.TheVariants.{Asked}

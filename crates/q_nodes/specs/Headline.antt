@@ -8,7 +8,7 @@ use Rattle.q_book.specs.State.{BookState}
 use Rattle.q_history.specs.Headline.{ClusterState}
 use Rattle.q_history.specs.Recorded.{HasTrueAnswer}
 use Rattle.q_script.specs.declared.call_line.CallLine.TheVariants as line
-use Rattle.q_sim.specs.Simulates.{program_id}
+use Rattle.q_table.specs.Programs.{program_id}
 use Rattle.q_nodes.specs.Books.{AreBooksOf}
 use Rattle.q_nodes.specs.Lines.{texts_of}
 use Rattle.q_nodes.specs.Runs.{IsClusterOf}

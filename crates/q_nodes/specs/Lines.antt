@@ -21,7 +21,7 @@ use Rattle.q_script.specs.declared.call_line.CallLine.TheVariants as line
 use Rattle.q_script.specs.Line.{node_of}
 use Rattle.q_told.specs.Printing.{told_lines}
 use Rattle.q_told.specs.Programs.{IsProgram, IsRefusal}
-use Rattle.q_sim.specs.Simulates.{program_id}
+use Rattle.q_table.specs.Programs.{program_id}
 use Rattle.q_told.specs.declared.refusal.Refusal.{Refusal}
 use Rattle.q_nodes.specs.Books.{BeginsQuery, BeginsStore, Registers, own_book, recorded}
 use Rattle.q_nodes.specs.Faults.{no_such_node, text}

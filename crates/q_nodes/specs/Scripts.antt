@@ -5,7 +5,7 @@ use Rattle.q_script.specs.declared.founding.Founding.{Founding}
 use Rattle.q_script.specs.declared.script.ScriptFault.{ScriptFault}
 use Rattle.q_script.specs.Line.{SpellsCall}
 use Rattle.q_script.specs.Script.{IsFaultOf, IsScriptOf}
-use Rattle.q_sim.specs.Simulates.{HasFractions, config_of}
+use Rattle.sc_members.specs.Members.{AreFractions, config_of}
 use Rattle.q_told.specs.declared.refusal.Refusal.TheVariants as refusal
 use Rattle.q_nodes.specs.Faults.{bad_founders}
 use Rattle.q_nodes.specs.declared.fault.ClusterRunFault.{ClusterRunFault}
@@ -14,8 +14,8 @@ use Rattle.q_nodes.specs.declared.script.ClusterScript.{ClusterScript}
 
 -- the founding has good fractions and 1 to 16 nodes, and the script has them
 pub record Fits (founding : Founding) (script : ClusterScript) : Type 0 where
-  pub fractions : HasFractions founding
-  pub config : script.config ≡ config_of founding
+  pub fractions : AreFractions founding.beta founding.gamma
+  pub config : script.config ≡ config_of founding.beta founding.gamma
   pub nodes : script.nodes ≡ founding.count
   pub some : 1 ≤ founding.count
   pub few : founding.count ≤ 16
@@ -35,9 +35,9 @@ bad_fraction = Script (refusal.Fraction (record {}))
 -- what is first wrong with a founding: its fractions, more than 16 nodes, or none
 abbrev pub IsUnfit : Founding → ClusterRunFault → Type 0
 IsUnfit f e =
-    ((e ≡ bad_fraction) × ¬ (HasFractions f))
-    ⊎ (((e ≡ BadCount) × HasFractions f × (16 < f.count))
-    ⊎ ((e ≡ bad_founders) × HasFractions f × (f.count ≡ 0)))
+    ((e ≡ bad_fraction) × ¬ (AreFractions f.beta f.gamma))
+    ⊎ (((e ≡ BadCount) × AreFractions f.beta f.gamma × (16 < f.count))
+    ⊎ ((e ≡ bad_founders) × AreFractions f.beta f.gamma × (f.count ≡ 0)))
 
 -- what is first wrong with a text: one of its lines, and then its founding
 abbrev pub IsRefused : List ℕ → ClusterRunFault → Type 0

@@ -21,7 +21,6 @@ use bq_insn::encode;
 use q_cluster::Cluster;
 use q_script::CallLine;
 use q_session::{Phase, Ran};
-use q_sim::program_id;
 use q_table::{Program, ProgramId};
 use sc_node::OperationKind;
 use sc_world::Op;
@@ -177,7 +176,13 @@ fn find_query(cluster: &Cluster, line: &CallLine, query: usize) -> Option<Report
             node,
             program,
             start,
-        } => match query_of(cluster, *node, query, program_id(*program), *start) {
+        } => match query_of(
+            cluster,
+            *node,
+            query,
+            ProgramId::of_number(*program),
+            *start,
+        ) {
             Some(phase) => Some(Report::Asked {
                 node: *node,
                 query,

@@ -14,7 +14,7 @@ use crate::script::is_node;
 use q_held::LiveNode;
 use q_outside::Transport;
 use q_script::CallLine;
-use q_sim::program_id;
+use q_table::ProgramId;
 use q_told::certified_code;
 use std::alloc::Global;
 use std::sync::{Mutex, Wait};
@@ -85,7 +85,7 @@ fn run_line<R: Wait>(
             program,
             start,
         } => {
-            let program = program_id(*program);
+            let program = ProgramId::of_number(*program);
             let start = *start;
             call_at(rt, locks, nodes, *node, &NodeCall::Ask { program, start })
         }

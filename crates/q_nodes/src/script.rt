@@ -1,7 +1,6 @@
 //! The scripts of nodes in threads.
 
 ghost use Rattle.std.specs.Prelude.{◌≡◌, IfOk, IfErr, MatchBool, MatchResult};
-ghost use Rattle.q_sim.specs.Simulates.{HasFractions, config_of};
 ghost use Rattle.q_nodes.specs.Lines.{IsNode};
 ghost use Rattle.q_nodes.specs.Scripts.{Fits, IsClusterScript, IsRefused, IsUnfit, bad_fraction};
 
@@ -32,30 +31,13 @@ pub fn is_node(nodes: u64, node: u64) -> bool
     1 <= node && node <= nodes
 }
 
-/// The fractions of a founding. Refused with 45.
-fn config_of(founding: &Founding) -> Result<Config, ClusterRunFault>
-    ensures { MatchResult result (λ config. HasFractions founding.now × (config ≡ config_of founding.now)) (λ fault. (fault ≡ bad_fraction) × ¬ (HasFractions founding.now)) }
-{
-    let beta = founding.beta;
-    let gamma = founding.gamma;
-    match Config::new(
-        beta.numerator,
-        beta.denominator,
-        gamma.numerator,
-        gamma.denominator,
-    ) {
-        Ok(config) => Ok(config),
-        Err(fault) => Err(ClusterRunFault::Script(Refusal::Fraction(fault))),
-    }
-}
-
 /// The script of a founding and of these lines. Refused are 45, 62 and 49, in this order.
 fn fitting(founding: Founding, lines: Vec<CallLine>) -> Result<ClusterScript, ClusterRunFault>
     ensures { MatchResult result (λ script. Fits founding script × (script.lines ≡ lines)) (IsUnfit founding) }
 {
-    let config = match config_of(&founding) {
+    let config = match Config::new(founding.beta, founding.gamma) {
         Ok(config) => config,
-        Err(fault) => return Err(fault),
+        Err(fault) => return Err(ClusterRunFault::Script(Refusal::Fraction(fault))),
     };
     if founding.count > MOST_NODES {
         return Err(ClusterRunFault::BadCount);

@@ -23,7 +23,7 @@ ghost use Rattle.q_script.specs.declared.script.ScriptFault.TheVariants as scrip
 ghost use Rattle.q_script.specs.Line.{SpellsCall};
 ghost use Rattle.q_script.specs.Records.{value_bytes};
 ghost use Rattle.q_script.specs.Script.{IsScriptOf};
-ghost use Rattle.q_sim.specs.Simulates.{HasFractions};
+ghost use Rattle.sc_members.specs.Members.{AreFractions};
 ghost use Rattle.q_told.specs.declared.refusal.Refusal.TheVariants as refusal;
 ghost use Rattle.q_told.specs.declared.refusal.RefusalPlace.TheVariants as place;
 ghost use Rattle.q_nodes.specs.Books.{BeginsStore, IsBookOf, Registers};
@@ -122,7 +122,7 @@ pub fn worked_books()
 pub fn worked_runs()
     ensures seventeen { (f : Founding) (s : ClusterScript) → f.count ≡ 17 → Fits f s → ⊥ }
     ensures none_founds { (f : Founding) (s : ClusterScript) → f.count ≡ 0 → Fits f s → ⊥ }
-    ensures too_many { (f : Founding) → f.count ≡ 17 → HasFractions f → IsUnfit f BadCount }
+    ensures too_many { (f : Founding) → f.count ≡ 17 → AreFractions f.beta f.gamma → IsUnfit f BadCount }
     ensures sixteen { (f : Founding) → f.count ≡ 16 → IsUnfit f BadCount → ⊥ }
     ensures second_line { (f : Founding) → IsScriptOf SpellsCall (97 ∷ 10 ∷ 98 ∷ []) f [] → ⊥ }
     ensures refusal_is_told { (f : ClusterRunFault) (t : Counts) (before after : Option (List ℕ)) → IsRefusedAlone f (ending.Gathered t) before after → ⊥ }

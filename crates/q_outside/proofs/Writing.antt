@@ -11,7 +11,8 @@ pub behind : (a b c : Option (List ℕ)) (bytes : List ℕ) → Appends a b byte
 behind a b c bytes first part = (bytes ++ part.0, Appends-trans a b c bytes part.0 first part.1)
 
 -- the same where the last of the writes may fail
-pub behind_last : {A E : Type 0} (a b c : Option (List ℕ)) (bytes : List ℕ) (r : Result A E) → Appends a b bytes → OnErr r ((x : List ℕ) × Appends b c x) → OnErr r ((x : List ℕ) × Appends a c x)
+pub behind_last : {A E : Type 0} (a b c : Option (List ℕ)) (bytes : List ℕ) (r : Result A E) → Appends a b bytes
+    → OnErr r ((x : List ℕ) × Appends b c x) → OnErr r ((x : List ℕ) × Appends a c x)
 behind_last a b c bytes (Ok u) first part = tt
 behind_last a b c bytes (Err e) first part = behind a b c bytes first part
 

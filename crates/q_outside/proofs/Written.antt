@@ -23,9 +23,11 @@ written key value old new updates name bytes e f =
     subst (λ (n : List ℕ). IsWritten old n bytes new) e (subst (λ (b : List ℕ). IsWritten old (string_bytes key) b new) f under)
 
 -- a read of a file that is not there fails
-pub missing : (most : ℕ) (old : MemoryFiles) (name : List ℕ) (fault : FileFault) → fault ≡ Failed → bytes_of old.files name ≡ None → Finds most old name (Err fault)
+pub missing : (most : ℕ) (old : MemoryFiles) (name : List ℕ) (fault : FileFault) → fault ≡ Failed → bytes_of old.files name ≡ None
+    → Finds most old name (Err fault)
 missing most old name fault e f = subst (λ (x : FileFault). Finds most old name (Err x)) (sym e) (inr (subst (IsNoneWithin most) (sym f) tt))
 
 -- and so does a read of one that has more bytes than may be read
-pub too_long : (most : ℕ) (old : MemoryFiles) (name bytes : List ℕ) (fault : FileFault) → fault ≡ Failed → bytes_of old.files name ≡ Some bytes → most < length bytes → Finds most old name (Err fault)
+pub too_long : (most : ℕ) (old : MemoryFiles) (name bytes : List ℕ) (fault : FileFault) → fault ≡ Failed → bytes_of old.files name ≡ Some bytes
+    → most < length bytes → Finds most old name (Err fault)
 too_long most old name bytes fault e f long = subst (λ (x : FileFault). Finds most old name (Err x)) (sym e) (inr (subst (IsNoneWithin most) (sym f) long))

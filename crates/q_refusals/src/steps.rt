@@ -7,8 +7,9 @@ use q_cluster::Cluster;
 use q_desk::Call;
 use q_history::{ClusterEvent, ClusterFault, ClusterStep, EventAnswer};
 use q_script::{CallLine, Founding, Script, ScriptLine};
-use q_sim::{config_of, event_of};
+use q_sim::event_of;
 use q_told::{Refusal, certified_code, print_pairs, print_told};
+use sc_members::Config;
 use sc_view::Value;
 use sc_world::Op;
 use std::alloc::{AllocError, Global};
@@ -27,7 +28,7 @@ struct Course {
 
 /// The cluster that a script founds.
 fn found(alloc: Global, founding: &Founding) -> Result<Cluster, Refusal> {
-    let config = config_of(founding)?;
+    let config = Config::new(founding.beta, founding.gamma)?;
     let ids = [1, 2, 3];
     let count = (founding.count as usize).min(NODES);
     Ok(Cluster::new(alloc, config, &ids[..count])?)

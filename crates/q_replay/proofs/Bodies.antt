@@ -36,7 +36,9 @@ no_deliver version body other = record { none = λ w h. none w h }
 
 -- ---- a text and its notes
 
-no_register : (version : Version) (body : List ℕ) → ((t : List Insn) (ns : List (Option StateKinds)) → IsText t → IsNotes (form_of version) ns → body ≡ number_bytes 4 (length (spelling t)) ++ (spelling t ++ notes_bytes (form_of version) ns) → ⊥) → IsNoBody version 2 body
+no_register : (version : Version) (body : List ℕ)
+    → ((t : List Insn) (ns : List (Option StateKinds)) → IsText t → IsNotes (form_of version) ns → body ≡ number_bytes 4 (length (spelling t)) ++ (spelling t ++ notes_bytes (form_of version) ns) → ⊥)
+    → IsNoBody version 2 body
 no_register version body other = record { none = λ w h. none w h }
   where
     none : (w : RawEntry) → IsBody version 2 body w → ⊥
@@ -51,7 +53,9 @@ pub record ReadLength (body rest : List ℕ) (n : ℕ) : Type 0 where
   pub fits : n < 2 ^ 32
   pub parts : body ≡ number_bytes 4 n ++ rest
 
-text_follows : (version : Version) (body rest : List ℕ) (n : ℕ) (t : List Insn) (ns : List (Option StateKinds)) → ReadLength body rest n → IsText t → body ≡ number_bytes 4 (length (spelling t)) ++ (spelling t ++ notes_bytes (form_of version) ns) → (n ≡ length (spelling t)) × (rest ≡ spelling t ++ notes_bytes (form_of version) ns)
+text_follows : (version : Version) (body rest : List ℕ) (n : ℕ) (t : List Insn) (ns : List (Option StateKinds)) → ReadLength body rest n → IsText t
+    → body ≡ number_bytes 4 (length (spelling t)) ++ (spelling t ++ notes_bytes (form_of version) ns)
+    → (n ≡ length (spelling t)) × (rest ≡ spelling t ++ notes_bytes (form_of version) ns)
 text_follows version body rest n t ns read p e = number_front 4 n (length (spelling t)) rest (spelling t ++ notes_bytes (form_of version) ns) read.fits (omega (arith, text_small t p)) (sym read.parts ∙ e)
 
 pub text_cut : (version : Version) (body rest : List ℕ) (n : ℕ) → ReadLength body rest n → length rest < n → IsNoBody version 2 body
@@ -65,20 +69,26 @@ pub record ReadText (rest front behind : List ℕ) (n : ℕ) : Type 0 where
   pub long : length front ≡ n
   pub parts : rest ≡ front ++ behind
 
-notes_follow : (version : Version) (body rest front behind : List ℕ) (n : ℕ) (t : List Insn) (ns : List (Option StateKinds)) → ReadLength body rest n → ReadText rest front behind n → IsText t → body ≡ number_bytes 4 (length (spelling t)) ++ (spelling t ++ notes_bytes (form_of version) ns) → (front ≡ spelling t) × (behind ≡ notes_bytes (form_of version) ns)
+notes_follow : (version : Version) (body rest front behind : List ℕ) (n : ℕ) (t : List Insn) (ns : List (Option StateKinds)) → ReadLength body rest n
+    → ReadText rest front behind n → IsText t → body ≡ number_bytes 4 (length (spelling t)) ++ (spelling t ++ notes_bytes (form_of version) ns)
+    → (front ≡ spelling t) × (behind ≡ notes_bytes (form_of version) ns)
 notes_follow version body rest front behind n t ns read text p e =
     let f = text_follows version body rest n t ns read p e in
     same_front front (spelling t) behind (notes_bytes (form_of version) ns) n text.long (sym f.0) (sym text.parts ∙ f.1)
 
-no_text : (version : Version) (body rest front behind : List ℕ) (n : ℕ) → ReadLength body rest n → ReadText rest front behind n → ((t : List Insn) → IsText t → front ≡ spelling t → ⊥) → IsNoBody version 2 body
+no_text : (version : Version) (body rest front behind : List ℕ) (n : ℕ) → ReadLength body rest n → ReadText rest front behind n
+    → ((t : List Insn) → IsText t → front ≡ spelling t → ⊥) → IsNoBody version 2 body
 no_text version body rest front behind n read text none =
     no_register version body (λ t ns p q e. none t p (notes_follow version body rest front behind n t ns read text p e).0)
 
-no_notes : (version : Version) (body rest front behind : List ℕ) (n : ℕ) → ReadLength body rest n → ReadText rest front behind n → ((ns : List (Option StateKinds)) → IsNotes (form_of version) ns → behind ≡ notes_bytes (form_of version) ns → ⊥) → IsNoBody version 2 body
+no_notes : (version : Version) (body rest front behind : List ℕ) (n : ℕ) → ReadLength body rest n → ReadText rest front behind n
+    → ((ns : List (Option StateKinds)) → IsNotes (form_of version) ns → behind ≡ notes_bytes (form_of version) ns → ⊥) → IsNoBody version 2 body
 no_notes version body rest front behind n read text none =
     no_register version body (λ t ns p q e. none ns q (notes_follow version body rest front behind n t ns read text p e).1)
 
-pub registered : (version : Version) (body rest front behind : List ℕ) (n : ℕ) (t : List Insn) (ns : List (Option StateKinds)) → ReadLength body rest n → ReadText rest front behind n → front ≡ spelling t → behind ≡ notes_bytes (form_of version) ns → body ≡ body_bytes version (Register t ns)
+pub registered : (version : Version) (body rest front behind : List ℕ) (n : ℕ) (t : List Insn) (ns : List (Option StateKinds))
+    → ReadLength body rest n → ReadText rest front behind n → front ≡ spelling t → behind ≡ notes_bytes (form_of version) ns
+    → body ≡ body_bytes version (Register t ns)
 registered version body rest front behind n t ns read text is others =
     read.parts ∙ ap (λ (k : ℕ). number_bytes 4 k ++ rest) (sym text.long ∙ ap length is)
     ∙ ap (λ (l : List ℕ). number_bytes 4 (length (spelling t)) ++ l) (text.parts ∙ ap (λ (l : List ℕ). l ++ behind) is ∙ ap (λ (l : List ℕ). spelling t ++ l) others)

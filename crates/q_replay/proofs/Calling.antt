@@ -42,18 +42,21 @@ use Rattle.q_replay.proofs.Leading.{leads_next}
 no_memory : (f : Reason) → of_book f ≡ Mismatch → f ≢ memory
 no_memory f h q = let x : OutOfMemory ≡ Mismatch = sym (ap of_book q) ∙ h in absurd (cc)
 
-refused_by : (old new : BookState) (w : RawEntry) (f : Reason) (x : Refusal) → of_book f ≡ x → (f ≢ memory → (c : BookState) → Takes old w c → ⊥) → Taking old w new (Err x)
+refused_by : (old new : BookState) (w : RawEntry) (f : Reason) (x : Refusal) → of_book f ≡ x → (f ≢ memory → (c : BookState) → Takes old w c → ⊥)
+    → Taking old w new (Err x)
 refused_by old new w f Mismatch h nowhere = nowhere (no_memory f h)
 refused_by old new w f OutOfMemory h nowhere = tt
 
 -- a call that the book refuses leads nowhere
-pub refused : (old new : BookState) (w : RawEntry) (f : Reason) (r : Result (Unit {0}) Refusal) → IsErrAnd r (λ x. x ≡ of_book f) → (f ≢ memory → (c : BookState) → Takes old w c → ⊥) → Taking old w new r
+pub refused : (old new : BookState) (w : RawEntry) (f : Reason) (r : Result (Unit {0}) Refusal) → IsErrAnd r (λ x. x ≡ of_book f)
+    → (f ≢ memory → (c : BookState) → Takes old w c → ⊥) → Taking old w new r
 refused old new w f (Ok u) is nowhere = absurd is
 refused old new w f (Err x) is nowhere = refused_by old new w f x (sym is) nowhere
 
 -- ---- heads whose book is refused
 
-pub unbegun : (h : Head) (f : Reason) (r : Result BookState Refusal) → IsErrAnd r (λ x. x ≡ of_book f) → (f ≢ memory → begun h h.founders ≡ Err f) → Beginning h r
+pub unbegun : (h : Head) (f : Reason) (r : Result BookState Refusal) → IsErrAnd r (λ x. x ≡ of_book f) → (f ≢ memory → begun h h.founders ≡ Err f)
+    → Beginning h r
 unbegun h f (Ok b) is told = absurd is
 unbegun h f (Err Mismatch) is told = λ b k. absurd (no_refusal f b (sym (told (no_memory f (sym is))) ∙ k.book))
 unbegun h f (Err OutOfMemory) is told = tt
@@ -61,13 +64,15 @@ unbegun h f (Err OutOfMemory) is told = tt
 -- ---- answers
 
 -- what the job of the query that runs comes to is what a right answer of it is
-pub answer_same : OneAnswer → (b : BookState) (k : ℕ) (f : Finished) (other : Ran) → IsFinished f → running_job b.desk b.id k ≡ Some f.job → IsAnswering b (entry.Post k other) → f.ran ≡ other
+pub answer_same : OneAnswer → (b : BookState) (k : ℕ) (f : Finished) (other : Ran) → IsFinished f → running_job b.desk b.id k ≡ Some f.job
+    → IsAnswering b (entry.Post k other) → f.ran ≡ other
 answer_same one b k f other right runs a =
     let same : a.0 ≡ f.job = same_some a.0 f.job (sym a.1 ∙ runs) in
     right_one one f.job f.ran other right (subst (λ (x : Job). IsRight x.certified x.view x.start other) same a.2)
 
 -- where some job's answer is recorded, so is that of the query's own job
-pub own_post : (b c : BookState) (k : ℕ) (j : Job) (r : Ran) → running_job b.desk b.id k ≡ Some j → Follows b (entry.Post k r) c → (d : BookState) × (book.posted b j r ≡ Ok (tt, d))
+pub own_post : (b c : BookState) (k : ℕ) (j : Job) (r : Ran) → running_job b.desk b.id k ≡ Some j → Follows b (entry.Post k r) c
+    → (d : BookState) × (book.posted b j r ≡ Ok (tt, d))
 own_post b c k j r runs f =
     let p = (is_posted b f.0 r c f.3).1 in
     let o = own_posts b.desk b.id k j r (job_runs b.desk b.id k j runs) p.room in
@@ -108,14 +113,16 @@ module _ (one : OneLongest) (b : BookState) where
 
   -- the result of the query's own job
   module _ (j : Job) (ran : Ran) (legal : IsWritten b.version (written.Post j.query ran.acc ran.steps)) (runs : running_job b.desk b.id j.query ≡ Some j) where
-    pub posted : (c : BookState) → IsRight j.certified j.view j.start ran → book.posted b j ran ≡ Ok (tt, c) → Takes b (written.Post j.query ran.acc ran.steps) c
+    pub posted : (c : BookState) → IsRight j.certified j.view j.start ran → book.posted b j ran ≡ Ok (tt, c)
+        → Takes b (written.Post j.query ran.acc ran.steps) c
     posted c right h = record { called = entry.Post j.query ran; legal = (legal, tt); is = refl; answers = (j, runs, right); follows = (j, refl, right, h) }
 
     pub unposted : (f : Reason) → book.posted b j ran ≡ Err f → (c : BookState) → Takes b (written.Post j.query ran.acc ran.steps) c → ⊥
     unposted f h c t = absurd (no_refusal f _ (sym h ∙ (own_post b c j.query j ran runs (takes_as one b _ c (entry.Post j.query ran) (legal, tt) refl t).0).1))
 
 -- an answer that is not right is that of no event
-unanswered : OneLongest → (b : BookState) (k : ℕ) (r : Ran) → IsWritten b.version (written.Post k r.acc r.steps) → (IsAnswering b (entry.Post k r) → ⊥) → (c : BookState) → Takes b (written.Post k r.acc r.steps) c → ⊥
+unanswered : OneLongest → (b : BookState) (k : ℕ) (r : Ran) → IsWritten b.version (written.Post k r.acc r.steps)
+    → (IsAnswering b (entry.Post k r) → ⊥) → (c : BookState) → Takes b (written.Post k r.acc r.steps) c → ⊥
 unanswered one b k r legal none c t = none (takes_as one b _ c (entry.Post k r) (legal, tt) refl t).1
 
 -- the job of a query is not run, or its answer is another
@@ -135,7 +142,8 @@ next_leads bytes n b c version w rest more l own legal parts t =
     subst (λ (k : ℕ). Leads bytes k c more) (sym (add-one n))
     (leads_next bytes n b c w rest more l (subst (λ (x : Version). IsWritten x w) own legal) (parts ∙ ap (λ (x : Version). event_bytes x w ++ more) own) t)
 
-pub next_form : (bytes : List ℕ) (n : ℕ) (b : BookState) (version : Version) (rest : List ℕ) → Leads bytes n b rest → version ≡ b.version → rest ≢ [] → BeginsNone (event_bytes version) (IsWritten version) rest → IsFault bytes (fault.Form (n + 1))
+pub next_form : (bytes : List ℕ) (n : ℕ) (b : BookState) (version : Version) (rest : List ℕ) → Leads bytes n b rest → version ≡ b.version → rest ≢ []
+    → BeginsNone (event_bytes version) (IsWritten version) rest → IsFault bytes (fault.Form (n + 1))
 next_form bytes n b version rest l own more none =
     subst (λ (k : ℕ). IsFault bytes (fault.Form k)) (sym (add-one n))
     (record { book = b; rest = rest; leads = l; more = more; none = subst (λ (x : Version). BeginsNone (event_bytes x) (IsWritten x) rest) own none })

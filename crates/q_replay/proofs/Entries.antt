@@ -47,13 +47,15 @@ right_one one j ran other a b =
 
 -- ---- which entry it is
 
-same_certificate : OneLongest → (version : Version) (c d : Certificate) → IsCertified c × (c.lengths ≡ record_lengths version) → IsCertified d × (d.lengths ≡ record_lengths version) → c.text ≡ d.text → c.notes ≡ d.notes → c ≡ d
+same_certificate : OneLongest → (version : Version) (c d : Certificate) → IsCertified c × (c.lengths ≡ record_lengths version)
+    → IsCertified d × (d.lengths ≡ record_lengths version) → c.text ≡ d.text → c.notes ≡ d.notes → c ≡ d
 same_certificate one version c d a b text notes =
     let longest : c.longest ≡ d.longest = one c.text c.longest d.longest a.0.longest (subst (λ (t : List Insn). IsLongest t d.longest) (sym text) b.0.longest) in
     let lengths : c.lengths ≡ d.lengths = a.1 ∙ sym b.1 in
     λ i. record { text = text i; notes = notes i; lengths = lengths i; longest = longest i }
 
-same_post : (query other : ℕ) (ran gone : Ran) → written.Post query ran.acc ran.steps ≡ written.Post other gone.acc gone.steps → entry.Post query ran ≡ entry.Post other gone
+same_post : (query other : ℕ) (ran gone : Ran) → written.Post query ran.acc ran.steps ≡ written.Post other gone.acc gone.steps
+    → entry.Post query ran ≡ entry.Post other gone
 same_post query other ran gone h =
     let q : query ≡ other = cc in
     let acc : ran.acc ≡ gone.acc = cc in
@@ -80,7 +82,8 @@ entry_one one version e f a b h = absurd (cc)
 
 module _ (one : OneLongest) where
   -- an event is taken as its one entry
-  pub takes_as : (b : BookState) (w : RawEntry) (c : BookState) (e : Entry) → IsEntry b.version e → written_of e ≡ w → Takes b w c → Follows b e c × IsAnswering b e
+  pub takes_as : (b : BookState) (w : RawEntry) (c : BookState) (e : Entry) → IsEntry b.version e → written_of e ≡ w → Takes b w c
+      → Follows b e c × IsAnswering b e
   takes_as b w c e legal is t =
       subst (λ (x : Entry). Follows b x c × IsAnswering b x) (entry_one one b.version t.called e t.legal.1 legal.1 (t.is ∙ sym is)) (t.follows, t.answers)
 

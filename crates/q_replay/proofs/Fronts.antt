@@ -86,10 +86,12 @@ head_front h g x y p q e =
 
 -- ---- events
 
-pub event_on : (version : Version) (w : RawEntry) (x : List ℕ) → event_bytes version w ++ x ≡ code w ∷ (number_bytes 4 (length (body_bytes version w)) ++ (body_bytes version w ++ x))
+pub event_on : (version : Version) (w : RawEntry) (x : List ℕ)
+    → event_bytes version w ++ x ≡ code w ∷ (number_bytes 4 (length (body_bytes version w)) ++ (body_bytes version w ++ x))
 event_on version w x = ap (λ (l : List ℕ). code w ∷ l) (append_assoc (number_bytes 4 (length (body_bytes version w))) (body_bytes version w) x)
 
-same_event : (version : Version) (w v : RawEntry) → IsWritten version w → IsWritten version v → code w ≡ code v → body_bytes version w ≡ body_bytes version v → w ≡ v
+same_event : (version : Version) (w v : RawEntry) → IsWritten version w → IsWritten version v → code w ≡ code v
+    → body_bytes version w ≡ body_bytes version v → w ≡ v
 same_event version Leave Leave p q c b = refl
 same_event version (Register t ns) (Register u ms) p q c b =
     let form = form_of version in
@@ -112,7 +114,8 @@ same_event version (Post g a s) (Post h d t) p q c b =
     λ i. Post (n.0 i) (k.0 i) (steps i)
 same_event version w v p q c b = absurd (omega (arith, c))
 
-pub event_front : (version : Version) (w v : RawEntry) (x y : List ℕ) → IsWritten version w → IsWritten version v → event_bytes version w ++ x ≡ event_bytes version v ++ y → (w ≡ v) × (x ≡ y)
+pub event_front : (version : Version) (w v : RawEntry) (x y : List ℕ) → IsWritten version w → IsWritten version v
+    → event_bytes version w ++ x ≡ event_bytes version v ++ y → (w ≡ v) × (x ≡ y)
 event_front version w v x y p q e =
     let a = body_bytes version w in
     let d = body_bytes version v in

@@ -17,7 +17,8 @@ no_head bytes left = record { none = λ h more p e. left.none (parts_of h) more 
 no_fractions : (bytes : List ℕ) → length bytes < 8 → BeginsNone config_bytes AreShort bytes
 no_fractions bytes short = record { none = λ c more p e. omega (arith, short, ap length e, length-append (config_bytes c) more, length-config c) }
 
-pub no_format : (bytes : List ℕ) → ((version : Version) (more : List ℕ) → bytes ≡ 0x42 ∷ 0x51 ∷ 0x4a ∷ version_byte version ∷ more → ⊥) → BeginsNone head_bytes IsHead bytes
+pub no_format : (bytes : List ℕ) → ((version : Version) (more : List ℕ) → bytes ≡ 0x42 ∷ 0x51 ∷ 0x4a ∷ version_byte version ∷ more → ⊥)
+    → BeginsNone head_bytes IsHead bytes
 no_format bytes none = no_head bytes (none_first format_bytes _ _ _ bytes (record { none = λ version more p e. none version more e }))
 
 -- behind a format that was read
@@ -29,7 +30,8 @@ abbrev IsTail : Config × Option (List ℕ) → Type 0
 IsTail z = AreShort z.0 × AreFounders z.1
 
 module _ (version : Version) (bytes r1 : List ℕ) (first : bytes ≡ 0x42 ∷ 0x51 ∷ 0x4a ∷ version_byte version ∷ r1) where
-  behind_format : BeginsNone (λ (z : ℕ × (Config × Option (List ℕ))). number_bytes 8 z.0 ++ tail_bytes z.1) (λ z. (z.0 < 2 ^ 64) × IsTail z.1) r1 → BeginsNone head_bytes IsHead bytes
+  behind_format : BeginsNone (λ (z : ℕ × (Config × Option (List ℕ))). number_bytes 8 z.0 ++ tail_bytes z.1) (λ z. (z.0 < 2 ^ 64) × IsTail z.1) r1
+      → BeginsNone head_bytes IsHead bytes
   behind_format left = no_head bytes (none_second format_bytes _ _ _ bytes versions_are_code version r1 tt first left)
 
   pub no_id : length r1 < 8 → BeginsNone head_bytes IsHead bytes

@@ -38,7 +38,8 @@ record IsBegun (h : Head) (o : Option (List ℕ)) (b : BookState) : Type 0 where
   is : new_book h.version h.id h.config o node ≡ b
   first : IsFirst (new_book h.version h.id h.config o node) node o
 
-founds_is : (version : Version) (id : ℕ) (config : Config) (ids : List ℕ) (r : Result NodeState Reason) (b : BookState) → founds version id config ids r ≡ Ok b → (n : NodeState) × (r ≡ Ok n) × (new_book version id config (Some ids) n ≡ b)
+founds_is : (version : Version) (id : ℕ) (config : Config) (ids : List ℕ) (r : Result NodeState Reason) (b : BookState)
+    → founds version id config ids r ≡ Ok b → (n : NodeState) × (r ≡ Ok n) × (new_book version id config (Some ids) n ≡ b)
 founds_is version id config ids (Ok n) b h = (n, refl, same_answer {A = BookState} _ b h)
 founds_is version id config ids (Err e) b h = absurd (no_refusal _ b h)
 
@@ -67,7 +68,8 @@ takes_push : (ws : List RawEntry) (a b c : BookState) (w : RawEntry) → TakesAl
 takes_push [] a b c w t s = (c, subst (λ (x : BookState). Takes x w c) t s, refl)
 takes_push (v ∷ ws) a b c w t s = (t.0, t.1, takes_push ws t.0 b c w t.2 s)
 
-pub leads_next : (bytes : List ℕ) (n : ℕ) (b c : BookState) (w : RawEntry) (rest more : List ℕ) → Leads bytes n b rest → IsWritten b.version w → rest ≡ event_bytes b.version w ++ more → Takes b w c → Leads bytes (suc n) c more
+pub leads_next : (bytes : List ℕ) (n : ℕ) (b c : BookState) (w : RawEntry) (rest more : List ℕ) → Leads bytes n b rest → IsWritten b.version w
+    → rest ≡ event_bytes b.version w ++ more → Takes b w c → Leads bytes (suc n) c more
 leads_next bytes n b c w rest more l legal parts t =
     let same : b.version ≡ l.head.version = leads-version bytes n b rest l in
     let spelled : RawEntry → List ℕ = event_bytes l.head.version in
@@ -98,7 +100,8 @@ pub record IsOngoing (b : BookState) (rest : List ℕ) : Type 0 where
   pub next : BookState
   pub takes : Takes b event next
 
-ongoing : (version : Version) (b : BookState) (w : RawEntry) (c : BookState) (rest more : List ℕ) → b.version ≡ version → IsWritten version w → rest ≡ event_bytes version w ++ more → Takes b w c → IsOngoing b rest
+ongoing : (version : Version) (b : BookState) (w : RawEntry) (c : BookState) (rest more : List ℕ) → b.version ≡ version → IsWritten version w
+    → rest ≡ event_bytes version w ++ more → Takes b w c → IsOngoing b rest
 ongoing version b w c rest more same legal parts t = record {
   event = w;
   legal = subst (λ (x : Version). IsWritten x w) (sym same) legal;
@@ -116,7 +119,8 @@ record IsSame (us vs : List RawEntry) (b c : BookState) (rest more : List ℕ) :
 abbrev Compared : List RawEntry → List RawEntry → BookState → BookState → List ℕ → List ℕ → Type 0
 Compared us vs b c rest more = IsSame us vs b c rest more ⊎ (IsOngoing b rest ⊎ IsOngoing c more)
 
-longer : (u v : RawEntry) (us vs : List RawEntry) (b c : BookState) (rest more : List ℕ) → Compared us vs b c rest more → Compared (u ∷ us) (v ∷ vs) b c rest more
+longer : (u v : RawEntry) (us vs : List RawEntry) (b c : BookState) (rest more : List ℕ) → Compared us vs b c rest more
+    → Compared (u ∷ us) (v ∷ vs) b c rest more
 longer u v us vs b c rest more (inl s) = inl (record { book = s.book; left = s.left; many = ap suc s.many })
 longer u v us vs b c rest more (inr o) = inr o
 
@@ -133,7 +137,8 @@ pub record IsOne (n m : ℕ) (b c : BookState) (rest more : List ℕ) : Type 0 w
   pub book : b ≡ c
   pub left : rest ≡ more
 
-settle : (us vs : List RawEntry) (b c : BookState) (rest more : List ℕ) → Compared us vs b c rest more → Stops b rest → Stops c more → IsSame us vs b c rest more
+settle : (us vs : List RawEntry) (b c : BookState) (rest more : List ℕ) → Compared us vs b c rest more → Stops b rest → Stops c more
+    → IsSame us vs b c rest more
 settle us vs b c rest more (inl s) stop halt = s
 settle us vs b c rest more (inr (inl o)) stop halt = absurd (stop o)
 settle us vs b c rest more (inr (inr o)) stop halt = absurd (halt o)
@@ -155,7 +160,8 @@ module _ (one_longest : OneLongest) (one_head : OneHead) (one_event : OneEvent) 
       longer u v us vs b c rest more
       (walk version us vs s.0 b c rest more (takes-version first u s.0 s.1 ∙ own) p.1 q.1 s.2 (subst (λ (x : BookState). TakesAll x vs c) (sym same) t.2) e.1)
 
-  pub leads_one : (bytes : List ℕ) (n m : ℕ) (b c : BookState) (rest more : List ℕ) → Leads bytes n b rest → Leads bytes m c more → Stops b rest → Stops c more → IsOne n m b c rest more
+  pub leads_one : (bytes : List ℕ) (n m : ℕ) (b c : BookState) (rest more : List ℕ) → Leads bytes n b rest → Leads bytes m c more → Stops b rest
+      → Stops c more → IsOne n m b c rest more
   leads_one bytes n m b c rest more l k stop halt =
       let version : Version = l.head.version in
       let heads = one_head l.head k.head (flat_map (event_bytes version) l.events ++ rest) (flat_map (event_bytes k.head.version) k.events ++ more) l.legal k.legal (sym l.parts ∙ k.parts) in
@@ -182,7 +188,8 @@ begun_by : (b : BookState) (o : Option (List ℕ)) (n : NodeState) → IsFirst b
 begun_by b (Some ids) n f = ap (founds b.version b.id b.config ids) f
 begun_by b None n f = ap (λ (m : NodeState). let r : Result BookState Reason = Ok (new_book b.version b.id b.config None m) in r) (sym f)
 
-takes_all : (version : Version) (es : List Entry) (s b : BookState) → s.version ≡ version → Replays s es b → AnswersAreRight b.desk → AllByRecursion (IsEntry version) es → TakesAll s (map written_of es) b
+takes_all : (version : Version) (es : List Entry) (s b : BookState) → s.version ≡ version → Replays s es b → AnswersAreRight b.desk
+    → AllByRecursion (IsEntry version) es → TakesAll s (map written_of es) b
 takes_all version [] s b own r right a = r
 takes_all version (e ∷ es) s b own r right a = (
   r.0,

@@ -37,7 +37,8 @@ module _ (d : DeskState) (node k : ℕ) where
   runs_job q view program at phase named =
       ap (job_at running_view d node k) at ∙ ap (λ (p : Phase). job_on node k q (running_view p) (slice_get d.programs q.program)) phase ∙ ap (job_on node k q (running_view (Running view))) named
 
-  job_of-runs : (q : Query) (p : Phase) (c : Option Certificate) (j : Job) → slice_get d.queries k ≡ Some q → q.phase ≡ p → slice_get d.programs q.program ≡ c → job_on node k q (running_view p) c ≡ Some j → Runs d node k j
+  job_of-runs : (q : Query) (p : Phase) (c : Option Certificate) (j : Job) → slice_get d.queries k ≡ Some q → q.phase ≡ p
+      → slice_get d.programs q.program ≡ c → job_on node k q (running_view p) c ≡ Some j → Runs d node k j
   job_of-runs q (Running view) (Some c) j at is named h = record { query = q; view = view; program = c; at = at; phase = is; named = named; is = same_some _ j h }
   job_of-runs q (Running view) None j at is named h = absurd (no_some j h)
   job_of-runs q Collecting c j at is named h = absurd (no_some j h)
@@ -77,7 +78,8 @@ abbrev Outcome : Type 0
 Outcome = Result (Unit {0} × DeskState) Reason
 
 -- where there is room, the answer of a query that runs is recorded, as that of its own job
-pub own_posts : (d : DeskState) (node k : ℕ) (j : Job) (ran : Ran) → Runs d node k j → desk.has_room d ≡ true → (e : DeskState) × (desk.posted d node j ran ≡ Ok (tt, e))
+pub own_posts : (d : DeskState) (node k : ℕ) (j : Job) (ran : Ran) → Runs d node k j → desk.has_room d ≡ true
+    → (e : DeskState) × (desk.posted d node j ran ≡ Ok (tt, e))
 own_posts d node k j ran r room =
     let made : Job = job_by node k r.query r.view r.program in
     let after : DeskState = answered d k r.view ran in

@@ -76,7 +76,8 @@ value_small Second n p = p.most
 
 -- ---- bodies
 
-pub length-registered : (version : Version) (t : List Insn) (ns : List (Option StateKinds)) → length (body_bytes version (Register t ns)) ≡ 4 + length (spelling t) + length (notes_bytes (form_of version) ns)
+pub length-registered : (version : Version) (t : List Insn) (ns : List (Option StateKinds))
+    → length (body_bytes version (Register t ns)) ≡ 4 + length (spelling t) + length (notes_bytes (form_of version) ns)
 length-registered version t ns =
     let notes = notes_bytes (form_of version) ns in
     omega (arith, length-append (number_bytes 4 (length (spelling t))) (spelling t ++ notes), length-append (spelling t) notes, length-number_bytes 4 (length (spelling t)))

@@ -28,14 +28,16 @@ use Rattle.q_replay.proofs.Lists.{all_push}
 
 -- ---- programs are those of the version
 
-follows-checked : (version : Version) (b : BookState) (e : Entry) (c : BookState) → b.desk.lengths ≡ record_lengths version → Follows b e c → IsChecked version e
+follows-checked : (version : Version) (b : BookState) (e : Entry) (c : BookState) → b.desk.lengths ≡ record_lengths version → Follows b e c
+    → IsChecked version e
 follows-checked version b (entry.Call (call.Register program)) c lengths f =
     let a = mapped_ok reply.Registered (book.registered b program) (f.0, c) f.1 in
     let d = desk-parts b (desk.registered b.desk program) a.0 a.1 in
     registered_checked b.desk program d.0 d.1 ∙ lengths
 follows-checked version b e c lengths f = tt
 
-replays-checked : (version : Version) (es : List Entry) (b c : BookState) → b.desk.lengths ≡ record_lengths version → Replays b es c → AllByRecursion (IsChecked version) es
+replays-checked : (version : Version) (es : List Entry) (b c : BookState) → b.desk.lengths ≡ record_lengths version → Replays b es c
+    → AllByRecursion (IsChecked version) es
 replays-checked version [] b c lengths r = tt
 replays-checked version (e ∷ es) b c lengths r =
     (follows-checked version b e r.0 lengths r.1, replays-checked version es r.0 c ((follows-accepted b e r.0 r.1).keeps.lengths ∙ lengths) r.2)
@@ -45,13 +47,15 @@ journal-checked : (b : BookState) → IsReplay b → All (IsChecked b.version) b
 journal-checked b r = All-from_recursion (IsChecked b.version) b.desk.journal (replays-checked b.version b.desk.journal (new_book b.version b.id b.config b.founders r.first) b refl r.replayed)
 
 -- an entry of the journal, for a journal of the book's version
-pub checked_at : (b : BookState) (es : List Entry) (k : ℕ) (version : Version) (e : Entry) → IsReplay b → es ≡ b.desk.journal → k < length es → e ≡ get_or es k e → version ≡ b.version → IsChecked version e
+pub checked_at : (b : BookState) (es : List Entry) (k : ℕ) (version : Version) (e : Entry) → IsReplay b → es ≡ b.desk.journal → k < length es
+    → e ≡ get_or es k e → version ≡ b.version → IsChecked version e
 checked_at b es k version e replay journal within at own =
     let all : All (IsChecked b.version) es = subst (All (IsChecked b.version)) (sym journal) (journal-checked b replay) in
     subst (λ (x : Version). IsChecked x e) (sym own) (subst (IsChecked b.version) (sym at) (All-get_or (IsChecked b.version) es k e within all))
 
 -- and so are those behind the first so many
-pub behind-checked : (b : BookState) (n : ℕ) (es : List Entry) (version : Version) → IsReplay b → es ≡ drop n b.desk.journal → version ≡ b.version → All (IsChecked version) es
+pub behind-checked : (b : BookState) (n : ℕ) (es : List Entry) (version : Version) → IsReplay b → es ≡ drop n b.desk.journal → version ≡ b.version
+    → All (IsChecked version) es
 behind-checked b n es version replay behind own =
     let all : All (IsChecked b.version) es = subst (All (IsChecked b.version)) (sym behind) (All-drop (IsChecked b.version) n b.desk.journal (journal-checked b replay)) in
     subst (λ (x : Version). All (IsChecked x) es) (sym own) all

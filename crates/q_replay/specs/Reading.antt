@@ -7,19 +7,14 @@ use Rattle.bq_check.specs.declared.fault.NotesFault.{NotesFault}
 use Rattle.bq_check.specs.declared.fault.NotesFault.TheVariants as notes
 use Rattle.sc_msg.specs.declared.fault.MessageFault.{MessageFault}
 use Rattle.sc_msg.specs.declared.fault.MessageFault.TheVariants as messages
-use Rattle.sc_members.specs.Members.{Config}
 use Rattle.sc_msg.specs.declared.version.Version.{Version}
 use Rattle.spelling.specs.Numbers.{number_bytes}
-use Rattle.q_replay.specs.declared.head.Fraction.{Fraction}
 use Rattle.q_replay.specs.declared.raw_entry.RawEntry.{RawEntry}
 use Rattle.q_replay.specs.declared.read.ReadFault.{ReadFault}
 use Rattle.q_replay.specs.declared.read.ReadFault.TheVariants.{Form, OutOfMemory}
 use Rattle.q_replay.specs.Spelling.{code, body_bytes, IsWritten}
 
 -- ---- parts of a head
-
-abbrev pub config_of : Fraction → Fraction → Config
-config_of beta gamma = record { beta_num = beta.numerator; beta_den = beta.denominator; gamma_num = gamma.numerator; gamma_den = gamma.denominator }
 
 -- how many, and the ids
 abbrev pub ids_bytes : List ℕ → List ℕ

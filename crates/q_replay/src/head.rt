@@ -1,16 +1,8 @@
 //! Heads of journals.
 
+use sc_members::Fraction;
 use sc_msg::Version;
 use std::marker::Model;
-
-/// A fraction as a journal holds it.
-#[derive(Clone, Copy, Debug, PartialEq, Eq)]
-pub struct Fraction {
-    /// What stands above.
-    pub numerator: u16,
-    /// What stands below.
-    pub denominator: u16,
-}
 
 /// What stands at the head of a journal: its version, which node it is of, and how the node began. Contracts see it as
 /// that record. Whether the fractions and the founders are taken is not looked at.
@@ -30,9 +22,10 @@ pub struct Head {
 
 impl Model for Head {
     ghost use Rattle.std.specs.Prelude.{option_map};
+    ghost use Rattle.sc_members.specs.Members.{config_of};
     ghost use Rattle.q_replay.specs.Head.{Head as HeadState};
 
     ghost Value = { HeadState };
 
-    ghost view = { λ h. record { version = h.version; id = h.id; config = record { beta_num = h.beta.numerator; beta_den = h.beta.denominator; gamma_num = h.gamma.numerator; gamma_den = h.gamma.denominator }; founders = option_map (λ v. v.items) h.founders } };
+    ghost view = { λ h. record { version = h.version; id = h.id; config = config_of h.beta h.gamma; founders = option_map (λ v. v.items) h.founders } };
 }

@@ -72,7 +72,7 @@ mod writer;
 
 pub use bytes::{entries_bytes, head_bytes};
 pub use fault::ReplayFault;
-pub use head::{Fraction, Head};
+pub use head::Head;
 pub use raw_entry::RawEntry;
 pub use read::{ReadFault, read_event, read_head};
 pub use replayer::replay;

@@ -5,10 +5,11 @@ ghost use Rattle.spelling.specs.Codes.{BeginsNone};
 ghost use Rattle.spelling.specs.Numbers.{number_bytes};
 ghost use Rattle.sc_msg.specs.Values.{version_byte};
 ghost use Rattle.q_replay.specs.Spelling.{config_bytes, start_bytes, AreShort, AreFounders};
-ghost use Rattle.q_replay.specs.Reading.{config_of, ids_bytes, AreIds};
+ghost use Rattle.q_replay.specs.Reading.{ids_bytes, AreIds};
+ghost use Rattle.sc_members.specs.Members.{config_of};
 
-use crate::head::Fraction;
 use crate::read::ReadFault;
+use sc_members::Fraction;
 use sc_msg::Version;
 use spelling::{take_byte, take_front, take_u16, take_u32, take_u64};
 use std::alloc::Global;
@@ -126,8 +127,8 @@ impl<'a> Reader<'a> {
         let numerator = self.short()?;
         let denominator = self.short()?;
         Ok(Fraction {
-            numerator,
-            denominator,
+            numerator: u64::from(numerator),
+            denominator: u64::from(denominator),
         })
     }
 

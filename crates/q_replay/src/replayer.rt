@@ -79,12 +79,7 @@ fn open(alloc: Global, bytes: &[u8]) -> Result<(Book, &[u8]), ReplayFault>
 fn begin(alloc: Global, head: &Head) -> Result<Book, Refusal>
     ensures { Beginning head.now result }
 {
-    let config = Config::new(
-        u64::from(head.beta.numerator),
-        u64::from(head.beta.denominator),
-        u64::from(head.gamma.numerator),
-        u64::from(head.gamma.denominator),
-    )?;
+    let config = Config::new(head.beta, head.gamma)?;
     match &head.founders {
         Some(ids) => {
             let book = Book::founder_as(alloc, head.version, config, head.id, ids)?;

@@ -22,7 +22,8 @@ pub not_store : (s : List ℕ) → ((p : ℕ × List ℕ) → IsFollowed 32 s p 
 not_store s n (Call (Store node value)) h = n (node, h.0) h.1
 not_store s n _ h = h
 
-pub not_store_value : (s : List ℕ) (p : ℕ × List ℕ) → IsFollowed 32 s p → ((value : Vec ℕ Global) → IsValue p.1 value.items → ⊥) → (line : ScriptLine) → IsStore s line → ⊥
+pub not_store_value : (s : List ℕ) (p : ℕ × List ℕ) → IsFollowed 32 s p → ((value : Vec ℕ Global) → IsValue p.1 value.items → ⊥) → (line : ScriptLine)
+    → IsStore s line → ⊥
 not_store_value s p f n (Call (Store node value)) h =
     let same = followed_once 32 s p (node, h.0) (lit< tt) f h.1 in
     n value (subst (λ x. IsValue x value.items) (sym same) h.2)
@@ -63,7 +64,8 @@ not_code s p f n (Call (Program node code)) h =
     n code (subst (λ x. IsCode x code.items) (sym same) h.2)
 not_code s p f n _ h = h
 
-pub code_fault : (s : List ℕ) (p : ℕ × List ℕ) (fault : LineFault) → IsFollowed 32 s p → Judges (λ text (code : Vec ℕ Global). IsCode text code.items) p.1 (Err fault) → Judges IsProgram s (Err fault)
+pub code_fault : (s : List ℕ) (p : ℕ × List ℕ) (fault : LineFault) → IsFollowed 32 s p
+    → Judges (λ text (code : Vec ℕ Global). IsCode text code.items) p.1 (Err fault) → Judges IsProgram s (Err fault)
 code_fault s p Form f h = not_code s p f h
 code_fault s p OutOfMemory f h = tt
 
@@ -114,7 +116,8 @@ spaced s a b line e (inr h) = h
 pub no_command : (s a b : List ℕ) → IsCut 32 s a b → ((c : Command) → a ≢ name c) → (line : ScriptLine) → Spells s line → ⊥
 no_command s a b e n line p = let h = spaced s a b line e p in n h.command (same_word s a b line h e).0
 
-pub line_judged : (s a b : List ℕ) (c : Command) (r : Result ScriptLine LineFault) → IsCut 32 s a b → a ≡ name c → Judges (HasOperands c) b r → Judges Spells s r
+pub line_judged : (s a b : List ℕ) (c : Command) (r : Result ScriptLine LineFault) → IsCut 32 s a b → a ≡ name c → Judges (HasOperands c) b r
+    → Judges Spells s r
 line_judged s a b c (Ok line) e k h = inr (record { command = c; rest = b; parts = e.1 ∙ ap (λ w. w ++ (32 ∷ b)) k; operands = h })
 line_judged s a b c (Err Form) e k h = λ line q.
     let p = spaced s a b line e q in

@@ -2,7 +2,7 @@
 use Rattle.std.proofs.Common.{◌≡◌, ℕ, ◌^◌, ◌<◌, List, ◌∷◌, ◌++◌, refl, ap, sym, ◌∙◌, subst, arith, lit<}
 use Rattle.std.specs.Fmt.{decimal}
 use Rattle.std.proofs.lemmas.Fmt.{decimal_injective}
-use Rattle.q_script.specs.declared.founding.Fraction.{Fraction}
+use Rattle.sc_members.specs.declared.config.Fraction.{Fraction}
 use Rattle.q_script.specs.Words.{Lacks, IsFollowed, IsPair}
 use Rattle.q_script.specs.Founding.{SpellsFraction, SpellsFirst}
 use Rattle.q_script.proofs.Parts.{IsCut, cut_once, never_cut, lacks_append}
@@ -46,7 +46,8 @@ behind w s a b f l e h = subst (λ x. IsFollowed 32 x (f.0, h.fractions)) (sym (
 same_fractions : (w s a b : List ℕ) (p : ℕ × List ℕ) (f : First) → Lacks 32 w → IsCut 32 s a b → IsFollowed 32 b p → (h : SpellsFirst w s f) → p.1 ≡ h.fractions
 same_fractions w s a b p f l e k h = followed_once 32 b p (f.0, h.fractions) (lit< tt) k (behind w s a b f l e h)
 
-both_cut : (w s a b : List ℕ) (p : ℕ × List ℕ) (f : First) → Lacks 32 w → IsCut 32 s a b → IsFollowed 32 b p → (h : SpellsFirst w s f) → IsCut 32 p.1 h.beta h.gamma
+both_cut : (w s a b : List ℕ) (p : ℕ × List ℕ) (f : First) → Lacks 32 w → IsCut 32 s a b → IsFollowed 32 b p → (h : SpellsFirst w s f)
+    → IsCut 32 p.1 h.beta h.gamma
 both_cut w s a b p f l e k h = (fraction_lacks h.beta f.1 h.is_beta, same_fractions w s a b p f l e k h ∙ h.both)
 
 -- ---- what is no such line
@@ -63,13 +64,16 @@ no_number w s a b l e n f h = n (f.0, h.fractions) (behind w s a b f l e h)
 pub no_second : (w s a b : List ℕ) (p : ℕ × List ℕ) → Lacks 32 w → IsCut 32 s a b → IsFollowed 32 b p → Lacks 32 p.1 → (f : First) → SpellsFirst w s f → ⊥
 no_second w s a b p l e k none f h = never_cut 32 p.1 h.beta h.gamma none (both_cut w s a b p f l e k h)
 
-same_both : (w s a b x y : List ℕ) (p : ℕ × List ℕ) (f : First) → Lacks 32 w → IsCut 32 s a b → IsFollowed 32 b p → IsCut 32 p.1 x y → (h : SpellsFirst w s f) → (x ≡ h.beta) × (y ≡ h.gamma)
+same_both : (w s a b x y : List ℕ) (p : ℕ × List ℕ) (f : First) → Lacks 32 w → IsCut 32 s a b → IsFollowed 32 b p → IsCut 32 p.1 x y
+    → (h : SpellsFirst w s f) → (x ≡ h.beta) × (y ≡ h.gamma)
 same_both w s a b x y p f l e k c h = cut_once 32 p.1 x y h.beta h.gamma c (both_cut w s a b p f l e k h)
 
-pub no_beta : (w s a b x y : List ℕ) (p : ℕ × List ℕ) → Lacks 32 w → IsCut 32 s a b → IsFollowed 32 b p → IsCut 32 p.1 x y → ((f : Fraction) → SpellsFraction x f → ⊥) → (f : First) → SpellsFirst w s f → ⊥
+pub no_beta : (w s a b x y : List ℕ) (p : ℕ × List ℕ) → Lacks 32 w → IsCut 32 s a b → IsFollowed 32 b p → IsCut 32 p.1 x y
+    → ((f : Fraction) → SpellsFraction x f → ⊥) → (f : First) → SpellsFirst w s f → ⊥
 no_beta w s a b x y p l e k c n f h = n f.1 (subst (λ t. SpellsFraction t f.1) (sym (same_both w s a b x y p f l e k c h).0) h.is_beta)
 
-pub no_gamma : (w s a b x y : List ℕ) (p : ℕ × List ℕ) → Lacks 32 w → IsCut 32 s a b → IsFollowed 32 b p → IsCut 32 p.1 x y → ((f : Fraction) → SpellsFraction y f → ⊥) → (f : First) → SpellsFirst w s f → ⊥
+pub no_gamma : (w s a b x y : List ℕ) (p : ℕ × List ℕ) → Lacks 32 w → IsCut 32 s a b → IsFollowed 32 b p → IsCut 32 p.1 x y
+    → ((f : Fraction) → SpellsFraction y f → ⊥) → (f : First) → SpellsFirst w s f → ⊥
 no_gamma w s a b x y p l e k c n f h = n f.2 (subst (λ t. SpellsFraction t f.2) (sym (same_both w s a b x y p f l e k c h).1) h.is_gamma)
 
 -- ---- a line is one such line
@@ -95,5 +99,6 @@ first_once w s f g l h k =
     ∙ ap (λ (c : Fraction). let x : First = (g.0, g.1, c) in x) gamma
 
 -- beta stands before gamma
-pub beta_first : (w s : List ℕ) (n m : ℕ) (a b c d : Fraction) → Lacks 32 w → (a.numerator ≡ c.numerator → ⊥) → SpellsFirst w s (n, a, b) → SpellsFirst w s (m, c, d) → ⊥
+pub beta_first : (w s : List ℕ) (n m : ℕ) (a b c d : Fraction) → Lacks 32 w → (a.numerator ≡ c.numerator → ⊥) → SpellsFirst w s (n, a, b)
+    → SpellsFirst w s (m, c, d) → ⊥
 beta_first w s n m a b c d l other h k = other (ap (λ (f : First). f.1.numerator) (first_once w s (n, a, b) (m, c, d) l h k))

@@ -29,7 +29,8 @@ behind_id s p r h f = subst (λ x. IsFollowed 32 x (r.number, h.1)) (sym (follow
 pub no_number : (s : List ℕ) (p : ℕ × List ℕ) → IsFollowed 32 s p → ((q : ℕ × List ℕ) → IsFollowed 32 p.1 q → ⊥) → (r : Record) → IsRecord s r → ⊥
 no_number s p f n r h = n (r.number, h.1) (behind_id s p r h f)
 
-pub no_value_behind : (s : List ℕ) (p q : ℕ × List ℕ) → IsFollowed 32 s p → IsFollowed 32 p.1 q → ((bytes : List ℕ) → IsValue q.1 bytes → ⊥) → (r : Record) → IsRecord s r → ⊥
+pub no_value_behind : (s : List ℕ) (p q : ℕ × List ℕ) → IsFollowed 32 s p → IsFollowed 32 p.1 q → ((bytes : List ℕ) → IsValue q.1 bytes → ⊥)
+    → (r : Record) → IsRecord s r → ⊥
 no_value_behind s p q f g n r h =
     n r.value (subst (λ x. IsValue x r.value) (sym (followed_once 32 p.1 q (r.number, h.1) (omega arith) g (behind_id s p r h f))) h.4)
 
@@ -43,11 +44,13 @@ pub last_push : (last : Option ℕ) (rs : List Record) (r : Record) → last_id 
 last_push last [] r = refl
 last_push last (x ∷ rs) r = last_push (Some x.id) rs r
 
-good_push : (l : Interval) (last : Option ℕ) (rs : List Record) (r : Record) → AreGood l last rs → IsGood l (last_id last rs) r → AreGood l last (rs ++ (r ∷ []))
+good_push : (l : Interval) (last : Option ℕ) (rs : List Record) (r : Record) → AreGood l last rs → IsGood l (last_id last rs) r
+    → AreGood l last (rs ++ (r ∷ []))
 good_push l last [] r h g = (g, tt)
 good_push l last (x ∷ rs) r h g = (h.0, good_push l (Some x.id) rs r h.1 g)
 
-pub reading_push : (l : Interval) (lines : List (List ℕ)) (rs : List Record) (text : List ℕ) (r : Record) → IsReading l lines rs → IsRecord text r → IsGood l (last_id None rs) r → IsReading l (lines ++ (text ∷ [])) (rs ++ (r ∷ []))
+pub reading_push : (l : Interval) (lines : List (List ℕ)) (rs : List Record) (text : List ℕ) (r : Record) → IsReading l lines rs → IsRecord text r
+    → IsGood l (last_id None rs) r → IsReading l (lines ++ (text ∷ [])) (rs ++ (r ∷ []))
 reading_push l lines rs text r h s g = record { spelled = zip_push IsRecord lines rs text r h.spelled s; good = good_push l None rs r h.good g }
 
 -- ---- how many
@@ -74,7 +77,8 @@ IsWithin l v = (id : ℕ) (e : Stored) → fin.get v id ≡ Some e → IsIn (16 
 same_entry : (d e : Stored) → Some d ≡ Some e → d ≡ e
 same_entry d e h = cc
 
-within_put : (l : Interval) (last : Option ℕ) (v : ViewMap) (id : ℕ) (e : Stored) → Fresh last v → IsAbove last id → IsIn (16 + length e.value) l → IsWithin l v → IsWithin l (put v id e)
+within_put : (l : Interval) (last : Option ℕ) (v : ViewMap) (id : ℕ) (e : Stored) → Fresh last v → IsAbove last id → IsIn (16 + length e.value) l
+    → IsWithin l v → IsWithin l (put v id e)
 within_put l last v id e f a new old q x has = at_either (q == id) q x (sym (get-put v id e q ∙ ap (λ o. cond (q == id) (Some (newer o e)) (fin.get v q)) (f id a)) ∙ has)
   where
     at_either : (b : Bool) (q : ℕ) (x : Stored) → cond b (Some e) (fin.get v q) ≡ Some x → IsIn (16 + length x.value) l
@@ -110,7 +114,8 @@ within_learned l rs h = (learned_all l None fin.empty rs (λ q a. fin.get-empty 
 pub len_learned : (l : Interval) (rs : List Record) → AreGood l None rs → fin.len (learned fin.empty rs) ≡ length rs
 len_learned l rs h = let all = learned_all l None fin.empty rs (λ q a. fin.get-empty nat_cmp q) h in omega (arith, all.count, fin.len-empty nat_cmp Stored)
 
-pub len_more : (l : Interval) (rs : List Record) (r : Record) → AreGood l None rs → IsAbove (last_id None rs) r.id → fin.len (put (learned fin.empty rs) r.id (stored_of r)) ≡ length rs + 1
+pub len_more : (l : Interval) (rs : List Record) (r : Record) → AreGood l None rs → IsAbove (last_id None rs) r.id
+    → fin.len (put (learned fin.empty rs) r.id (stored_of r)) ≡ length rs + 1
 len_more l rs r h a =
     let all = learned_all l None fin.empty rs (λ q b. fin.get-empty nat_cmp q) h in
     let one = len_fresh (last_id None rs) (learned fin.empty rs) r.id (stored_of r) all.fresh a in

@@ -29,7 +29,8 @@ first_part (d ∷ ds) ys h = slice_split-cons_no _ d (ds ++ (10 ∷ ys)) (ne_eqb
 -- ---- the loop over lines
 
 -- a loop over the parts of a text comes to all of them
-pub road_of : (s items : _) (text : List ℕ) → s ≡ items → split_text {P = ℕ} items ≡ text → split_has_more items ≡ true → split_pattern items ≡ 10 → YieldsList (split_steps FindsChar (λ a b. b ≡ a)) (λ x. x.now) s (parts_of text)
+pub road_of : (s items : _) (text : List ℕ) → s ≡ items → split_text {P = ℕ} items ≡ text → split_has_more items ≡ true → split_pattern items ≡ 10
+    → YieldsList (split_steps FindsChar (λ a b. b ≡ a)) (λ x. x.now) s (parts_of text)
 road_of s items text start is more pattern = YieldsList-from_str_split 10 text (lit< tt) (ap split_text start ∙ is) (ap split_has_more start ∙ more) (ap split_pattern start ∙ pattern)
 
 -- what it has come to so far, and what comes now
@@ -43,12 +44,14 @@ zip_push R [] (z ∷ ys) x y h r = absurd h
 zip_push R (w ∷ xs) [] x y h r = absurd h
 zip_push R (w ∷ xs) (z ∷ ys) x y h r = (h.0, zip_push R xs ys x y h.1 r)
 
-pub pieces_at : {A : Type 0} (all front : List A) (i : ℕ) (x : A) → front ≡ take i all → i < length all → x ≡ get_or all i x → all ≡ front ++ (x ∷ drop (i + 1) all)
+pub pieces_at : {A : Type 0} (all front : List A) (i : ℕ) (x : A) → front ≡ take i all → i < length all → x ≡ get_or all i x
+    → all ≡ front ++ (x ∷ drop (i + 1) all)
 pieces_at all front i x f l e =
     sym (take-append-drop i all) ∙ ap (λ u. u ++ drop i all) (sym f)
     ∙ ap (λ u. front ++ u) (drop_more all i x l ∙ ap (λ y. y ∷ drop (i + 1) all) (sym e))
 
-first_from : {L : Type 0} (spells : List ℕ → L → Type 0) (b : ℕ) (done : List (List ℕ)) (v : List L) (t : List ℕ) (rest : List (List ℕ)) → AllZip spells done v → IsNone spells b t → IsFirst (IsNone spells) b (done ++ t ∷ rest) (b + length v + 1)
+first_from : {L : Type 0} (spells : List ℕ → L → Type 0) (b : ℕ) (done : List (List ℕ)) (v : List L) (t : List ℕ) (rest : List (List ℕ))
+    → AllZip spells done v → IsNone spells b t → IsFirst (IsNone spells) b (done ++ t ∷ rest) (b + length v + 1)
 first_from spells b [] [] t rest h n = inl (n, omega arith)
 first_from spells b [] (y ∷ v) t rest h n = absurd h
 first_from spells b (x ∷ done) [] t rest h n = absurd h
@@ -62,11 +65,13 @@ first_other spells b texts done items t i k f l e h n d =
     let here = first_from spells b done items t (drop (i + 1) texts) h n in
     subst (λ u. IsFirst (IsNone spells) b u (b + k + 1)) (sym (pieces_at texts done i t f l e)) (subst (IsFirst (IsNone spells) b (done ++ t ∷ drop (i + 1) texts)) (omega (arith, d)) here)
 
-pushed : {X E : Type 0} (items new : List X) (x : X) (r : Result (Unit {0}) E) → new ≡ cond (is_ok r) (items ++ x ∷ []) items → is_err r ≡ false → new ≡ items ++ x ∷ []
+pushed : {X E : Type 0} (items new : List X) (x : X) (r : Result (Unit {0}) E) → new ≡ cond (is_ok r) (items ++ x ∷ []) items → is_err r ≡ false
+    → new ≡ items ++ x ∷ []
 pushed items new x (Ok u) e f = e
 pushed items new x (Err d) e f = absurd cc
 
-pub all_read : {L : Type 0} (spells : List ℕ → L → Type 0) (texts done : List (List ℕ)) (items : List L) → done ≡ texts → AllZip spells done items → AllZip spells texts items
+pub all_read : {L : Type 0} (spells : List ℕ → L → Type 0) (texts done : List (List ℕ)) (items : List L) → done ≡ texts → AllZip spells done items
+    → AllZip spells texts items
 all_read spells texts done items e h = subst (λ u. AllZip spells u items) e h
 
 pub read_more : {E L : Type 0} (spells : List ℕ → L → Type 0) (done : List (List ℕ)) (t : List ℕ) (items new : List L) (x : L) (r : Result (Unit {0}) E) → AllZip spells done items → spells t x

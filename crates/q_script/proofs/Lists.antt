@@ -20,7 +20,8 @@ use Rattle.q_script.specs.File.{AreNodes, IsListOf, IsNoHeading, IsFaulty, IsNod
 pub no_nodes : AreNodes [] []
 no_nodes = record { each = tt; few = omega arith }
 
-pub one_more : (done : List (List ℕ)) (t : List ℕ) (nodes : List NodeLine) (n : NodeLine) → AreNodes done nodes → SpellsNode t n → length nodes < most_facts → AreNodes (done ++ t ∷ []) (nodes ++ n ∷ [])
+pub one_more : (done : List (List ℕ)) (t : List ℕ) (nodes : List NodeLine) (n : NodeLine) → AreNodes done nodes → SpellsNode t n
+    → length nodes < most_facts → AreNodes (done ++ t ∷ []) (nodes ++ n ∷ [])
 one_more done t nodes n h s l = record {
   each = zip_push SpellsNode done nodes t n h.each s;
   few = let e = length-append nodes (n ∷ []) in omega (arith, e);
@@ -33,7 +34,8 @@ IsFaultyBehind nodes text = (most_facts ≤ nodes) ⊎ ((node : NodeLine) → Sp
 pub not_faulty : (b : ℕ) (t : List ℕ) (n : NodeLine) → b < most_facts → SpellsNode t n → IsFaultyBehind b t → ⊥
 not_faulty b t n l s f = elim f [ inl many ↦ omega arith | inr none ↦ none n s ]
 
-first_from : (b : ℕ) (done : List (List ℕ)) (v : List NodeLine) (t : List ℕ) (rest : List (List ℕ)) → AllZip SpellsNode done v → b + length v ≤ most_facts → IsFaultyBehind (b + length v) t → IsFirst IsFaulty (suc b) (done ++ t ∷ rest) (b + length v + 2)
+first_from : (b : ℕ) (done : List (List ℕ)) (v : List NodeLine) (t : List ℕ) (rest : List (List ℕ)) → AllZip SpellsNode done v
+    → b + length v ≤ most_facts → IsFaultyBehind (b + length v) t → IsFirst IsFaulty (suc b) (done ++ t ∷ rest) (b + length v + 2)
 first_from b [] [] t rest h few n = inl (subst (λ k. IsFaultyBehind k t) (omega arith) n, omega arith)
 first_from b [] (y ∷ v) t rest h few n = absurd h
 first_from b (x ∷ done) [] t rest h few n = absurd h
@@ -45,7 +47,8 @@ first_from b (x ∷ done) (y ∷ v) t rest h few n =
     inr (not_faulty b x y here h.0, subst (IsFirst IsFaulty (suc (suc b)) (done ++ t ∷ rest)) line (first_from (suc b) done v t rest h.1 next (subst (λ k. IsFaultyBehind k t) moved n)))
 
 -- the line that comes now is the first faulty one
-pub first_faulty : (texts done : List (List ℕ)) (nodes : List NodeLine) (t : List ℕ) (i k : ℕ) → done ≡ take i texts → i < length texts → t ≡ get_or texts i t → AreNodes done nodes → k ≡ length nodes → IsFaultyBehind k t → IsFirst IsFaulty 1 texts (k + 2)
+pub first_faulty : (texts done : List (List ℕ)) (nodes : List NodeLine) (t : List ℕ) (i k : ℕ) → done ≡ take i texts → i < length texts
+    → t ≡ get_or texts i t → AreNodes done nodes → k ≡ length nodes → IsFaultyBehind k t → IsFirst IsFaulty 1 texts (k + 2)
 first_faulty texts done nodes t i k f l e h d n =
     let now : k ≡ 0 + length nodes = omega (arith, d) in
     let line : 0 + length nodes + 2 ≡ k + 2 = omega (arith, d) in
@@ -65,29 +68,36 @@ more_lines : (text body a b : List ℕ) → body ≡ without_last_feed text → 
 more_lines text body a b e l = ap parts_of (sym e ∙ l.1) ∙ first_part a b l.0
 
 -- line 1 is of another form
-first_fault : (text a : List ℕ) (others : List (List ℕ)) (fault : ClusterFileFault) → lines_of text ≡ a ∷ others → (fault ≡ Syntax 1) × IsNoHeading a → IsListFault text fault
+first_fault : (text a : List ℕ) (others : List (List ℕ)) (fault : ClusterFileFault) → lines_of text ≡ a ∷ others → (fault ≡ Syntax 1) × IsNoHeading a
+    → IsListFault text fault
 first_fault text a others fault e h = subst (IsListFault text) (sym h.0) (subst (λ u. IsFirst IsFaulty 0 u 1) (sym e) (inl (h.1, refl)))
 
-pub fault_alone : (text body : List ℕ) (fault : ClusterFileFault) → body ≡ without_last_feed text → Lacks 10 body → (fault ≡ Syntax 1) × IsNoHeading body → IsListFault text fault
+pub fault_alone : (text body : List ℕ) (fault : ClusterFileFault) → body ≡ without_last_feed text → Lacks 10 body
+    → (fault ≡ Syntax 1) × IsNoHeading body → IsListFault text fault
 fault_alone text body fault e l h = first_fault text body [] fault (one_line text body e l) h
 
-pub fault_first : (text body a b : List ℕ) (fault : ClusterFileFault) → body ≡ without_last_feed text → IsCut 10 body a b → (fault ≡ Syntax 1) × IsNoHeading a → IsListFault text fault
+pub fault_first : (text body a b : List ℕ) (fault : ClusterFileFault) → body ≡ without_last_feed text → IsCut 10 body a b
+    → (fault ≡ Syntax 1) × IsNoHeading a → IsListFault text fault
 fault_first text body a b fault e l h = first_fault text a (parts_of b) fault (more_lines text body a b e l) h
 
-pub fault_later : (text body a b : List ℕ) (d : Heading) (fault : ClusterFileFault) → body ≡ without_last_feed text → IsCut 10 body a b → SpellsHeading a d → IsNodeFault b fault → IsListFault text fault
+pub fault_later : (text body a b : List ℕ) (d : Heading) (fault : ClusterFileFault) → body ≡ without_last_feed text → IsCut 10 body a b
+    → SpellsHeading a d → IsNodeFault b fault → IsListFault text fault
 fault_later text body a b d (Syntax line) e l s h = subst (λ u. IsFirst IsFaulty 0 u line) (sym (more_lines text body a b e l)) (inr (λ n. n d s, h))
 fault_later text body a b d OutOfMemory e l s h = tt
 fault_later text body a b d BadFraction e l s h = h
 fault_later text body a b d BadFounders e l s h = h
 fault_later text body a b d IdUsed e l s h = h
 
-pub list_alone : (text body : List ℕ) (d : Heading) (nodes : List NodeLine) → body ≡ without_last_feed text → Lacks 10 body → SpellsHeading body d → nodes ≡ [] → IsListOf text d nodes
+pub list_alone : (text body : List ℕ) (d : Heading) (nodes : List NodeLine) → body ≡ without_last_feed text → Lacks 10 body → SpellsHeading body d
+    → nodes ≡ [] → IsListOf text d nodes
 list_alone text body d nodes e l s n = record { first = body; others = []; parts = one_line text body e l; heads = s; lists = subst (AreNodes []) (sym n) no_nodes }
 
-pub list_is : (text body a b : List ℕ) (d : Heading) (nodes : List NodeLine) → body ≡ without_last_feed text → IsCut 10 body a b → SpellsHeading a d → IsNodeList b nodes → IsListOf text d nodes
+pub list_is : (text body a b : List ℕ) (d : Heading) (nodes : List NodeLine) → body ≡ without_last_feed text → IsCut 10 body a b → SpellsHeading a d
+    → IsNodeList b nodes → IsListOf text d nodes
 list_is text body a b d nodes e l s h = record { first = a; others = parts_of b; parts = more_lines text body a b e l; heads = s; lists = h }
 
 -- what is passed on is what is wrong
-pub passed_on : {X : Type 0} (P : ClusterFileFault → Type 0) (r : Result X ClusterFileFault) (fault : ClusterFileFault) → IsErrAnd r (λ d. d ≡ fault) → P fault → IfErr r P
+pub passed_on : {X : Type 0} (P : ClusterFileFault → Type 0) (r : Result X ClusterFileFault) (fault : ClusterFileFault) → IsErrAnd r (λ d. d ≡ fault)
+    → P fault → IfErr r P
 passed_on P (Ok x) fault h p = tt
 passed_on P (Err d) fault h p = subst P (sym h) p

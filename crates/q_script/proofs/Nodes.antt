@@ -29,11 +29,13 @@ behind s a b e n h = subst (λ x. IsFollowed 32 x (n.id, h.address)) (sym (word_
 pub no_id : (s a b : List ℕ) → IsCut 32 s a b → ((p : ℕ × List ℕ) → IsFollowed 32 b p → ⊥) → (n : NodeLine) → SpellsNode s n → ⊥
 no_id s a b e never n h = never (n.id, h.address) (behind s a b e n h)
 
-pub no_address : (s a b : List ℕ) (p : ℕ × List ℕ) → IsCut 32 s a b → IsFollowed 32 b p → ((x : SocketAddr) → IsSocketText p.1 x → ⊥) → (n : NodeLine) → SpellsNode s n → ⊥
+pub no_address : (s a b : List ℕ) (p : ℕ × List ℕ) → IsCut 32 s a b → IsFollowed 32 b p → ((x : SocketAddr) → IsSocketText p.1 x → ⊥) → (n : NodeLine)
+    → SpellsNode s n → ⊥
 no_address s a b p e k never n h =
     never n.address (subst (λ x. IsSocketText x n.address) (sym (followed_once 32 b p (n.id, h.address) (lit< tt) k (behind s a b e n h))) h.is_address)
 
 -- a parse that gives nothing
-pub not_parsed : {E : Type 0} (text : List ℕ) (r : Result SocketAddr E) → Parses IsSocketText text r → None ≡ result_ok r → (x : SocketAddr) → IsSocketText text x → ⊥
+pub not_parsed : {E : Type 0} (text : List ℕ) (r : Result SocketAddr E) → Parses IsSocketText text r → None ≡ result_ok r → (x : SocketAddr)
+    → IsSocketText text x → ⊥
 not_parsed text (Ok a) h e = absurd cc
 not_parsed text (Err d) h e = h

@@ -4,7 +4,7 @@ use Rattle.std.specs.Prelude.{codes}
 use Rattle.std.specs.List.{AllZip}
 use Rattle.std.proofs.NetLemmas.Theorems.{IsSocketText_unique}
 use Rattle.std.specs.Net.Grammar.{IsSocketText}
-use Rattle.q_script.specs.declared.founding.Fraction.{Fraction}
+use Rattle.sc_members.specs.declared.config.Fraction.{Fraction}
 use Rattle.q_script.specs.Words.{IsFollowed}
 use Rattle.q_script.proofs.Parts.{cut_once}
 use Rattle.q_script.proofs.Pairs.{followed_once, number_once}

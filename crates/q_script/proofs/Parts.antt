@@ -62,6 +62,7 @@ feed_some [] = refl
 feed_some (c ∷ []) = refl
 feed_some (c ∷ d ∷ ds) = ap (λ x. c ∷ x) (feed_some (d ∷ ds))
 
-pub feed_is : (s : List ℕ) (d : Bor (List ℕ)) (r : Option (Bor (List ℕ))) → d.now ≡ s → MatchOption r ((front : List ℕ) → s ≢ front ++ (10 ∷ [])) (λ x. s ≡ x.now ++ (10 ∷ [])) → (unwrap_or r d).now ≡ without_last_feed s
+pub feed_is : (s : List ℕ) (d : Bor (List ℕ)) (r : Option (Bor (List ℕ))) → d.now ≡ s
+    → MatchOption r ((front : List ℕ) → s ≢ front ++ (10 ∷ [])) (λ x. s ≡ x.now ++ (10 ∷ [])) → (unwrap_or r d).now ≡ without_last_feed s
 feed_is s d None e h = e ∙ sym (feed_none s h)
 feed_is s d (Some x) e h = sym (ap without_last_feed h ∙ feed_some x.now)

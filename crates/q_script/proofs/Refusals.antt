@@ -1,7 +1,7 @@
 -- What is first wrong with a text is one thing, and nothing is wrong with a file.
 use Rattle.std.proofs.Common.{◌≡◌, ℕ, suc, ◌+◌, ◌≤◌, ◌<◌, true, false, Bool, List, [], ◌∷◌, length, refl, ap, sym, ◌∙◌, subst, inl, inr, arith}
 use Rattle.std.specs.List.{AllZip}
-use Rattle.sc_members.specs.Members.{most_facts}
+use Rattle.sc_members.specs.Members.{most_facts, AreFractions, config_of}
 use Rattle.sc_node.specs.Nodes.{are_founders}
 use Rattle.q_script.specs.Lines.{lines_of, IsFirst}
 use Rattle.q_script.specs.declared.node_line.Heading.{Heading}
@@ -10,7 +10,7 @@ use Rattle.q_script.specs.declared.file.ClusterFile.{ClusterFile}
 use Rattle.q_script.specs.declared.fault.ClusterFileFault.{ClusterFileFault}
 use Rattle.q_script.specs.declared.fault.ClusterFileFault.TheVariants.{Syntax, BadFraction, BadFounders, IdUsed, OutOfMemory}
 use Rattle.q_script.specs.NodeLine.{SpellsNode}
-use Rattle.q_script.specs.File.{AreApart, AreFractions, HasFault, IsFault, IsFaulty, IsListOf, Spells, config_of, founder_ids}
+use Rattle.q_script.specs.File.{AreApart, HasFault, IsFault, IsFaulty, IsListOf, Spells, founder_ids}
 use Rattle.q_script.proofs.Lists.{not_faulty}
 use Rattle.q_script.proofs.Once.{list_once}
 
@@ -26,7 +26,8 @@ first_once P b (l ∷ lines) m n (inl h) (inr k) = absurd (k.0 h.0)
 first_once P b (l ∷ lines) m n (inr h) (inl k) = absurd (h.0 k.0)
 first_once P b (l ∷ lines) m n (inr h) (inr k) = first_once P (suc b) lines m n h.1 k.1
 
-none_faulty : (b : ℕ) (lines : List (List ℕ)) (nodes : List NodeLine) (n : ℕ) → AllZip SpellsNode lines nodes → b + length nodes ≤ most_facts → IsFirst IsFaulty (suc b) lines n → ⊥
+none_faulty : (b : ℕ) (lines : List (List ℕ)) (nodes : List NodeLine) (n : ℕ) → AllZip SpellsNode lines nodes → b + length nodes ≤ most_facts
+    → IsFirst IsFaulty (suc b) lines n → ⊥
 none_faulty b [] nodes n h few f = f
 none_faulty b (l ∷ lines) [] n h few f = h
 none_faulty b (l ∷ lines) (x ∷ nodes) n h few (inl f) = let here : b < most_facts = omega arith in not_faulty b l x here h.0 f.0
@@ -96,7 +97,8 @@ one_fault text IdUsed IdUsed x y p q = refl
 
 -- ---- files
 
-nothing_wrong : (d : Heading) (nodes : List NodeLine) (f : ClusterFileFault) → AreFractions d → are_founders (founder_ids nodes) ≡ true → AreApart nodes → HasFault d nodes f → ⊥
+nothing_wrong : (d : Heading) (nodes : List NodeLine) (f : ClusterFileFault) → AreFractions d.beta d.gamma → are_founders (founder_ids nodes) ≡ true
+    → AreApart nodes → HasFault d nodes f → ⊥
 nothing_wrong d nodes BadFraction x y z h = h x
 nothing_wrong d nodes BadFounders x y z h = true_false _ y h.1
 nothing_wrong d nodes IdUsed x y z h = h.2 z
@@ -113,7 +115,8 @@ not_refused text file BadFraction s x = absurd (not_wrong text file BadFraction 
 not_refused text file BadFounders s x = absurd (not_wrong text file BadFounders s x)
 not_refused text file IdUsed s x = absurd (not_wrong text file IdUsed s x)
 
-pub one_file : (text : List ℕ) (a b : ClusterFile) → Spells text a → Spells text b → (a.number ≡ b.number) × (a.config ≡ b.config) × (a.nodes.items ≡ b.nodes.items)
+pub one_file : (text : List ℕ) (a b : ClusterFile) → Spells text a → Spells text b
+    → (a.number ≡ b.number) × (a.config ≡ b.config) × (a.nodes.items ≡ b.nodes.items)
 one_file text a b h k =
     let same = list_once text h.heading k.heading a.nodes.items b.nodes.items h.list k.list in
-    (h.number ∙ ap (λ d. d.number) same.0 ∙ sym k.number, h.config ∙ ap config_of same.0 ∙ sym k.config, same.1)
+    (h.number ∙ ap (λ d. d.number) same.0 ∙ sym k.number, h.config ∙ ap (λ d. config_of d.beta d.gamma) same.0 ∙ sym k.config, same.1)

@@ -43,7 +43,8 @@ ascii_digits s h = λ k d less. same_digit (slice_index_or s k d) ∙ h k d less
 -- ---- what digits spell
 
 -- digits of more bytes than a value has are read as too many
-pub too_many : (s : List ℕ) (b : Bool) (r : Option (Result (List ℕ) ValueFault)) (f : ValueFault) → (IsTrue b ↔ ((length s % 2 ≡ 0) × AllPass is_hex_digit s)) → r ≡ then_some b (Err f) → most_bytes < length s / 2 → ReadsValue AreDigits s r
+pub too_many : (s : List ℕ) (b : Bool) (r : Option (Result (List ℕ) ValueFault)) (f : ValueFault)
+    → (IsTrue b ↔ ((length s % 2 ≡ 0) × AllPass is_hex_digit s)) → r ≡ then_some b (Err f) → most_bytes < length s / 2 → ReadsValue AreDigits s r
 too_many s true r f h e over = subst (ReadsValue AreDigits s) (sym e) (
     let k = h.0 refl in
     let d = decode_of-digits s k.0 k.1 in
@@ -51,17 +52,20 @@ too_many s true r f h e over = subst (ReadsValue AreDigits s) (sym e) (
     )
 too_many s false r f h e over = subst (ReadsValue AreDigits s) (sym e) (λ bytes is. let k = decode_of-ok s bytes is in true≢false (sym (h.1 (k.0, k.1))))
 
-from_sized : (d : Result (List ℕ) FromHexError) (out : List ℕ) (r : Result (Unit {0}) FromHexError) (u : Unit {0}) → MatchResult d (λ bytes. (r ≡ Ok tt) × (out ≡ bytes)) (λ e. r ≡ Err e) → r ≡ Ok u → d ≡ Ok out
+from_sized : (d : Result (List ℕ) FromHexError) (out : List ℕ) (r : Result (Unit {0}) FromHexError) (u : Unit {0})
+    → MatchResult d (λ bytes. (r ≡ Ok tt) × (out ≡ bytes)) (λ e. r ≡ Err e) → r ≡ Ok u → d ≡ Ok out
 from_sized (Ok bytes) out r u h e = ap Ok (sym h.1)
 from_sized (Err f) out r u h e = cc
 
 -- what is written is what the digits spell
-pub written : (s out : List ℕ) (n : ℕ) (r : Result (Unit {0}) FromHexError) (u : Unit {0}) → MatchResult (decode_sized s n) (λ bytes. (r ≡ Ok tt) × (out ≡ bytes)) (λ e. r ≡ Err e) → r ≡ Ok u → AreDigits s out
+pub written : (s out : List ℕ) (n : ℕ) (r : Result (Unit {0}) FromHexError) (u : Unit {0})
+    → MatchResult (decode_sized s n) (λ bytes. (r ≡ Ok tt) × (out ≡ bytes)) (λ e. r ≡ Err e) → r ≡ Ok u → AreDigits s out
 written s out n r u h e =
     let sized = from_sized (decode_sized s n) out r u h e in
     sym (decode_sized-twice s n (decode_sized-ok s n out sized)) ∙ sized
 
-pub read_as : (bytes : List ℕ) (r : Result (List ℕ) ValueFault) → IfOk r (λ value. value ≡ bytes) → (IsErrOf r BadValue ↔ (most_bytes < length bytes)) → IsReadAs bytes r
+pub read_as : (bytes : List ℕ) (r : Result (List ℕ) ValueFault) → IfOk r (λ value. value ≡ bytes) → (IsErrOf r BadValue ↔ (most_bytes < length bytes))
+    → IsReadAs bytes r
 read_as bytes (Ok value) h k = h
 read_as bytes (Err BadValue) h k = k.0 refl
 

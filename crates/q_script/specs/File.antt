@@ -3,7 +3,7 @@ use Rattle.std.specs.Prelude.{◌≡◌, ◌≢◌, ◌⊎◌, ℕ, zero, suc, �
 use Rattle.std.specs.List.{AllZip, All}
 use Rattle.reasons.specs.declared.Reason.{Reason}
 use Rattle.reasons.specs.declared.Reason.TheVariants as reasons
-use Rattle.sc_members.specs.Members.{Config, IsFraction, most_facts}
+use Rattle.sc_members.specs.Members.{AreFractions, config_of, most_facts}
 use Rattle.sc_node.specs.Nodes.{are_founders}
 use Rattle.q_script.specs.Lines.{parts_of, lines_of, IsFirst}
 use Rattle.q_script.specs.declared.node_line.Heading.{Heading}
@@ -40,14 +40,6 @@ IsFaulty (suc nodes) text = (most_facts ≤ nodes) ⊎ ((node : NodeLine) → Sp
 
 -- ---- the whole
 
--- both fractions are such that a cluster takes them
-abbrev pub AreFractions : Heading → Type 0
-AreFractions h = IsFraction h.beta.numerator h.beta.denominator × IsFraction h.gamma.numerator h.gamma.denominator
-
--- the two fractions of a heading
-abbrev pub config_of : Heading → Config
-config_of h = record { beta_num = h.beta.numerator; beta_den = h.beta.denominator; gamma_num = h.gamma.numerator; gamma_den = h.gamma.denominator }
-
 -- the ids of the founders, in the order of their lines
 abbrev pub founder_ids : List NodeLine → List ℕ
 founder_ids nodes = map (λ (n : NodeLine). n.id) (filter (λ (n : NodeLine). n.is_founder) nodes)
@@ -66,16 +58,16 @@ pub record Spells (text : List ℕ) (file : ClusterFile) : Type 0 where
   pub heading : Heading
   pub list : IsListOf text heading file.nodes.items
   pub number : file.number ≡ heading.number
-  pub config : file.config ≡ config_of heading
-  pub fractions : AreFractions heading
+  pub config : file.config ≡ config_of heading.beta heading.gamma
+  pub fractions : AreFractions heading.beta heading.gamma
   pub founders : are_founders (founder_ids file.nodes.items) ≡ true
   pub apart : AreApart file.nodes.items
 
 -- The text is a list of this heading and these nodes, and this is first wrong with them.
 abbrev pub HasFault : Heading → List NodeLine → ClusterFileFault → Type 0
-HasFault h nodes BadFraction = AreFractions h → ⊥
-HasFault h nodes BadFounders = AreFractions h × (are_founders (founder_ids nodes) ≡ false)
-HasFault h nodes IdUsed = AreFractions h × (are_founders (founder_ids nodes) ≡ true) × (AreApart nodes → ⊥)
+HasFault h nodes BadFraction = AreFractions h.beta h.gamma → ⊥
+HasFault h nodes BadFounders = AreFractions h.beta h.gamma × (are_founders (founder_ids nodes) ≡ false)
+HasFault h nodes IdUsed = AreFractions h.beta h.gamma × (are_founders (founder_ids nodes) ≡ true) × (AreApart nodes → ⊥)
 HasFault h nodes (Syntax line) = ⊥
 HasFault h nodes OutOfMemory = ⊥
 

@@ -1,6 +1,6 @@
 -- The first line of a script, and of any text that begins as one does.
 use Rattle.std.specs.Prelude.{◌≡◌, ℕ, List, ◌∷◌, ◌++◌, codes}
-use Rattle.q_script.specs.declared.founding.Fraction.{Fraction}
+use Rattle.sc_members.specs.declared.config.Fraction.{Fraction}
 use Rattle.q_script.specs.declared.founding.Founding.{Founding}
 use Rattle.q_script.specs.Words.{IsPair, IsFollowed}
 

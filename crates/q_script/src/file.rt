@@ -133,12 +133,7 @@ pub fn read_cluster(alloc: Global, text: &str) -> Result<ClusterFile, ClusterFil
         beta,
         gamma,
     } = heading;
-    let Ok(config) = Config::new(
-        beta.numerator,
-        beta.denominator,
-        gamma.numerator,
-        gamma.denominator,
-    ) else {
+    let Ok(config) = Config::new(beta, gamma) else {
         return Err(ClusterFileFault::BadFraction);
     };
     let founders = founder_ids(alloc, &nodes)?;

@@ -6,27 +6,17 @@ ghost use Rattle.q_script.specs.Founding.{SpellsFirst, SpellsFraction, SpellsFou
 
 use crate::numeral::{leading, pair};
 use crate::text::cut;
+use sc_members::Fraction;
 
-/// A fraction as it is written, in lowest terms or not.
-#[derive(Clone, Copy)]
-pub struct Fraction {
-    /// What stands before the slash.
-    pub numerator: u64,
-    /// What stands behind it, perhaps 0.
-    pub denominator: u64,
-}
-
-impl Fraction {
-    /// A fraction as `4/5`.
-    fn read(text: &str) -> Option<Fraction>
-        ensures { Reads SpellsFraction text.now result }
-    {
-        let (numerator, denominator) = pair(text, '/')?;
-        Some(Fraction {
-            numerator,
-            denominator,
-        })
-    }
+/// A fraction as `4/5`.
+fn fraction(text: &str) -> Option<Fraction>
+    ensures { Reads SpellsFraction text.now result }
+{
+    let (numerator, denominator) = pair(text, '/')?;
+    Some(Fraction {
+        numerator,
+        denominator,
+    })
 }
 
 /// The number and the fractions beta and gamma of a line that begins with this word, with one space between.
@@ -40,8 +30,8 @@ pub(crate) fn first_line(text: &str, word: &str) -> Option<(u64, Fraction, Fract
     }
     let (number, fractions) = leading(rest, ' ')?;
     let (beta, gamma) = cut(fractions, ' ')?;
-    let beta = Fraction::read(beta)?;
-    let gamma = Fraction::read(gamma)?;
+    let beta = fraction(beta)?;
+    let gamma = fraction(gamma)?;
     Some((number, beta, gamma))
 }
 

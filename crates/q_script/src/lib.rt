@@ -70,7 +70,7 @@ pub mod worked;
 pub use call_line::CallLine;
 pub use fault::ClusterFileFault;
 pub use file::{ClusterFile, read_cluster};
-pub use founding::{Founding, Fraction};
+pub use founding::Founding;
 pub use line::{Line, LineFault, ScriptLine};
 pub use node_line::{Heading, NodeLine};
 pub use node_words::NodeWords;

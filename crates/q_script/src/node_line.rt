@@ -4,9 +4,10 @@ ghost use Rattle.std.specs.Prelude.{◌≡◌};
 ghost use Rattle.q_script.specs.Words.{Reads};
 ghost use Rattle.q_script.specs.NodeLine.{IsNodeWord, SpellsHeading, SpellsNode};
 
-use crate::founding::{Fraction, first_line};
+use crate::founding::first_line;
 use crate::numeral::leading;
 use crate::text::cut;
+use sc_members::Fraction;
 use std::net::SocketAddr;
 
 /// The first line of a file.

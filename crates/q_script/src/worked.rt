@@ -5,7 +5,6 @@ ghost use Rattle.std.specs.Net.Grammar.{IsSocketText};
 ghost use Rattle.std.specs.declared.net.socket_addr.SocketAddr.{SocketAddr};
 ghost use Rattle.reasons.specs.Table as table;
 ghost use Rattle.bq_range.specs.Interval.{Interval};
-ghost use Rattle.sc_node.specs.Nodes.{are_founders};
 ghost use Rattle.q_script.specs.Words.{IsNumeral};
 ghost use Rattle.q_script.specs.Line.{Spells};
 ghost use Rattle.q_script.specs.Founding.{SpellsFounding};
@@ -74,10 +73,8 @@ pub fn worked_files()
     ensures too_many { (text : List ℕ) → IsFaulty 1025 text }
     ensures not_too_many { (text : List ℕ) (n : Node) → SpellsNode text n → IsFaulty 1024 text → ⊥ }
 
-    // Founders are told by their lines, and rise.
+    // Founders are told by their lines.
     ensures founders { (a b c : SocketAddr) → founder_ids (record { id = 7; is_founder = true; address = a } ∷ record { id = 4; is_founder = false; address = b } ∷ record { id = 9; is_founder = true; address = c } ∷ []) ≡ 7 ∷ 9 ∷ [] }
-    ensures no_founders { are_founders [] ≡ false }
-    ensures falling { are_founders (9 ∷ 7 ∷ []) ≡ false }
     ensures heading_alone { IsFault (codes "cluster 1 2/3 2/3\n") file_fault.BadFounders }
     ensures improper { IsFault (codes "cluster 1 2/3 4/3") file_fault.BadFraction }
 

@@ -46,7 +46,8 @@ back_part P [] fs h = h
 back_part P (e ∷ es) fs h = back_part P es fs h.1
 
 -- what holds of all entries holds of those of a chunk
-pub in_chunk : (P : ℕ × Stored → Type 0) (cs : List (List (ℕ × Stored))) (k : ℕ) (c : List (ℕ × Stored)) → AllByRecursion P (joined cs) → slice_get cs k ≡ Some c → AllByRecursion P c
+pub in_chunk : (P : ℕ × Stored → Type 0) (cs : List (List (ℕ × Stored))) (k : ℕ) (c : List (ℕ × Stored)) → AllByRecursion P (joined cs)
+    → slice_get cs k ≡ Some c → AllByRecursion P c
 in_chunk P [] k c all at = absurd (cc)
 in_chunk P (x ∷ cs) zero c all at = let same : x ≡ c = cc in subst (AllByRecursion P) same (front_part P x (joined cs) all)
 in_chunk P (x ∷ cs) (suc k) c all at = in_chunk P cs k c (back_part P x (joined cs) all) at

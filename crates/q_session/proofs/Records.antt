@@ -27,7 +27,8 @@ front a b rest m n p q = rw (p, q) refl
 long : (a b rest : List ℕ) (m n : ℕ) → a ≡ le_bytes 8 m → b ≡ le_bytes 8 n → 16 ≤ length (put_mid 8 8 (a ++ rest) b)
 long a b rest m n p q = rw (p, q) (omega arith)
 
-pub written : (k : ℕ) (a b v rest : List ℕ) (m n : ℕ) → a ≡ le_bytes 8 m → b ≡ le_bytes 8 n → take (16 + length v) (put_mid 16 k (put_mid 8 8 (a ++ rest) b) v) ≡ le_bytes 8 m ++ (le_bytes 8 n ++ v)
+pub written : (k : ℕ) (a b v rest : List ℕ) (m n : ℕ) → a ≡ le_bytes 8 m → b ≡ le_bytes 8 n
+    → take (16 + length v) (put_mid 16 k (put_mid 8 8 (a ++ rest) b) v) ≡ le_bytes 8 m ++ (le_bytes 8 n ++ v)
 written k a b v rest m n p q =
     take-put_mid 16 k (put_mid 8 8 (a ++ rest) b) v (16 + length v) refl (long a b rest m n p q) ∙ ap (λ x. x ++ v) (front a b rest m n p q)
 
@@ -36,7 +37,8 @@ pub record_length : (e : ℕ × Stored) → 16 + length e.1.value ≡ length (re
 record_length e = omega arith
 
 -- the entry at a place of a view's entries is what is known of its node
-pub lengths_at : (lengths : Interval) (v : ViewMap) (k id : ℕ) (e : Stored) → HasRecordsWithin lengths v → slice_get (fin.entries v) k ≡ Some (id, e) → IsIn (16 + length e.value) lengths
+pub lengths_at : (lengths : Interval) (v : ViewMap) (k id : ℕ) (e : Stored) → HasRecordsWithin lengths v → slice_get (fin.entries v) k ≡ Some (id, e)
+    → IsIn (16 + length e.value) lengths
 lengths_at lengths v k id e h at = all_get (λ x. IsIn (16 + length x.1.value) lengths) (fin.entries v) k (id, e) (each_entry (λ x. IsIn (16 + length x.1.value) lengths) v h.at) at
   where
     all_get : (P : ℕ × Stored → Type 0) (xs : List (ℕ × Stored)) (k : ℕ) (x : ℕ × Stored) → AllByRecursion P xs → slice_get xs k ≡ Some x → P x
@@ -49,7 +51,8 @@ abbrev pub shown : ℕ × Bor Stored → ℕ × Stored
 shown e = (e.0, e.1.now)
 
 -- a loop over entries has gone over all of them
-pub all_read : (entries : List (ℕ × Stored)) (yielded : List (ℕ × Bor Stored)) (s t u : List (ℕ × Stored)) (r : Option (ℕ × Bor Stored)) → s ≡ entries → Yields (TakesFirst shown) s yielded t → r ≡ None → TakesFirst shown t r u → map shown yielded ≡ entries
+pub all_read : (entries : List (ℕ × Stored)) (yielded : List (ℕ × Bor Stored)) (s t u : List (ℕ × Stored)) (r : Option (ℕ × Bor Stored)) → s ≡ entries
+    → Yields (TakesFirst shown) s yielded t → r ≡ None → TakesFirst shown t r u → map shown yielded ≡ entries
 all_read entries yielded s t u r start yields end step = (iter_end shown entries yielded s t u r start yields end step).0
 
 -- the steps of a view's records fit 64 bits

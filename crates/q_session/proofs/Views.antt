@@ -38,7 +38,8 @@ pub same-view : (v w : ViewMap) → is_same_view v w ≡ true → v ≡ w
 same-view v w h = fin.same_entries_map v w (same-entries (fin.entries v) (fin.entries w) h)
 
 -- a right answer is that of each certified program with this text and longest path
-pub right-of_same : (c d : Certificate) (view : ViewMap) (start : ℕ) (ran : Ran) → IsCertified d → c.text ≡ d.text → c.longest ≡ d.longest → IsRight c view start ran → IsRight d view start ran
+pub right-of_same : (c d : Certificate) (view : ViewMap) (start : ℕ) (ran : Ran) → IsCertified d → c.text ≡ d.text → c.longest ≡ d.longest
+    → IsRight c view start ran → IsRight d view start ran
 right-of_same c d view start ran certified text longest r = record {
   certified = certified;
   meant = subst (λ (t : List Insn). IsAnswer t (view_records view) start ran.acc ran.steps) text r.meant;

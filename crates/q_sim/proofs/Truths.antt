@@ -18,7 +18,8 @@ use Rattle.q_history.specs.Calls.{Reaches, Takes}
 use Rattle.q_history.specs.Clusters.{start}
 use Rattle.q_told.specs.declared.refusal.Refusal.TheVariants.{Cluster}
 use Rattle.q_told.specs.Printing.{told_lines, message_lines, printed}
-use Rattle.q_sim.specs.Simulates.{SimState, Writing, at_next_line, is_any, or_refused, Does, Plays, Simulates, config_of, founders_of}
+use Rattle.sc_members.specs.Members.{config_of}
+use Rattle.q_sim.specs.Simulates.{SimState, Writing, at_next_line, is_any, or_refused, Does, Plays, Simulates, founders_of}
 use Rattle.q_sim.specs.Truths.{IsTrueAnswer, IsTrueLine, AreTrueLines}
 use Rattle.q_sim.proofs.Leading.{Leads, any_with, leads_itself, leads_on, IsLed, acts_led, does_led, plays_led, founded_is}
 use Rattle.q_sim.proofs.Recording.{IsRecorded, finish_recorded}
@@ -82,7 +83,7 @@ pub printed_true : ((version : Version) (config : Config) (founders : List ℕ) 
     → {F : Type 0} (writes : Writing F) (script : Script) (before : F) (text : List ℕ) (unsaved refused : Bool) (after : F) (s : Simulates writes script before text unsaved refused after)
     → AreTrueLines s.last.cluster refused script.lines.items text
 printed_true stay writes script before text unsaved refused after s =
-    let config = config_of script.founding in
+    let config = config_of script.founding.beta script.founding.gamma in
     let ids = founders_of script.founding in
     let first = start Second config ids in
     let begun = founded_is Second config ids (are_founders ids) s.first.cluster s.begins.started in

@@ -1,10 +1,11 @@
 -- What a script does to a cluster and to files, and what it prints.
-use Rattle.std.specs.Prelude.{◌≡◌, ◌≢◌, ◌⊎◌, ℕ, ◌<◌, ◌≤◌, ◌+◌, ◌-◌, ◌^◌, zero, suc, min, nat_lt, if◌then◌else◌, Bool, true, false, List, [], ◌∷◌, ◌++◌, length, slice_index, string_bytes, Option, Some, None, Result, Ok, Err, IsFalse}
+use Rattle.std.specs.Prelude.{◌≡◌, ◌≢◌, ◌⊎◌, ℕ, ◌<◌, ◌≤◌, ◌+◌, zero, suc, min, nat_lt, if◌then◌else◌, Bool, true, false, List, [], ◌∷◌, ◌++◌, length, slice_index, string_bytes, Option, Some, None, Result, Ok, Err, IsFalse}
 use Rattle.std.specs.List.{Contains}
 use Rattle.std.specs.Option.{IsSome}
 use Rattle.std.specs.FinSet as set
 use Rattle.bq_check.specs.Certificate.{Certificate}
-use Rattle.sc_members.specs.Members.{Config, IsFraction}
+use Rattle.sc_members.specs.Members.{AreFractions, config_of}
+use Rattle.q_table.specs.Programs.{program_id}
 use Rattle.sc_msg.specs.declared.version.Version.TheVariants.{Second}
 use Rattle.reasons.specs.declared.Reason.TheVariants as reasons
 use Rattle.q_book.specs.State.{BookState}
@@ -190,10 +191,6 @@ module _ {F : Type 0} (writes : Writing F) where
 abbrev pub LeavesFiles : {F : Type 0} → (SimState → List ℕ → SimState → Type 0) → SimState → F → List ℕ → SimState → F → Type 0
 LeavesFiles does s before text t after = does s text t × (after ≡ before)
 
--- the program of this number; a number that is too large is that of no program
-abbrev pub program_id : ℕ → ℕ
-program_id number = min number (2 ^ 32 - 1)
-
 -- the event that a line is, and nothing else
 abbrev pub event_of : ScriptLine → Option ClusterEvent
 event_of (Call (Ask node program start)) = Some (event.Call node (call.Ask (program_id program) start))
@@ -242,21 +239,10 @@ first_ids (suc n) = first_ids n ++ (suc n) ∷ []
 abbrev pub founders_of : Founding → List ℕ
 founders_of f = first_ids (min f.count 257)
 
-abbrev pub config_of : Founding → Config
-config_of f = record {
-  beta_num = f.beta.numerator;
-  beta_den = f.beta.denominator;
-  gamma_num = f.gamma.numerator;
-  gamma_den = f.gamma.denominator;
-}
-
-abbrev pub HasFractions : Founding → Type 0
-HasFractions f = IsFraction f.beta.numerator f.beta.denominator × IsFraction f.gamma.numerator f.gamma.denominator
-
 -- the cluster of the founders, before any event: its books are of the second version
 pub record Begins (f : Founding) (s : SimState) : Type 0 where
-  pub fractions : HasFractions f
-  pub started : started Second (config_of f) (founders_of f) ≡ Ok s.cluster
+  pub fractions : AreFractions f.beta f.gamma
+  pub started : started Second (config_of f.beta f.gamma) (founders_of f) ≡ Ok s.cluster
   pub nodes : s.nodes ≡ founders_of f
   pub delivered : s.delivered ≡ set.empty
   pub unsaved : s.unsaved ≡ false
@@ -265,8 +251,8 @@ pub record Begins (f : Founding) (s : SimState) : Type 0 where
 
 -- why a script ends before any event
 abbrev pub IsSimulationFault : Founding → Refusal → Type 0
-IsSimulationFault f (refusal.Fraction _) = ¬ (HasFractions f)
-IsSimulationFault f (refusal.Cluster e) = HasFractions f × (e ≢ memory → started Second (config_of f) (founders_of f) ≡ Err e)
+IsSimulationFault f (refusal.Fraction _) = ¬ (AreFractions f.beta f.gamma)
+IsSimulationFault f (refusal.Cluster e) = AreFractions f.beta f.gamma × (e ≢ memory → started Second (config_of f.beta f.gamma) (founders_of f) ≡ Err e)
 IsSimulationFault f refusal.OutOfMemory = Unit {0}
 IsSimulationFault f r = ⊥
 

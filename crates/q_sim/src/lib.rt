@@ -6,8 +6,7 @@
 //! is an answer that the last cluster has recorded, and that is true: [`laws`] says it of all scripts. `simulate` tells
 //! beside the text whether a line was refused, and whether a journal was not written.
 //!
-//! - [`config_of`] is the fractions of a founding, [`event_of`] the event that a line of a script is, and [`program_id`]
-//!   the id of the program that it names.
+//! - [`event_of`] is the event that a line of a script is.
 //! - [`Delivered`] is the set of deliveries that were made or tried.
 //!
 //! The lines themselves, and the refusals, are those of `q_told`. The command line of `bqview` stands on it.
@@ -19,4 +18,4 @@ mod simulation;
 pub mod worked;
 
 pub use delivered::Delivered;
-pub use simulation::{Printed, config_of, event_of, program_id, simulate};
+pub use simulation::{Printed, event_of, simulate};

@@ -1,7 +1,7 @@
 //! Scripts, run over a cluster in memory.
 
 ghost use Rattle.std.specs.Prelude.{◌≡◌, ◌≢◌, ℕ, ◌<◌, ◌≤◌, ◌↔◌, ◌++◌, ◌+◌, ◌^◌, [], length, min, None, IfOk, IfErr, OnOk, OnErr, IsTrue, IsFalse, MatchResult, string_bytes};
-ghost use Rattle.q_sim.specs.Simulates.{HasFractions, IsSimulationFault, Rises, Simulates, TellsFaults, config_of, event_of, first_ids, program_id, with_id};
+ghost use Rattle.q_sim.specs.Simulates.{IsSimulationFault, Rises, Simulates, TellsFaults, event_of, first_ids, with_id};
 ghost use Rattle.q_sim.specs.Awaited.{AwaitsFrom};
 
 use crate::delivered::Delivered;
@@ -14,7 +14,7 @@ use q_script::{CallLine, Founding, Script, ScriptLine};
 use q_table::ProgramId;
 use q_told::{Refusal, RefusedLine, certified_code, print_messages, print_pairs, print_told};
 use reasons::Reason;
-use sc_members::{BadFraction, Config};
+use sc_members::Config;
 use sc_view::Value;
 use std::alloc::{AllocError, Global};
 
@@ -104,20 +104,6 @@ pub fn simulate<F: Files>(alloc: Global, script: Script, files: &mut F) -> Resul
     })
 }
 
-/// The fractions of a founding. Refuses 45 where one of them isn't num / den with 1 <= num <= den <= 1,000.
-pub fn config_of(founding: &Founding) -> Result<Config, BadFraction>
-    ensures { MatchResult result (λ config. HasFractions founding.now × (config ≡ config_of founding.now)) (λ _. ¬ (HasFractions founding.now)) }
-{
-    let beta = founding.beta;
-    let gamma = founding.gamma;
-    Config::new(
-        beta.numerator,
-        beta.denominator,
-        gamma.numerator,
-        gamma.denominator,
-    )
-}
-
 /// The ids of so many founders, counted from 1: 257 of them at most, which is one more than a cluster takes.
 fn founders(alloc: Global, count: u64) -> Result<Vec<u64>, AllocError>
     ensures { IfOk result (λ ids. ids.items ≡ first_ids (min count 257)) }
@@ -162,7 +148,7 @@ impl Simulation {
         ensures begun { IfOk result (λ s. Begins founding.now (seen s) × (string_bytes s.lines ≡ [])) }
         ensures refused { IfErr result (IsSimulationFault founding.now) }
     {
-        let config = config_of(founding)?;
+        let config = Config::new(founding.beta, founding.gamma)?;
         let nodes = founders(alloc, founding.count)?;
         let cluster = Cluster::new(alloc, config, nodes.as_slice())?;
         Ok(Simulation {
@@ -464,7 +450,7 @@ fn event_of_call(line: &CallLine) -> Option<ClusterEvent>
             program,
             start,
         } => {
-            let program = program_id(*program);
+            let program = ProgramId::of_number(*program);
             let start = *start;
             Some(called(*node, Call::Ask { program, start }))
         }
@@ -477,11 +463,4 @@ fn called(node: u64, call: Call) -> ClusterEvent
     ensures { result ≡ ClusterEvent.Call node call }
 {
     ClusterEvent::Call { node, call }
-}
-
-/// The id of a program of this number. Of a number that is too large it is the greatest id, which no program has.
-pub fn program_id(number: u64) -> ProgramId
-    ensures { result ≡ program_id number }
-{
-    ProgramId::new(u32::try_from(number).unwrap_or(u32::MAX))
 }

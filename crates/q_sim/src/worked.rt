@@ -19,7 +19,7 @@ ghost use Rattle.q_script.specs.declared.line.ScriptLine.{ScriptLine};
 ghost use Rattle.q_script.specs.declared.line.ScriptLine.TheVariants as line;
 ghost use Rattle.q_script.specs.declared.founding.Founding.{Founding};
 ghost use Rattle.q_sim.specs.Delivered.{Deliveries};
-ghost use Rattle.q_sim.specs.Simulates.{Awaits, Begins, DeliversAll, Plays, Saves, SavesBook, SimState, Tries, WantsMemory, at_next_line, event_of, or_refused, program_id, with_fault};
+ghost use Rattle.q_sim.specs.Simulates.{Awaits, Begins, DeliversAll, Plays, Saves, SavesBook, SimState, Tries, WantsMemory, at_next_line, event_of, or_refused, with_fault};
 ghost use Rattle.q_sim.specs.Truths.{AreTrueLines, IsTrueAnswer};
 ghost use Rattle.q_told.specs.declared.refusal.Refusal.TheVariants as refused;
 
@@ -43,10 +43,9 @@ pub fn worked()
     ensures refused_delivery { (s t : SimState) (h : Tries s 7 3 t) → t.faults ≡ s.faults }
     ensures first_event { (f : Founding) (s : SimState) → Begins f s → (at_next_line s).line ≡ 2 }
 
-    // What a script does: it plays its first line, which takes its event where it is one; a number that is too large
-    // is that of no program; and a journal is that of the node.
+    // What a script does: it plays its first line, which takes its event where it is one; and a journal is that of
+    // the node.
     ensures message_first { event_of (line.Deliver 7 3) ≡ Some (event.Deliver 7 3) }
-    ensures greatest_program { program_id 4294967296 ≡ 4294967295 }
     ensures event { (l : ScriptLine) (e : ClusterEvent) (s t : SimState) (before after : Memory) (text : List ℕ) → event_of l ≡ Some e → Plays (Writes {X = Unit {0}}) (l ∷ []) s before text t after → (result : _) × Takes s.cluster e t.cluster result }
     ensures no_such_node { (name text : List ℕ) (s t : SimState) (before after : Memory) → book_at s.cluster 3 ≡ None → Saves (Writes {X = Unit {0}}) 3 name s before text t after → after ≡ before }
     ensures file_fails { (book : BookState) (name text : List ℕ) (s t : SimState) (before after : Memory) → fails_next before.passing ≡ true → SavesBook (Writes {X = Unit {0}}) book name s before text t after → t.unsaved ≡ true }

@@ -24,21 +24,24 @@ programs_of es = map (λ e. e.1) es
 abbrev pub spelled_of : Entries → List (List ℕ × Certificate)
 spelled_of es = map (λ e. (e.0.items, e.1)) es
 
-place-is : (es : Entries) (bytes : List ℕ) (text : List Insn) → bytes ≡ spelling text → AreSpelled (spelled_of es) → position_or_len (λ k. bytes_eq bytes k.items) (keys_of es) ≡ position_or_len (λ c. is_same_text text c.text) (programs_of es)
+place-is : (es : Entries) (bytes : List ℕ) (text : List Insn) → bytes ≡ spelling text → AreSpelled (spelled_of es)
+    → position_or_len (λ k. bytes_eq bytes k.items) (keys_of es) ≡ position_or_len (λ c. is_same_text text c.text) (programs_of es)
 place-is [] bytes text b s = refl
 place-is (e ∷ es) bytes text b s =
     let rest = place-is es bytes text b s.1 in
     λ j. cond (not (bytes_eq (b j) (s.0 j))) (1 + rest j) 0
 
 -- the index of the bytes of a text is the text's id
-pub index-is : (es : Entries) (bytes : List ℕ) (text : List Insn) → bytes ≡ spelling text → AreSpelled (spelled_of es) → position (λ k. bytes_eq bytes k.items) (keys_of es) ≡ id_of (programs_of es) text
+pub index-is : (es : Entries) (bytes : List ℕ) (text : List Insn) → bytes ≡ spelling text → AreSpelled (spelled_of es)
+    → position (λ k. bytes_eq bytes k.items) (keys_of es) ≡ id_of (programs_of es) text
 index-is es bytes text b s =
     let place = place-is es bytes text b s in
     let count : length (keys_of es) ≡ length (programs_of es) = length-map es _ ∙ sym (length-map es _) in
     λ j. cond (nat_lt (place j) (count j)) (Some (place j)) None
 
 -- so a look-up answers the id
-pub found-is : (es : Entries) (programs : List Certificate) (bytes : List ℕ) (t text : List Insn) (r : Option ℕ) → programs_of es ≡ programs → AreSpelled (spelled_of es) → bytes ≡ spelling t → t ≡ text → r ≡ position (λ k. bytes_eq bytes k.items) (keys_of es) → id_of programs text ≡ r
+pub found-is : (es : Entries) (programs : List Certificate) (bytes : List ℕ) (t text : List Insn) (r : Option ℕ) → programs_of es ≡ programs
+    → AreSpelled (spelled_of es) → bytes ≡ spelling t → t ≡ text → r ≡ position (λ k. bytes_eq bytes k.items) (keys_of es) → id_of programs text ≡ r
 found-is es programs bytes t text r is s b same at =
     sym (at ∙ index-is es bytes text (b ∙ ap spelling same) s ∙ ap (λ p. id_of p text) is)
 
@@ -50,20 +53,24 @@ count-is es programs is = ap length (sym is) ∙ length-map es _
 pub registered-there : (programs : List Certificate) (c : Certificate) (id : ℕ) → id_of programs c.text ≡ Some id → registered programs c ≡ Ok (id, programs)
 registered-there programs c id there = rw there
 
-pub registered-full : (programs : List Certificate) (c : Certificate) → id_of programs c.text ≡ None → 1024 ≤ length programs → registered programs c ≡ Err reasons.TableFull
+pub registered-full : (programs : List Certificate) (c : Certificate) → id_of programs c.text ≡ None → 1024 ≤ length programs
+    → registered programs c ≡ Err reasons.TableFull
 registered-full programs c absent full = rw (absent, le-ltb _ _ full)
 
-pub registered-new : (programs : List Certificate) (c : Certificate) → id_of programs c.text ≡ None → length programs < 1024 → registered programs c ≡ Ok (length programs, programs ++ c ∷ [])
+pub registered-new : (programs : List Certificate) (c : Certificate) → id_of programs c.text ≡ None → length programs < 1024
+    → registered programs c ≡ Ok (length programs, programs ++ c ∷ [])
 registered-new programs c absent room = rw (absent, lt-ltb _ _ room)
 
 pub none-from : {A : Type 0} (r : Option A) → is_some r ≡ false → r ≡ None
 none-from None e = refl
 none-from (Some i) e = absurd (both_ways true e refl)
 
-pub checked-full : (programs : List Certificate) (c : Certificate) (r : Option ℕ) → id_of programs c.text ≡ r → is_some r ≡ false → 1024 ≤ length programs → checked programs c ≡ Err reasons.TableFull
+pub checked-full : (programs : List Certificate) (c : Certificate) (r : Option ℕ) → id_of programs c.text ≡ r → is_some r ≡ false
+    → 1024 ≤ length programs → checked programs c ≡ Err reasons.TableFull
 checked-full programs c r at none full = ap checked_by (registered-full programs c (at ∙ none-from r none) full)
 
-pub checked-new : (programs : List Certificate) (c : Certificate) (r : Option ℕ) → id_of programs c.text ≡ r → is_some r ≡ false → length programs < 1024 → checked programs c ≡ Ok tt
+pub checked-new : (programs : List Certificate) (c : Certificate) (r : Option ℕ) → id_of programs c.text ≡ r → is_some r ≡ false
+    → length programs < 1024 → checked programs c ≡ Ok tt
 checked-new programs c r at none room = ap checked_by (registered-new programs c (at ∙ none-from r none) room)
 
 pub checked-there : (programs : List Certificate) (c : Certificate) (r : Option ℕ) → id_of programs c.text ≡ r → is_some r ≡ true → checked programs c ≡ Ok tt
@@ -78,7 +85,8 @@ place-past n i e = elim (cases_lt i n) [
   | inr past ↦ past
 ]
 
-differs : (programs : List Certificate) (text : List Insn) (i : ℕ) (a : Certificate) → id_of programs text ≡ None → slice_get programs i ≡ Some a → text ≡ a.text → ⊥
+differs : (programs : List Certificate) (text : List Insn) (i : ℕ) (a : Certificate) → id_of programs text ≡ None → slice_get programs i ≡ Some a
+    → text ≡ a.text → ⊥
 differs programs text i a absent there same =
     let within = slice_get_within programs i a there in
     let past = place-past (length programs) (position_or_len (λ c. is_same_text text c.text) programs) absent in
@@ -87,7 +95,8 @@ differs programs text i a absent there same =
     both_ways _ (rw at at fails) ((bytes_eq-Decides (spelling text) (spelling a.text)).1 (ap spelling same))
 
 -- an element of a longer list is one of the list, or the last
-last-or : (programs : List Certificate) (c : Certificate) (i : ℕ) (a : Certificate) → slice_get (programs ++ c ∷ []) i ≡ Some a → (slice_get programs i ≡ Some a) ⊎ ((i ≡ length programs) × (a ≡ c))
+last-or : (programs : List Certificate) (c : Certificate) (i : ℕ) (a : Certificate) → slice_get (programs ++ c ∷ []) i ≡ Some a
+    → (slice_get programs i ≡ Some a) ⊎ ((i ≡ length programs) × (a ≡ c))
 last-or [] c zero a e = inr (refl, cc)
 last-or [] c (suc i) a e = absurd (none-some a e)
 last-or (p ∷ ps) c zero a e = inl e
@@ -96,7 +105,8 @@ last-or (p ∷ ps) c (suc i) a e = elim (last-or ps c i a e) [
   | inr h ↦ inr (omega arith, h.1)
 ]
 
-pub table-new : (programs : List Certificate) (c : Certificate) → IsTable programs → id_of programs c.text ≡ None → length programs < 1024 → IsTable (programs ++ c ∷ [])
+pub table-new : (programs : List Certificate) (c : Certificate) → IsTable programs → id_of programs c.text ≡ None → length programs < 1024
+    → IsTable (programs ++ c ∷ [])
 table-new programs c table absent room = record {
   few = omega (arith, length-append programs (c ∷ []));
   distinct = λ i k a b at_i at_k same. elim (last-or programs c i a at_i) [
@@ -111,7 +121,8 @@ table-new programs c table absent room = record {
   ];
 }
 
-pub spelled-new : (es : Entries) (k : Vec ℕ Global) (c : Certificate) → AreSpelled (spelled_of es) → k.items ≡ spelling c.text → AreSpelled (spelled_of (es ++ (k, c) ∷ []))
+pub spelled-new : (es : Entries) (k : Vec ℕ Global) (c : Certificate) → AreSpelled (spelled_of es) → k.items ≡ spelling c.text
+    → AreSpelled (spelled_of (es ++ (k, c) ∷ []))
 spelled-new [] k c s e = (e, tt)
 spelled-new (p ∷ ps) k c s e = (s.0, spelled-new ps k c s.1 e)
 
@@ -121,7 +132,9 @@ pub record HasGrown (programs : List Certificate) (c : Certificate) (es : Entrie
   pub table : IsTable (programs_of es)
   pub spelled : AreSpelled (spelled_of es)
 
-pub grown : (es new : Entries) (programs : List Certificate) (k : Vec ℕ Global) (c d : Certificate) → programs_of es ≡ programs → IsTable (programs_of es) → AreSpelled (spelled_of es) → id_of programs c.text ≡ None → length programs < 1024 → k.items ≡ spelling c.text → d ≡ c → new ≡ es ++ (k, d) ∷ [] → HasGrown programs c new
+pub grown : (es new : Entries) (programs : List Certificate) (k : Vec ℕ Global) (c d : Certificate) → programs_of es ≡ programs
+    → IsTable (programs_of es) → AreSpelled (spelled_of es) → id_of programs c.text ≡ None → length programs < 1024 → k.items ≡ spelling c.text
+    → d ≡ c → new ≡ es ++ (k, d) ∷ [] → HasGrown programs c new
 grown es new programs k c d is table spelled absent room bytes same e =
     let entries : new ≡ es ++ (k, c) ∷ [] = e ∙ ap (λ x. es ++ (k, x) ∷ []) same in
     let all : programs_of new ≡ programs ++ c ∷ [] = ap programs_of entries ∙ map-append (λ x. x.1) es ((k, c) ∷ []) ∙ ap (λ x. x ++ c ∷ []) is in

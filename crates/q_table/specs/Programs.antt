@@ -1,5 +1,5 @@
 -- Programs: certificates of distinct texts, in the order in which they were registered. A program's id is its place.
-use Rattle.std.specs.Prelude.{◌≡◌, ℕ, ◌≤◌, Bool, bytes_eq, nat_lt, List, [], ◌∷◌, ◌++◌, length, position, slice_get, Option, Some, None, Result, Ok, Err, if◌then◌else◌}
+use Rattle.std.specs.Prelude.{◌≡◌, ℕ, ◌≤◌, ◌-◌, ◌^◌, min, Bool, bytes_eq, nat_lt, List, [], ◌∷◌, ◌++◌, length, position, slice_get, Option, Some, None, Result, Ok, Err, if◌then◌else◌}
 use Rattle.std.specs.List.{AllByRecursion}
 use Rattle.bq_insn.specs.declared.insn.Insn.{Insn}
 use Rattle.bq_insn.specs.Slots.{spelling}
@@ -10,6 +10,10 @@ use Rattle.reasons.specs.declared.Reason.TheVariants as reasons
 -- at most so many programs
 abbrev pub most_programs : ℕ
 most_programs = 1024
+
+-- the program of this number; a number that is too large is that of no program
+abbrev pub program_id : ℕ → ℕ
+program_id number = min number (2 ^ 32 - 1)
 
 -- two texts are one where their bytes are the same
 abbrev pub is_same_text : List Insn → List Insn → Bool

@@ -4,6 +4,7 @@ ghost use Rattle.std.specs.Prelude.{◌≡◌, IfOk, IfErr, MatchResult, ⊤};
 ghost use Rattle.bq_sound.specs.Passes.{Passes};
 ghost use Rattle.bq_check.specs.Certified.{IsCertified};
 ghost use Rattle.bq_check.specs.Faults.{IsFirstFault};
+ghost use Rattle.q_table.specs.Programs.{program_id};
 
 use bq_check::{Certified, CheckFault, Notes, check_within};
 use bq_insn::Text;
@@ -32,6 +33,14 @@ impl ProgramId {
         ensures { result ≡ number }
     {
         ProgramId(number)
+    }
+
+    /// The id of a program that is named by this number. Of a number that is too large it is the greatest id, which no
+    /// program has.
+    pub fn of_number(number: u64) -> ProgramId
+        ensures { result ≡ program_id number }
+    {
+        ProgramId(u32::try_from(number).unwrap_or(u32::MAX))
     }
 
     /// The number, from 0.

@@ -3,7 +3,7 @@
 ghost use Rattle.std.specs.Prelude.{◌≡◌, ◌++◌, [], ◌∷◌, List, length, slice_get, true, false, Some, None, Ok, Err};
 ghost use Rattle.bq_check.specs.Certificate.{Certificate};
 ghost use Rattle.bq_insn.specs.declared.insn.Insn.TheVariants as insn;
-ghost use Rattle.q_table.specs.Programs.{is_same_text, id_of, registered, checked};
+ghost use Rattle.q_table.specs.Programs.{is_same_text, id_of, program_id, registered, checked};
 ghost use Rattle.reasons.specs.declared.Reason.TheVariants as reasons;
 
 /// What the definitions say at telling operands.
@@ -21,5 +21,6 @@ pub fn worked()
     ensures full { (programs : List Certificate) (c : Certificate) → id_of programs c.text ≡ None → length programs ≡ 1024 → registered programs c ≡ Err reasons.TableFull }
     ensures checked_full { (programs : List Certificate) (c : Certificate) → id_of programs c.text ≡ None → length programs ≡ 1024 → checked programs c ≡ Err reasons.TableFull }
     ensures checked_again { (programs : List Certificate) (c : Certificate) → id_of programs c.text ≡ Some 7 → checked programs c ≡ Ok tt }
+    ensures greatest_program { program_id 4294967296 ≡ 4294967295 }
     ensures at_its_place { (c d : Certificate) → slice_get (c ∷ d ∷ []) 1 ≡ Some d }
 {}

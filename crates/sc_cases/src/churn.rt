@@ -3,7 +3,6 @@
 //!
 //! They are a store and a collect that meets it, a node that enters, one that leaves and one that crashes.
 
-use crate::words::Fraction;
 use crate::worlds::founded;
 use sc_view::{VALUE_LENGTH, Value};
 use sc_world::{Op, World, WorldEvent, WorldFault, meets};
@@ -95,8 +94,14 @@ fn run_again(
 
 /// The world of three founders.
 fn first_world(alloc: Global) -> Result<World, WorldFault> {
-    let beta = Fraction { num: 2, den: 3 };
-    let gamma = Fraction { num: 4, den: 5 };
+    let beta = Fraction {
+        numerator: 2,
+        denominator: 3,
+    };
+    let gamma = Fraction {
+        numerator: 4,
+        denominator: 5,
+    };
     founded(alloc, beta, gamma, 1, 3)
 }
 

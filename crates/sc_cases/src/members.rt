@@ -1,7 +1,7 @@
 //! Lines about fractions, thresholds, sets of ids and facts.
 
-use crate::words::{Fraction, MembersLine, number};
-use sc_members::{Config, Facts, FactsFault, IdSet};
+use crate::words::{MembersLine, number};
+use sc_members::{Config, Facts, FactsFault, Fraction, IdSet};
 use std::alloc::{AllocError, Global};
 use std::io;
 
@@ -87,8 +87,11 @@ fn tell_facts(rt: &impl Print, facts: Result<Facts, FactsFault>) -> io::Result<(
 }
 
 fn tell_fraction(rt: &impl Print, fraction: Fraction) -> io::Result<()> {
-    let Fraction { num, den } = fraction;
-    match (Config::new(num, den, 1, 1), Config::new(1, 1, num, den)) {
+    let whole = Fraction {
+        numerator: 1,
+        denominator: 1,
+    };
+    match (Config::new(fraction, whole), Config::new(whole, fraction)) {
         (Ok(beta), Ok(gamma)) => println!(rt;
             " of four {} {}",
             beta.beta_threshold(4),
@@ -100,8 +103,7 @@ fn tell_fraction(rt: &impl Print, fraction: Fraction) -> io::Result<()> {
 }
 
 fn tell_threshold(rt: &impl Print, fraction: Fraction, count: usize) -> io::Result<()> {
-    let Fraction { num, den } = fraction;
-    match Config::new(num, den, num, den) {
+    match Config::new(fraction, fraction) {
         Ok(config) => println!(rt; " {}", config.beta_threshold(count)),
         Err(fault) => println!(rt; " refused {}", fault.reason()),
     }

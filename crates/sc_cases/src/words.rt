@@ -1,15 +1,9 @@
 //! What a line of a case asks for.
 
+use sc_members::Fraction;
 use sc_msg::Version;
 use sc_view::{VALUE_LENGTH, Value};
 use sc_world::WorldEvent;
-
-/// A fraction, by its two numbers.
-#[derive(Clone, Copy)]
-pub(crate) struct Fraction {
-    pub(crate) num: u64,
-    pub(crate) den: u64,
-}
 
 /// A line about a world.
 #[derive(Clone, Copy)]
@@ -87,10 +81,10 @@ pub(crate) fn byte_of(word: &str) -> Option<u8> {
 }
 
 fn fraction_of(word: &str) -> Option<Fraction> {
-    let (num, den) = word.split_once('/')?;
+    let (above, below) = word.split_once('/')?;
     Some(Fraction {
-        num: number(num)?,
-        den: number(den)?,
+        numerator: number(above)?,
+        denominator: number(below)?,
     })
 }
 

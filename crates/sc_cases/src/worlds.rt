@@ -1,7 +1,7 @@
 //! Lines about a world.
 
-use crate::words::{Fraction, WorldLine};
-use sc_members::Config;
+use crate::words::WorldLine;
+use sc_members::{Config, Fraction};
 use sc_node::{Ended, Node, OpResult, Phase};
 use sc_world::{Sent, World, WorldEvent, WorldFault, WorldStep, meets};
 use std::alloc::Global;
@@ -118,7 +118,7 @@ pub(crate) fn founded(
     first: u64,
     count: u64,
 ) -> Result<World, WorldFault> {
-    let config = Config::new(beta.num, beta.den, gamma.num, gamma.den).unwrap_or_default();
+    let config = Config::new(beta, gamma).unwrap_or_default();
     let founders: Vec<u64> = (first..first.saturating_add(count)).collect(alloc)?;
     World::new(alloc, config, founders.as_slice())
 }

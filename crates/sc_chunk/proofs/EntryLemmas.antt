@@ -29,7 +29,8 @@ pub find_none : {X : Type 0} (id : ℕ) (es : List (ℕ × X)) → Over id es �
 find_none id [] o = refl
 find_none id (e ∷ es) o = ap (λ r. cond (is_eq r) (Some e.1) (find nat_cmp id es)) (cmp_less id e.0 o.0) ∙ find_none id es o.1
 
-pub before_step : {X : Type 0} (id : ℕ) (es : List (ℕ × X)) (k : ℕ) (d : ℕ × X) → k < length es → before id (drop k es) ≡ cond (nat_le id (get_or es k d).0) 0 (suc (before id (drop (k + 1) es)))
+pub before_step : {X : Type 0} (id : ℕ) (es : List (ℕ × X)) (k : ℕ) (d : ℕ × X) → k < length es
+    → before id (drop k es) ≡ cond (nat_le id (get_or es k d).0) 0 (suc (before id (drop (k + 1) es)))
 before_step id es k d h = ap (before id) (drop_more es k d h)
 
 pub before_fits : {X : Type 0} (id : ℕ) (es : List (ℕ × X)) → before id es ≤ length es
@@ -53,7 +54,8 @@ put_first id x e es h =
       | false ↦ λ p. ap (λ o. by_order o ((id, x) ∷ e ∷ es) ((e.0, x) ∷ es) (e ∷ put nat_cmp id x es)) (cmp_less id e.0 (omega (arith, h, eqb-false e.0 id p)))
     ] refl
 
-pub put_parts : {X : Type 0} (id : ℕ) (x : X) (es : List (ℕ × X)) → put nat_cmp id x es ≡ take (before id es) es ++ (id, x) ∷ without_first id (drop (before id es) es)
+pub put_parts : {X : Type 0} (id : ℕ) (x : X) (es : List (ℕ × X))
+    → put nat_cmp id x es ≡ take (before id es) es ++ (id, x) ∷ without_first id (drop (before id es) es)
 put_parts id x [] = refl
 put_parts id x (e ∷ es) =
     elim (nat_le id e.0) as (λ b. nat_le id e.0 ≡ b → put nat_cmp id x (e ∷ es) ≡ take (cond b 0 (suc (before id es))) (e ∷ es) ++ (id, x) ∷ without_first id (drop (cond b 0 (suc (before id es))) (e ∷ es))) [
@@ -105,30 +107,35 @@ tested a b x y h = ap (λ t. cond t x y) (eq-eqb a b h)
 failed : {X : Type 0} (a b : ℕ) (x y : X) → (a ≡ b → ⊥) → cond (a == b) x y ≡ y
 failed a b x y h = elim (a == b) as (λ t. (a == b) ≡ t → cond t x y ≡ y) [ true ↦ λ p. absurd (h (eqb-true a b p)) | false ↦ λ p. refl ] refl
 
-pub find_found : {X : Type 0} (id : ℕ) (es : List (ℕ × X)) (n : ℕ) (d : ℕ × X) → n ≡ before id es → n < length es → Rises es → (get_or es n d).0 ≡ id → Some (get_or es n d).1 ≡ find nat_cmp id es
+pub find_found : {X : Type 0} (id : ℕ) (es : List (ℕ × X)) (n : ℕ) (d : ℕ × X) → n ≡ before id es → n < length es → Rises es → (get_or es n d).0 ≡ id
+    → Some (get_or es n d).1 ≡ find nat_cmp id es
 find_found id es n d is h r same =
     sym (find_at id es d r (subst (λ m. m < length es) is h) ∙ ap (λ m. cond ((get_or es m d).0 == id) (Some (get_or es m d).1) None) (sym is)
     ∙ tested (get_or es n d).0 id (Some (get_or es n d).1) None same)
 
-pub find_other : {X : Type 0} (id : ℕ) (es : List (ℕ × X)) (n : ℕ) (d : ℕ × X) → n ≡ before id es → n < length es → Rises es → ((get_or es n d).0 ≡ id → ⊥) → None ≡ find nat_cmp id es
+pub find_other : {X : Type 0} (id : ℕ) (es : List (ℕ × X)) (n : ℕ) (d : ℕ × X) → n ≡ before id es → n < length es → Rises es
+    → ((get_or es n d).0 ≡ id → ⊥) → None ≡ find nat_cmp id es
 find_other id es n d is h r other =
     sym (find_at id es d r (subst (λ m. m < length es) is h) ∙ ap (λ m. cond ((get_or es m d).0 == id) (Some (get_or es m d).1) None) (sym is)
     ∙ failed (get_or es n d).0 id (Some (get_or es n d).1) None other)
 
-pub put_built : {X : Type 0} (id : ℕ) (x : X) (es : List (ℕ × X)) → (([] ++ take (before id es) es) ++ (id, x) ∷ []) ++ without_first id (drop (before id es) es) ≡ put nat_cmp id x es
+pub put_built : {X : Type 0} (id : ℕ) (x : X) (es : List (ℕ × X))
+    → (([] ++ take (before id es) es) ++ (id, x) ∷ []) ++ without_first id (drop (before id es) es) ≡ put nat_cmp id x es
 put_built id x es = append_assoc (take (before id es) es) ((id, x) ∷ []) (without_first id (drop (before id es) es)) ∙ sym (put_parts id x es)
 
 head_kept : {X : Type 0} (id : ℕ) (e : ℕ × X) (es : List (ℕ × X)) → (e.0 ≡ id → ⊥) → without_first id (e ∷ es) ≡ e ∷ es
 head_kept id e es other = failed e.0 id es (e ∷ es) other
 
-pub put_over_known : {X : Type 0} (id : ℕ) (x : X) (es : List (ℕ × X)) (n : ℕ) (d : ℕ × X) → n ≡ before id es → n < length es → (get_or es n d).0 ≡ id → set es n (id, x) ≡ put nat_cmp id x es
+pub put_over_known : {X : Type 0} (id : ℕ) (x : X) (es : List (ℕ × X)) (n : ℕ) (d : ℕ × X) → n ≡ before id es → n < length es → (get_or es n d).0 ≡ id
+    → set es n (id, x) ≡ put nat_cmp id x es
 put_over_known id x es n d is l same =
     let later : without_first id (drop n es) ≡ drop (n + 1) es = ap (without_first id) (drop_more es n d l) ∙ tested (get_or es n d).0 id (drop (n + 1) es) (get_or es n d ∷ drop (n + 1) es) same in
     let next : suc n ≡ n + 1 = omega arith in
     set_split es n (id, x) l ∙ ap (λ m. take n es ++ (id, x) ∷ drop m es) next ∙ ap (λ r. take n es ++ (id, x) ∷ r) (sym later)
     ∙ ap (λ m. take m es ++ (id, x) ∷ without_first id (drop m es)) is ∙ sym (put_parts id x es)
 
-pub put_between : {X : Type 0} (id : ℕ) (x : X) (es : List (ℕ × X)) (n : ℕ) (d : ℕ × X) → n ≡ before id es → n < length es → ((get_or es n d).0 ≡ id → ⊥) → insert es n (id, x) ≡ put nat_cmp id x es
+pub put_between : {X : Type 0} (id : ℕ) (x : X) (es : List (ℕ × X)) (n : ℕ) (d : ℕ × X) → n ≡ before id es → n < length es
+    → ((get_or es n d).0 ≡ id → ⊥) → insert es n (id, x) ≡ put nat_cmp id x es
 put_between id x es n d is l other =
     let later : without_first id (drop n es) ≡ drop n es = ap (without_first id) (drop_more es n d l) ∙ head_kept id (get_or es n d) (drop (n + 1) es) other ∙ sym (drop_more es n d l) in
     ap (λ r. take n es ++ (id, x) ∷ r) (sym later) ∙ ap (λ m. take m es ++ (id, x) ∷ without_first id (drop m es)) is ∙ sym (put_parts id x es)

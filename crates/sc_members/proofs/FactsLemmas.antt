@@ -44,7 +44,8 @@ same_joined id f h = λ i. record { entered = insert_known f.entered id h.0 i; j
 joined_same : (id : ℕ) (f : Facts) → with_joined f id ≡ f → HasJoined id f
 joined_same id f same = (known_insert f.entered id (ap (λ (x : Facts). x.entered) same), known_insert f.joined id (ap (λ (x : Facts). x.joined) same))
 
-pub knows_joined : (id : ℕ) (r : Bool) (f g : Facts) → g ≡ f → (r ≡ true → (set.contains g.entered id ≡ true) × (set.contains g.joined id ≡ true)) → ((set.contains g.entered id ≡ true) × (set.contains g.joined id ≡ true) → r ≡ true) → IsTrue r ↔ (with_joined f id ≡ f)
+pub knows_joined : (id : ℕ) (r : Bool) (f g : Facts) → g ≡ f → (r ≡ true → (set.contains g.entered id ≡ true) × (set.contains g.joined id ≡ true))
+    → ((set.contains g.entered id ≡ true) × (set.contains g.joined id ≡ true) → r ≡ true) → IsTrue r ↔ (with_joined f id ≡ f)
 knows_joined id r f g is to from =
     subst (λ (x : Facts). IsTrue r ↔ (with_joined x id ≡ x)) is ((λ yes. same_joined id g (to yes)), (λ same. from (joined_same id g same)))
 
@@ -62,7 +63,8 @@ union_same f g same = (
   known_union f.left g.left (ap (λ (x : Facts). x.left) same),
 )
 
-pub knows_all : (r : Bool) (f g f_inside g_inside : Facts) → f_inside ≡ f → g_inside ≡ g → (r ≡ true → AreWithin f_inside g_inside) → (AreWithin f_inside g_inside → r ≡ true) → IsTrue r ↔ (union_facts f g ≡ f)
+pub knows_all : (r : Bool) (f g f_inside g_inside : Facts) → f_inside ≡ f → g_inside ≡ g → (r ≡ true → AreWithin f_inside g_inside)
+    → (AreWithin f_inside g_inside → r ≡ true) → IsTrue r ↔ (union_facts f g ≡ f)
 knows_all r f g f_inside g_inside is_f is_g to from =
     subst (λ (x : Facts). IsTrue r ↔ (union_facts x g ≡ x)) is_f
     (subst (λ (y : Facts). IsTrue r ↔ (union_facts f_inside y ≡ f_inside)) is_g ((λ yes. same_union f_inside g_inside (to yes)), (λ same. from (union_same f_inside g_inside same))))

@@ -94,7 +94,8 @@ or_cond true b = refl
 or_cond false b = refl
 
 -- keys that differ at one make a set that has that one too
-pub one_more : (ks ls : List ℕ) (k : ℕ) (s : Ids) → set.from_list ks ≡ s → ((q : ℕ) → has ls q ≡ cond (eq_by_cmp nat_cmp k q) true (has ks q)) → set.from_list ls ≡ set.insert s k
+pub one_more : (ks ls : List ℕ) (k : ℕ) (s : Ids) → set.from_list ks ≡ s → ((q : ℕ) → has ls q ≡ cond (eq_by_cmp nat_cmp k q) true (has ks q))
+    → set.from_list ls ≡ set.insert s k
 one_more ks ls k s is h = set_of ls (set.insert s k) (λ q.
     h q ∙ or_cond (eq_by_cmp nat_cmp k q) (has ks q)
     ∙ (λ i. (eq_by_cmp_equiv nat_cmp_total).symm k q i || sym (contains-view ks s is q) i)
@@ -152,7 +153,8 @@ module _ (s t : Ids) (ks : List ℕ) (rising : IsStrictlySortedBy nat_cmp ks) (s
   }
 
 -- what a step of a set's iterator copies
-pub first_copied : (ks : List ℕ) (r : Option (Bor ℕ)) (rest : List ℕ) (o : Option ℕ) → TakesFirst deref ks r rest → o ≡ option_copied r → MatchOption o (ks ≡ []) (λ id. ks ≡ id ∷ rest)
+pub first_copied : (ks : List ℕ) (r : Option (Bor ℕ)) (rest : List ℕ) (o : Option ℕ) → TakesFirst deref ks r rest → o ≡ option_copied r
+    → MatchOption o (ks ≡ []) (λ id. ks ≡ id ∷ rest)
 first_copied ks r rest o step is = subst (λ (p : Option ℕ). MatchOption p (ks ≡ []) (λ id. ks ≡ id ∷ rest)) (sym is) (elim r as (λ (r : Option (Bor ℕ)). TakesFirst deref ks r rest → MatchOption (option_copied r) (ks ≡ []) (λ id. ks ≡ id ∷ rest)) [ None ↦ λ s. s.0 | Some x ↦ λ s. s ] step)
 
 -- ---- what is there already
@@ -188,7 +190,8 @@ alike true b f g = sym (f refl)
 alike false true f g = g refl
 alike false false f g = refl
 
-pub subset_is : (r : Bool) (ks js : List ℕ) (s t : Ids) → set.from_list ks ≡ s → set.from_list js ≡ t → (IsTrue r ↔ ((q : ℕ) → IsTrue (has ks q) → IsTrue (has js q))) → r ≡ set.is_subset s t
+pub subset_is : (r : Bool) (ks js : List ℕ) (s t : Ids) → set.from_list ks ≡ s → set.from_list js ≡ t
+    → (IsTrue r ↔ ((q : ℕ) → IsTrue (has ks q) → IsTrue (has js q))) → r ≡ set.is_subset s t
 subset_is r ks js s t is is_other h =
     alike r (set.is_subset s t) (λ yes. set.contains-is_subset nat_cmp_total s t (λ q there. contains-view js t is_other q ∙ h.0 yes q (sym (contains-view ks s is q) ∙ there)))
     (λ yes. h.1 (λ q there. sym (contains-view js t is_other q) ∙ set.is_subset-contains nat_cmp_total s t yes q (contains-view ks s is q ∙ there)))

@@ -2,6 +2,7 @@
 use Rattle.std.specs.Prelude.{ℕ, ◌+◌, ◌-◌, ◌*◌, ◌/◌, ◌≤◌, max, Bool, ◌||◌, nat_lt, List}
 use Rattle.std.specs.FinSet as set
 use Rattle.sc_members.specs.Ids.{Ids}
+use Rattle.sc_members.specs.declared.config.Fraction.{Fraction}
 
 -- who is known to have entered, joined and left
 pub record Facts : Type 0 where
@@ -72,3 +73,16 @@ pub record IsFraction (num den : ℕ) : Type 0 where
 pub record IsConfig (c : Config) : Type 0 where
   pub beta : IsFraction c.beta_num c.beta_den
   pub gamma : IsFraction c.gamma_num c.gamma_den
+
+-- both are such fractions
+abbrev pub AreFractions : Fraction → Fraction → Type 0
+AreFractions beta gamma = IsFraction beta.numerator beta.denominator × IsFraction gamma.numerator gamma.denominator
+
+-- beta and gamma
+abbrev pub config_of : Fraction → Fraction → Config
+config_of beta gamma = record {
+  beta_num = beta.numerator;
+  beta_den = beta.denominator;
+  gamma_num = gamma.numerator;
+  gamma_den = gamma.denominator;
+}

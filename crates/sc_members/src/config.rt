@@ -1,8 +1,17 @@
 ghost use Rattle.std.specs.Prelude.{◌≡◌, ◌≤◌, ◌↔◌, IsTrue, IsOk, IfOk};
-ghost use Rattle.sc_members.specs.Members.{IsFraction, IsConfig, threshold};
+ghost use Rattle.sc_members.specs.Members.{AreFractions, IsFraction, IsConfig, config_of, threshold};
 
 use reasons::Reason;
 use std::marker::Model;
+
+/// A fraction as it is given: in lowest terms or not, and not yet judged.
+#[derive(Clone, Copy, Debug, PartialEq, Eq)]
+pub struct Fraction {
+    /// What stands above.
+    pub numerator: u64,
+    /// What stands below, perhaps 0.
+    pub denominator: u64,
+}
 
 /// The two fractions of a cluster: beta for the phases of operations, gamma for joining.
 /// Each is num / den with 1 <= num <= den <= 1,000.
@@ -48,10 +57,12 @@ pub fn threshold(num: u64, den: u64, count: usize) -> u64
     ceiling.max(1) as u64
 }
 
-fn is_fraction(num: u64, den: u64) -> bool
-    ensures { IsTrue result ↔ IsFraction num den }
+fn is_taken(fraction: Fraction) -> bool
+    ensures { IsTrue result ↔ IsFraction fraction.numerator fraction.denominator }
 {
-    1 <= num && num <= den && den <= 1000
+    1 <= fraction.numerator
+        && fraction.numerator <= fraction.denominator
+        && fraction.denominator <= 1000
 }
 
 /// Four fifths for both.
@@ -72,23 +83,18 @@ impl Default for Config {
 
 impl Config {
     /// Refuses 45 where one of the two fractions isn't num / den with 1 <= num <= den <= 1,000.
-    pub fn new(
-        beta_num: u64,
-        beta_den: u64,
-        gamma_num: u64,
-        gamma_den: u64,
-    ) -> Result<Config, BadFraction>
-        ensures accepted { IsOk result ↔ (IsFraction beta_num beta_den × IsFraction gamma_num gamma_den) }
-        ensures fields { IfOk result (λ config. config ≡ record { beta_num = beta_num; beta_den = beta_den; gamma_num = gamma_num; gamma_den = gamma_den }) }
+    pub fn new(beta: Fraction, gamma: Fraction) -> Result<Config, BadFraction>
+        ensures accepted { IsOk result ↔ AreFractions beta gamma }
+        ensures fields { IfOk result (λ config. config ≡ config_of beta gamma) }
     {
-        if !is_fraction(beta_num, beta_den) || !is_fraction(gamma_num, gamma_den) {
+        if !is_taken(beta) || !is_taken(gamma) {
             return Err(BadFraction);
         }
         Ok(Config {
-            beta_num: beta_num as u16,
-            beta_den: beta_den as u16,
-            gamma_num: gamma_num as u16,
-            gamma_den: gamma_den as u16,
+            beta_num: beta.numerator as u16,
+            beta_den: beta.denominator as u16,
+            gamma_num: gamma.numerator as u16,
+            gamma_den: gamma.denominator as u16,
         })
     }
 

@@ -4,7 +4,7 @@ ghost use Rattle.std.specs.Prelude.{◌≡◌, [], ◌∷◌, Some, None, true, 
 ghost use Rattle.std.specs.FinSet as set;
 ghost use Rattle.std.specs.Ordering.{nat_cmp};
 ghost use Rattle.sc_members.specs.Ids.{IsLeastCommon, rising};
-ghost use Rattle.sc_members.specs.Members.{Facts, IsFraction, founding, is_overfull, members, no_facts, present, threshold, union_facts, with_entered, with_joined, with_left};
+ghost use Rattle.sc_members.specs.Members.{AreFractions, Facts, IsFraction, config_of, founding, is_overfull, members, no_facts, present, threshold, union_facts, with_entered, with_joined, with_left};
 
 /// How many answers a phase waits for: a fraction of a count, rounded up, and at least 1. And what is known: who has
 /// joined has entered too.
@@ -23,6 +23,8 @@ pub fn worked()
     ensures of_nothing { IsFraction 0 5 → ⊥ }
     ensures above_1 { IsFraction 3 2 → ⊥ }
     ensures too_fine { IsFraction 1 1001 → ⊥ }
+    ensures beta_first { config_of (record { numerator = 2; denominator = 3 }) (record { numerator = 4; denominator = 5 }) ≡ record { beta_num = 2; beta_den = 3; gamma_num = 4; gamma_den = 5 } }
+    ensures gamma_counts { AreFractions (record { numerator = 2; denominator = 3 }) (record { numerator = 4; denominator = 3 }) → ⊥ }
 
     // Who is present, and who is a member.
     ensures present_founder { present (founding (7 ∷ [])) ≡ 1 }

@@ -24,7 +24,8 @@ some_is d e h = cc
 -- what a list of entries needs of what stands behind its ids
 pub record IsLayout {A : Type 0} (layout : Layout A) : Type 0 where
   pub few : layout.most < 2 ^ 16
-  pub front : (a b : A) (x y : List ℕ) → layout.id_of a ≡ layout.id_of b → layout.IsValue a → layout.IsValue b → layout.value_bytes a ++ x ≡ layout.value_bytes b ++ y → (a ≡ b) × (x ≡ y)
+  pub front : (a b : A) (x y : List ℕ) → layout.id_of a ≡ layout.id_of b → layout.IsValue a → layout.IsValue b
+      → layout.value_bytes a ++ x ≡ layout.value_bytes b ++ y → (a ≡ b) × (x ≡ y)
   pub sound : (a : A) (x : List ℕ) → layout.IsValue a → layout.value_fault (layout.value_bytes a ++ x) ≡ None
 
 module _ {A : Type 0} (layout : Layout A) (law : IsLayout layout) where
@@ -33,7 +34,8 @@ module _ {A : Type 0} (layout : Layout A) (law : IsLayout layout) where
       let id = number_front 8 (layout.id_of a) (layout.id_of b) (layout.value_bytes a ++ x) (layout.value_bytes b ++ y) p.0 q.0 (sym (append_assoc (number_bytes 8 (layout.id_of a)) (layout.value_bytes a) x) ∙ e ∙ append_assoc (number_bytes 8 (layout.id_of b)) (layout.value_bytes b) y) in
       law.front a b x y id.0 p.1 q.1 id.1
 
-  entry_sound : (last : Option ℕ) (a : A) (x : List ℕ) → IsEntry layout a → is_above last (layout.id_of a) ≡ true → entry_fault layout last (entry_bytes layout a ++ x) ≡ None
+  entry_sound : (last : Option ℕ) (a : A) (x : List ℕ) → IsEntry layout a → is_above last (layout.id_of a) ≡ true
+      → entry_fault layout last (entry_bytes layout a ++ x) ≡ None
   entry_sound last a x p above =
       let parts : entry_bytes layout a ++ x ≡ number_bytes 8 (layout.id_of a) ++ (layout.value_bytes a ++ x) = append_assoc (number_bytes 8 (layout.id_of a)) (layout.value_bytes a) x in
       ap (λ o. first_of o (layout.value_fault (drop 8 (entry_bytes layout a ++ x)))) (id_sound last (layout.id_of a) (entry_bytes layout a ++ x) (layout.value_bytes a ++ x) p.0 above parts)
@@ -54,14 +56,17 @@ module _ {A : Type 0} (layout : Layout A) (law : IsLayout layout) where
   counted : (es : List A) (x : List ℕ) → list_bytes layout es ++ x ≡ number_bytes 2 (length es) ++ (all_bytes es ++ x)
   counted es x = append_assoc (number_bytes 2 (length es)) (all_bytes es) x
 
-  pub list_front : (es fs : List A) (x y : List ℕ) → AllByRecursion (IsEntry layout) es → AllByRecursion (IsEntry layout) fs → length es ≤ layout.most → length fs ≤ layout.most → list_bytes layout es ++ x ≡ list_bytes layout fs ++ y → (es ≡ fs) × (x ≡ y)
+  pub list_front : (es fs : List A) (x y : List ℕ) → AllByRecursion (IsEntry layout) es → AllByRecursion (IsEntry layout) fs → length es ≤ layout.most
+      → length fs ≤ layout.most → list_bytes layout es ++ x ≡ list_bytes layout fs ++ y → (es ≡ fs) × (x ≡ y)
   list_front es fs x y p q few fewer e =
       let count = number_front 2 (length es) (length fs) (all_bytes es ++ x) (all_bytes fs ++ y) (omega (arith, law.few)) (omega (arith, law.few)) (sym (counted es x) ∙ e ∙ counted fs y) in
       once (entry_bytes layout) (IsEntry layout) entries_are_code es fs x y p q count.0 count.1
 
   -- ---- no fault in what is spelled
 
-  no_entry_fault : (last : Option ℕ) (before es : List A) (rest x : List ℕ) (e : MessageFault) → AllByRecursion (IsEntry layout) before → AllByRecursion (IsEntry layout) es → IsRising last (map layout.id_of es) → length before < length es → all_bytes before ++ rest ≡ all_bytes es ++ x → entry_fault layout (last_of last (map layout.id_of before)) rest ≡ Some e → ⊥
+  no_entry_fault : (last : Option ℕ) (before es : List A) (rest x : List ℕ) (e : MessageFault) → AllByRecursion (IsEntry layout) before
+      → AllByRecursion (IsEntry layout) es → IsRising last (map layout.id_of es) → length before < length es
+      → all_bytes before ++ rest ≡ all_bytes es ++ x → entry_fault layout (last_of last (map layout.id_of before)) rest ≡ Some e → ⊥
   no_entry_fault last [] [] rest x e p q r fewer parts faulty = omega arith
   no_entry_fault last [] (a ∷ es) rest x e p q r fewer parts faulty =
       no_fault e (sym (entry_sound last a (all_bytes es ++ x) q.0 r.0) ∙ ap (entry_fault layout last) (sym (parts ∙ on a es x)) ∙ faulty)
@@ -77,7 +82,8 @@ module _ {A : Type 0} (layout : Layout A) (law : IsLayout layout) where
       let low : nat_lt layout.most (first_number 2 bytes) ≡ false = ap (nat_lt layout.most) first ∙ le-ltb _ _ few in
       rw (long, low) refl
 
-  pub no_list_fault : (es : List A) (x : List ℕ) (e : MessageFault) → AllByRecursion (IsEntry layout) es → IsRising None (map layout.id_of es) → length es ≤ layout.most → IsListFault layout (list_bytes layout es ++ x) e → ⊥
+  pub no_list_fault : (es : List A) (x : List ℕ) (e : MessageFault) → AllByRecursion (IsEntry layout) es → IsRising None (map layout.id_of es)
+      → length es ≤ layout.most → IsListFault layout (list_bytes layout es ++ x) e → ⊥
   no_list_fault es x e p r few (inl h) = no_fault e (sym (no_count_fault _ (all_bytes es ++ x) (length es) few (counted es x)) ∙ h)
   no_list_fault es x e p r few (inr h) =
       let count = number_front 2 h.count (length es) (all_bytes h.before ++ h.rest) (all_bytes es ++ x) (omega (arith, law.few, h.few)) (omega (arith, law.few)) (sym h.parts ∙ counted es x) in
@@ -85,7 +91,10 @@ module _ {A : Type 0} (layout : Layout A) (law : IsLayout layout) where
 
   -- ---- one fault
 
-  same_place : (last : Option ℕ) (before fs : List A) (x y : List ℕ) (d e : MessageFault) → AllByRecursion (IsEntry layout) before → AllByRecursion (IsEntry layout) fs → IsRising last (map layout.id_of before) → IsRising last (map layout.id_of fs) → all_bytes before ++ x ≡ all_bytes fs ++ y → entry_fault layout (last_of last (map layout.id_of before)) x ≡ Some d → entry_fault layout (last_of last (map layout.id_of fs)) y ≡ Some e → d ≡ e
+  same_place : (last : Option ℕ) (before fs : List A) (x y : List ℕ) (d e : MessageFault) → AllByRecursion (IsEntry layout) before
+      → AllByRecursion (IsEntry layout) fs → IsRising last (map layout.id_of before) → IsRising last (map layout.id_of fs)
+      → all_bytes before ++ x ≡ all_bytes fs ++ y → entry_fault layout (last_of last (map layout.id_of before)) x ≡ Some d
+      → entry_fault layout (last_of last (map layout.id_of fs)) y ≡ Some e → d ≡ e
   same_place last [] [] x y d e p q r s parts bad worse = some_is d e (sym bad ∙ ap (entry_fault layout last) parts ∙ worse)
   same_place last [] (f ∷ fs) x y d e p q r s parts bad worse =
       absurd (no_fault d (sym (entry_sound last f (all_bytes fs ++ y) q.0 s.0) ∙ ap (entry_fault layout last) (sym (parts ∙ on f fs y)) ∙ bad))
@@ -111,7 +120,8 @@ ids_law = record { few = omega arith; front = λ a b x y same p q e. (same, e); 
 pub stored_is : (d e : Stored) → d.number ≡ e.number → d.value ≡ e.value → d ≡ e
 stored_is d e p q = λ i. record { number = p i; value = q i }
 
-value_front : (version : Version) (v w x y : List ℕ) → IsLength version (length v) → IsLength version (length w) → value_bytes version v ++ x ≡ value_bytes version w ++ y → (v ≡ w) × (x ≡ y)
+value_front : (version : Version) (v w x y : List ℕ) → IsLength version (length v) → IsLength version (length w)
+    → value_bytes version v ++ x ≡ value_bytes version w ++ y → (v ≡ w) × (x ≡ y)
 value_front First v w x y p q e = same_front v w x y (length w) (omega (arith, p.least, p.most, q.least, q.most)) refl e
 value_front Second v w x y p q e = let h = one_byte (length v) (length w) (v ++ x) (w ++ y) e in same_front v w x y (length w) h.0 refl h.1
 
@@ -125,7 +135,8 @@ value_sound Second v x p =
     let long : nat_lt (suc (length (v ++ x))) (1 + length v) ≡ false = le-ltb _ _ (omega (arith, length-append v x)) in
     rw (some, low, long) refl
 
-stored_front : (version : Version) (d e : Stored) (x y : List ℕ) → IsStored version d → IsStored version e → stored_bytes version d ++ x ≡ stored_bytes version e ++ y → (d ≡ e) × (x ≡ y)
+stored_front : (version : Version) (d e : Stored) (x y : List ℕ) → IsStored version d → IsStored version e
+    → stored_bytes version d ++ x ≡ stored_bytes version e ++ y → (d ≡ e) × (x ≡ y)
 stored_front version d e x y p q same =
     let a = value_bytes version d.value in
     let b = value_bytes version e.value in

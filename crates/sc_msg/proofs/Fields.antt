@@ -13,7 +13,8 @@ use Rattle.sc_msg.proofs.Lists.{or_memory, or_memory_map}
 pub here : (slot : Slot) (after : List Slot) (bytes : List ℕ) (e : MessageFault) → IsFieldFault slot bytes e → IsFieldsFault (slot ∷ after) bytes e
 here slot after bytes e faulty = record { before = []; fields = tt; slot = slot; after = after; shape = refl; rest = bytes; parts = refl; faulty = faulty }
 
-pub later : (f : Field) (slots : List Slot) (bytes rest : List ℕ) (e : MessageFault) → IsField f → bytes ≡ field_bytes f ++ rest → IsFieldsFault slots rest e → IsFieldsFault (slot_of f ∷ slots) bytes e
+pub later : (f : Field) (slots : List Slot) (bytes rest : List ℕ) (e : MessageFault) → IsField f → bytes ≡ field_bytes f ++ rest
+    → IsFieldsFault slots rest e → IsFieldsFault (slot_of f ∷ slots) bytes e
 later f slots bytes rest e is parts h = record {
   before = f ∷ h.before;
   fields = (is, h.fields);
@@ -31,7 +32,8 @@ MayFault slots bytes e = OrMemory (IsFieldsFault slots bytes) e
 pub here_or : (slot : Slot) (after : List Slot) (bytes : List ℕ) (e : MessageFault) → OrMemory (IsFieldFault slot bytes) e → MayFault (slot ∷ after) bytes e
 here_or slot after bytes e = or_memory_map (IsFieldFault slot bytes) (IsFieldsFault (slot ∷ after) bytes) e (here slot after bytes)
 
-pub later_or : (f : Field) (slots : List Slot) (bytes rest : List ℕ) (e : MessageFault) → IsField f → bytes ≡ field_bytes f ++ rest → MayFault slots rest e → MayFault (slot_of f ∷ slots) bytes e
+pub later_or : (f : Field) (slots : List Slot) (bytes rest : List ℕ) (e : MessageFault) → IsField f → bytes ≡ field_bytes f ++ rest
+    → MayFault slots rest e → MayFault (slot_of f ∷ slots) bytes e
 later_or f slots bytes rest e is parts = or_memory_map (IsFieldsFault slots rest) (IsFieldsFault (slot_of f ∷ slots) bytes) e (λ d. later f slots bytes rest d is parts)
 
 longer : (front after : List Slot) (bytes : List ℕ) (e : MessageFault) → IsFieldsFault front bytes e → IsFieldsFault (front ++ after) bytes e
@@ -55,7 +57,8 @@ longer_or front after bytes e = or_memory_map (IsFieldsFault front bytes) (IsFie
 pub no_fields : (rest : List ℕ) → rest ≡ fields_bytes [] ++ rest
 no_fields rest = refl
 
-pub fields_then : (f : Field) (fs : List Field) (bytes middle rest : List ℕ) → bytes ≡ field_bytes f ++ middle → middle ≡ fields_bytes fs ++ rest → bytes ≡ fields_bytes (f ∷ fs) ++ rest
+pub fields_then : (f : Field) (fs : List Field) (bytes middle rest : List ℕ) → bytes ≡ field_bytes f ++ middle → middle ≡ fields_bytes fs ++ rest
+    → bytes ≡ fields_bytes (f ∷ fs) ++ rest
 fields_then f fs bytes middle rest front back = front ∙ ap (λ (l : List ℕ). field_bytes f ++ l) back ∙ sym (append_assoc (field_bytes f) (fields_bytes fs) rest)
 
 -- a number is cut
@@ -69,7 +72,8 @@ pub number_cut_first : (after : List Slot) (bytes : List ℕ) (e : MessageFault)
 number_cut_first after bytes e is few = here_or number_slot after bytes e (number_cut bytes e is few)
 
 -- a number was read, and the next is cut
-pub number_cut_second : (n : ℕ) (after : List Slot) (bytes rest : List ℕ) (e : MessageFault) → IsField (number n) → bytes ≡ field_bytes (number n) ++ rest → e ≡ Short → length rest < 8 → MayFault (number_slot ∷ number_slot ∷ after) bytes e
+pub number_cut_second : (n : ℕ) (after : List Slot) (bytes rest : List ℕ) (e : MessageFault) → IsField (number n)
+    → bytes ≡ field_bytes (number n) ++ rest → e ≡ Short → length rest < 8 → MayFault (number_slot ∷ number_slot ∷ after) bytes e
 number_cut_second n after bytes rest e fits parts is few = later_or (number n) (number_slot ∷ after) bytes rest e fits parts (number_cut_first after rest e is few)
 
 -- behind the two fields of an echo that stand before its facts
@@ -79,7 +83,8 @@ echo_or version to joined bytes behind_to behind_joined e fits parts behind faul
     later_or (number to) (flag_slot ∷ facts_slots ++ view_slot version ∷ []) bytes behind_to e fits parts (later_or (flag joined) (facts_slots ++ view_slot version ∷ []) behind_to behind_joined e tt behind faulty)
 
 -- behind facts that were read
-pub facts_later : (f : Facts) (slots : List Slot) (bytes rest : List ℕ) (e : MessageFault) → AreIds f.entered → AreIds f.joined → AreIds f.left → bytes ≡ fields_bytes (facts_fields f) ++ rest → MayFault slots rest e → MayFault (facts_slots ++ slots) bytes e
+pub facts_later : (f : Facts) (slots : List Slot) (bytes rest : List ℕ) (e : MessageFault) → AreIds f.entered → AreIds f.joined → AreIds f.left
+    → bytes ≡ fields_bytes (facts_fields f) ++ rest → MayFault slots rest e → MayFault (facts_slots ++ slots) bytes e
 facts_later f slots bytes rest e entered joined left parts h =
     let behind_joined = ids_bytes f.left ++ rest in
     let behind_entered = ids_bytes f.joined ++ behind_joined in

@@ -20,7 +20,8 @@ use Rattle.sc_msg.specs.Fields.{IsField, fields}
 use Rattle.sc_msg.specs.Messages.{IsMessage}
 use Rattle.sc_msg.specs.Lengths.{MessageHasValuesWithin, BodyFits, Fits, view_of, told_values_within, has_values_within}
 
-all_within : (version : Version) (es : List (ℕ × Stored)) → AllByRecursion (IsEntry (view_layout version)) es → AllByRecursion (Within (value_lengths version)) es
+all_within : (version : Version) (es : List (ℕ × Stored)) → AllByRecursion (IsEntry (view_layout version)) es
+    → AllByRecursion (Within (value_lengths version)) es
 all_within version [] h = tt
 all_within version (e ∷ es) h = (h.0.1.whole, all_within version es h.1)
 

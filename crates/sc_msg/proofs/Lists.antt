@@ -60,7 +60,9 @@ module _ {A : Type 0} (layout : Layout A) (count : ℕ) (bytes : List ℕ) where
   pub read_none : (rest : List ℕ) → bytes ≡ number_bytes 2 count ++ rest → ReadTo layout count bytes [] rest None
   read_none rest parts = record { entries = tt; rising = tt; ended = refl; parts = parts }
 
-  pub read_more : (es : List A) (rest after : List ℕ) (last : Option ℕ) (e : A) → ReadTo layout count bytes es rest last → is_above last (layout.id_of e) ≡ true → IsEntry layout e → rest ≡ entry_bytes layout e ++ after → ReadTo layout count bytes (es ++ e ∷ []) after (Some (layout.id_of e))
+  pub read_more : (es : List A) (rest after : List ℕ) (last : Option ℕ) (e : A) → ReadTo layout count bytes es rest last
+      → is_above last (layout.id_of e) ≡ true → IsEntry layout e → rest ≡ entry_bytes layout e ++ after
+      → ReadTo layout count bytes (es ++ e ∷ []) after (Some (layout.id_of e))
   read_more es rest after last e r above is parts =
       let ids : map layout.id_of (es ++ e ∷ []) ≡ map layout.id_of es ++ layout.id_of e ∷ [] = map-push layout.id_of es e in
       let spelled : flat_map (entry_bytes layout) (es ++ e ∷ []) ≡ flat_map (entry_bytes layout) es ++ entry_bytes layout e = flat_map-append (entry_bytes layout) es (e ∷ []) ∙ ap (λ (l : List ℕ). flat_map (entry_bytes layout) es ++ l) (append-nil (entry_bytes layout e)) in
@@ -71,11 +73,13 @@ module _ {A : Type 0} (layout : Layout A) (count : ℕ) (bytes : List ℕ) where
         parts = r.parts ∙ ap (λ (l : List ℕ). number_bytes 2 count ++ l) (ap (λ (l : List ℕ). flat_map (entry_bytes layout) es ++ l) parts ∙ sym (append_assoc (flat_map (entry_bytes layout) es) (entry_bytes layout e) after) ∙ ap (λ (l : List ℕ). l ++ after) (sym spelled));
       }
 
-  pub read_fault : (es : List A) (rest : List ℕ) (last : Option ℕ) (d : MessageFault) → ReadTo layout count bytes es rest last → count ≤ layout.most → length es < count → entry_fault layout last rest ≡ Some d → OrMemory (IsListFault layout bytes) d
+  pub read_fault : (es : List A) (rest : List ℕ) (last : Option ℕ) (d : MessageFault) → ReadTo layout count bytes es rest last → count ≤ layout.most
+      → length es < count → entry_fault layout last rest ≡ Some d → OrMemory (IsListFault layout bytes) d
   read_fault es rest last d r few fewer faulty =
       or_memory (IsListFault layout bytes) d (inr (record { count = count; few = few; before = es; entries = r.entries; rising = r.rising; fewer = fewer; rest = rest; parts = r.parts; faulty = ap (λ o. entry_fault layout o rest) r.ended ∙ faulty }))
 
-  pub read_all : (es : List A) (rest : List ℕ) (last : Option ℕ) → ReadTo layout count bytes es rest last → length es ≡ count → bytes ≡ list_bytes layout es ++ rest
+  pub read_all : (es : List A) (rest : List ℕ) (last : Option ℕ) → ReadTo layout count bytes es rest last → length es ≡ count
+      → bytes ≡ list_bytes layout es ++ rest
   read_all es rest last r len =
       r.parts ∙ ap (λ n. number_bytes 2 n ++ (flat_map (entry_bytes layout) es ++ rest)) (sym len) ∙ sym (append_assoc (number_bytes 2 (length es)) (flat_map (entry_bytes layout) es) rest)
 
@@ -87,7 +91,8 @@ id_entry id rest after parts = parts ∙ ap (λ (l : List ℕ). l ++ after) (sym
 pub ids_rising : (count : ℕ) (bytes ids rest : List ℕ) (last : Option ℕ) → ReadTo ids_layout count bytes ids rest last → IsRising None ids
 ids_rising count bytes ids rest last r = subst (IsRising None) (map-id ids) r.rising
 
-pub ids_are : (s : Ids) (count : ℕ) (bytes ids rest : List ℕ) (last : Option ℕ) → ReadTo ids_layout count bytes ids rest last → s ≡ set.from_list ids → length ids ≡ count → count ≤ most_facts → AreIds s
+pub ids_are : (s : Ids) (count : ℕ) (bytes ids rest : List ℕ) (last : Option ℕ) → ReadTo ids_layout count bytes ids rest last → s ≡ set.from_list ids
+    → length ids ≡ count → count ≤ most_facts → AreIds s
 ids_are s count bytes ids rest last r made len few =
     let h = ids_rising count bytes ids rest last r in
     record {
@@ -95,43 +100,55 @@ ids_are s count bytes ids rest last r made len few =
       fit = subst (AllByRecursion (IsEntry ids_layout)) (sym (rising_made ids s h made)) r.entries;
     }
 
-pub ids_parts : (s : Ids) (count : ℕ) (bytes ids rest : List ℕ) (last : Option ℕ) → ReadTo ids_layout count bytes ids rest last → s ≡ set.from_list ids → length ids ≡ count → bytes ≡ ids_bytes s ++ rest
+pub ids_parts : (s : Ids) (count : ℕ) (bytes ids rest : List ℕ) (last : Option ℕ) → ReadTo ids_layout count bytes ids rest last
+    → s ≡ set.from_list ids → length ids ≡ count → bytes ≡ ids_bytes s ++ rest
 ids_parts s count bytes ids rest last r made len =
     read_all ids_layout count bytes ids rest last r len ∙ ap (λ (l : List ℕ). list_bytes ids_layout l ++ rest) (sym (rising_made ids s (ids_rising count bytes ids rest last r) made))
 
 -- ---- views
 
-pub view_more : (version : Version) (v w : ViewMap) (count : ℕ) (bytes rest middle after : List ℕ) (last : Option ℕ) (id : ℕ) (e : Stored) → ReadTo (view_layout version) count bytes (fin.entries v) rest last → is_above last id ≡ true → id < 2 ^ 64 → IsStored version e → rest ≡ number_bytes 8 id ++ middle → middle ≡ stored_bytes version e ++ after → w ≡ put v id e → ReadTo (view_layout version) count bytes (fin.entries w) after (Some id)
+pub view_more : (version : Version) (v w : ViewMap) (count : ℕ) (bytes rest middle after : List ℕ) (last : Option ℕ) (id : ℕ) (e : Stored)
+    → ReadTo (view_layout version) count bytes (fin.entries v) rest last → is_above last id ≡ true → id < 2 ^ 64 → IsStored version e
+    → rest ≡ number_bytes 8 id ++ middle → middle ≡ stored_bytes version e ++ after → w ≡ put v id e
+    → ReadTo (view_layout version) count bytes (fin.entries w) after (Some id)
 view_more version v w count bytes rest middle after last id e r above fits stored front back is =
     let entry : rest ≡ entry_bytes (view_layout version) (id, e) ++ after = front ∙ ap (λ (l : List ℕ). number_bytes 8 id ++ l) back ∙ sym (append_assoc (number_bytes 8 id) (stored_bytes version e) after) in
     let more = read_more (view_layout version) count bytes (fin.entries v) rest after last (id, e) r above (fits, stored) entry in
     let same : fin.entries v ++ (id, e) ∷ [] ≡ fin.entries w = sym (ap fin.entries is ∙ entries-put v id e r.rising (ap (λ o. is_above o id) r.ended ∙ above)) in
     subst (λ (es : List (ℕ × Stored)). ReadTo (view_layout version) count bytes es after (Some id)) same more
 
-pub view_len : (version : Version) (v w : ViewMap) (count : ℕ) (bytes rest : List ℕ) (last : Option ℕ) (id : ℕ) (e : Stored) → ReadTo (view_layout version) count bytes (fin.entries v) rest last → is_above last id ≡ true → w ≡ put v id e → fin.len w ≡ fin.len v + 1
+pub view_len : (version : Version) (v w : ViewMap) (count : ℕ) (bytes rest : List ℕ) (last : Option ℕ) (id : ℕ) (e : Stored)
+    → ReadTo (view_layout version) count bytes (fin.entries v) rest last → is_above last id ≡ true → w ≡ put v id e → fin.len w ≡ fin.len v + 1
 view_len version v w count bytes rest last id e r above is =
     let same : fin.entries w ≡ fin.entries v ++ (id, e) ∷ [] = ap fin.entries is ∙ entries-put v id e r.rising (ap (λ o. is_above o id) r.ended ∙ above) in
     omega (arith, fin.len-entries w, fin.len-entries v, ap length same, length-append (fin.entries v) ((id, e) ∷ []))
 
-pub view_has_room : (version : Version) (v : ViewMap) (count : ℕ) (bytes rest : List ℕ) (last : Option ℕ) (id : ℕ) (e : Stored) → ReadTo (view_layout version) count bytes (fin.entries v) rest last → is_above last id ≡ true → fin.len v < most_entries → most_entries < fin.len (put v id e) → ⊥
+pub view_has_room : (version : Version) (v : ViewMap) (count : ℕ) (bytes rest : List ℕ) (last : Option ℕ) (id : ℕ) (e : Stored)
+    → ReadTo (view_layout version) count bytes (fin.entries v) rest last → is_above last id ≡ true → fin.len v < most_entries
+    → most_entries < fin.len (put v id e) → ⊥
 view_has_room version v count bytes rest last id e r above few many = omega (arith, view_len version v (put v id e) count bytes rest last id e r above refl)
 
-pub view_none : (version : Version) (v : ViewMap) (count : ℕ) (bytes rest : List ℕ) → v ≡ fin.empty → bytes ≡ number_bytes 2 count ++ rest → ReadTo (view_layout version) count bytes (fin.entries v) rest None × (fin.len v ≡ 0)
+pub view_none : (version : Version) (v : ViewMap) (count : ℕ) (bytes rest : List ℕ) → v ≡ fin.empty → bytes ≡ number_bytes 2 count ++ rest
+    → ReadTo (view_layout version) count bytes (fin.entries v) rest None × (fin.len v ≡ 0)
 view_none version v count bytes rest is parts =
     let none : fin.len v ≡ 0 = ap fin.len is ∙ fin.len-empty nat_cmp Stored in
     let nothing : fin.entries v ≡ [] = nil_from_length (fin.entries v) (sym (fin.len-entries v) ∙ none) in
     (subst (λ (es : List (ℕ × Stored)). ReadTo (view_layout version) count bytes es rest None) (sym nothing) (read_none (view_layout version) count bytes rest parts), none)
 
 -- what is wrong behind the records that were read
-pub view_faulty : (version : Version) (v : ViewMap) (count : ℕ) (bytes rest : List ℕ) (last : Option ℕ) (d : MessageFault) → ReadTo (view_layout version) count bytes (fin.entries v) rest last → count ≤ most_entries → fin.len v < count → entry_fault (view_layout version) last rest ≡ Some d → OrMemory (IsListFault (view_layout version) bytes) d
+pub view_faulty : (version : Version) (v : ViewMap) (count : ℕ) (bytes rest : List ℕ) (last : Option ℕ) (d : MessageFault)
+    → ReadTo (view_layout version) count bytes (fin.entries v) rest last → count ≤ most_entries → fin.len v < count
+    → entry_fault (view_layout version) last rest ≡ Some d → OrMemory (IsListFault (view_layout version) bytes) d
 view_faulty version v count bytes rest last d r few fewer = read_fault (view_layout version) count bytes (fin.entries v) rest last d r few (omega (arith, fewer, fin.len-entries v))
 
-pub view_parts : (version : Version) (v : ViewMap) (count : ℕ) (bytes rest : List ℕ) (last : Option ℕ) → ReadTo (view_layout version) count bytes (fin.entries v) rest last → fin.len v ≡ count → bytes ≡ view_bytes version v ++ rest
+pub view_parts : (version : Version) (v : ViewMap) (count : ℕ) (bytes rest : List ℕ) (last : Option ℕ)
+    → ReadTo (view_layout version) count bytes (fin.entries v) rest last → fin.len v ≡ count → bytes ≡ view_bytes version v ++ rest
 view_parts version v count bytes rest last r len = read_all (view_layout version) count bytes (fin.entries v) rest last r (sym (fin.len-entries v) ∙ len)
 
 -- ---- what is first wrong in a record
 
-pub id_sound : (last : Option ℕ) (id : ℕ) (rest after : List ℕ) → id < 2 ^ 64 → is_above last id ≡ true → rest ≡ number_bytes 8 id ++ after → id_fault last rest ≡ None
+pub id_sound : (last : Option ℕ) (id : ℕ) (rest after : List ℕ) → id < 2 ^ 64 → is_above last id ≡ true → rest ≡ number_bytes 8 id ++ after
+    → id_fault last rest ≡ None
 id_sound last id rest after fits above parts =
     let long : nat_lt (length rest) 8 ≡ false = le-ltb _ _ (omega (arith, ap length parts, length-append (number_bytes 8 id) after, length-number_bytes 8 id)) in
     let first : first_number 8 rest ≡ id = ap (first_number 8) parts ∙ first_number-number_bytes 8 id after fits in
@@ -145,7 +162,8 @@ module _ {A : Type 0} (layout : Layout A) (last : Option ℕ) where
   pub id_faulty : (rest : List ℕ) (d : MessageFault) → id_fault last rest ≡ Some d → entry_fault layout last rest ≡ Some d
   id_faulty rest d e = ap (λ o. first_of o (layout.value_fault (drop 8 rest))) e
 
-  pub value_faulty : (id : ℕ) (rest after : List ℕ) (d : MessageFault) → id < 2 ^ 64 → is_above last id ≡ true → rest ≡ number_bytes 8 id ++ after → layout.value_fault after ≡ Some d → entry_fault layout last rest ≡ Some d
+  pub value_faulty : (id : ℕ) (rest after : List ℕ) (d : MessageFault) → id < 2 ^ 64 → is_above last id ≡ true → rest ≡ number_bytes 8 id ++ after
+      → layout.value_fault after ≡ Some d → entry_fault layout last rest ≡ Some d
   value_faulty id rest after d fits above parts e =
       ap (λ o. first_of o (layout.value_fault (drop 8 rest))) (id_sound last id rest after fits above parts) ∙ ap layout.value_fault (behind_id id rest after parts) ∙ e
 

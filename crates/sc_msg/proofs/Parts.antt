@@ -20,7 +20,8 @@ pub length_faulty : (version : Version) (bytes : List ℕ) (e : MessageFault) �
 length_faulty version bytes e h = ap (λ o. first_of o (cond (nat_lt (length bytes) (length_width version + told_length version bytes)) (Some Short) None)) h
 
 -- the bytes of a value are cut
-pub value_cut : (version : Version) (n : ℕ) (old rest : List ℕ) → IsLength version n → old ≡ length_bytes version n ++ rest → length rest < n → value_fault version old ≡ Some Short
+pub value_cut : (version : Version) (n : ℕ) (old rest : List ℕ) → IsLength version n → old ≡ length_bytes version n ++ rest → length rest < n
+    → value_fault version old ≡ Some Short
 value_cut First n old rest is parts few =
     let cut : nat_lt (length old) 48 ≡ true = lt-ltb _ _ (omega (arith, ap length parts, is.most)) in
     rw cut refl
@@ -34,7 +35,8 @@ value_cut Second n old rest is parts few = ap (value_fault Second) parts ∙ tol
         rw (some, low, cut) refl
 
 -- behind a number from 1 a value is faulty
-pub value_faulty_behind : (version : Version) (old rest : List ℕ) (n : ℕ) (e : MessageFault) → 8 ≤ length old → first_number 8 old ≡ n → (n ≡ 0 → ⊥) → old ≡ number_bytes 8 n ++ rest → value_fault version rest ≡ Some e → stored_fault version old ≡ Some e
+pub value_faulty_behind : (version : Version) (old rest : List ℕ) (n : ℕ) (e : MessageFault) → 8 ≤ length old → first_number 8 old ≡ n → (n ≡ 0 → ⊥)
+    → old ≡ number_bytes 8 n ++ rest → value_fault version rest ≡ Some e → stored_fault version old ≡ Some e
 value_faulty_behind version old rest n e long first positive parts faulty =
     let a : nat_lt (length old) 8 ≡ false = le-ltb _ _ long in
     let b : eqb (first_number 8 old) 0 ≡ false = ap (λ k. eqb k 0) first ∙ ne_eqb n 0 positive in
@@ -43,7 +45,8 @@ value_faulty_behind version old rest n e long first positive parts faulty =
 
 -- ---- a value behind its length
 
-pub value_parts : (version : Version) (n : ℕ) (v old middle rest : List ℕ) → length v ≡ n → old ≡ length_bytes version n ++ middle → middle ≡ v ++ rest → old ≡ value_bytes version v ++ rest
+pub value_parts : (version : Version) (n : ℕ) (v old middle rest : List ℕ) → length v ≡ n → old ≡ length_bytes version n ++ middle
+    → middle ≡ v ++ rest → old ≡ value_bytes version v ++ rest
 value_parts version n v old middle rest len front back =
     front ∙ ap (λ (k : ℕ). length_bytes version k ++ middle) (sym len) ∙ ap (λ (l : List ℕ). length_bytes version (length v) ++ l) back
     ∙ sym (append_assoc (length_bytes version (length v)) v rest)

@@ -67,7 +67,8 @@ put_last : {X : Type 0} (es : List (ℕ × X)) (id : ℕ) (x : X) → AllByRecur
 put_last [] id x h = refl
 put_last (e ∷ es) id x h = rw (greater id e.0 h.0) (ap (λ l. e ∷ l) (put_last es id x h.1))
 
-pub entries-put : (v : ViewMap) (id : ℕ) (e : Stored) → IsRising None (map (λ e. e.0) (fin.entries v)) → is_above (last_of None (map (λ e. e.0) (fin.entries v))) id ≡ true → fin.entries (put v id e) ≡ fin.entries v ++ (id, e) ∷ []
+pub entries-put : (v : ViewMap) (id : ℕ) (e : Stored) → IsRising None (map (λ e. e.0) (fin.entries v))
+    → is_above (last_of None (map (λ e. e.0) (fin.entries v))) id ≡ true → fin.entries (put v id e) ≡ fin.entries v ++ (id, e) ∷ []
 entries-put v id e h above =
     let low = below_each None (map (λ e. e.0) (fin.entries v)) id h above in
     let none : fin.get v id ≡ None = fin.get-entries v id ∙ missing (fin.entries v) id low in
@@ -102,7 +103,8 @@ missing_low : {X : Type 0} (x : ℕ) (es : List (ℕ × X)) → AllByRecursion (
 missing_low x [] h = refl
 missing_low x (e ∷ es) h = rw h.0 (missing_low x es h.1)
 
-each_found : {X : Type 0} (Q : X → Type 0) (last : Option ℕ) (es : List (ℕ × X)) → IsRising last (map (λ e. e.0) es) → ((id : ℕ) (x : X) → find nat_cmp id es ≡ Some x → Q x) → AllByRecursion (λ e. Q e.1) es
+each_found : {X : Type 0} (Q : X → Type 0) (last : Option ℕ) (es : List (ℕ × X)) → IsRising last (map (λ e. e.0) es)
+    → ((id : ℕ) (x : X) → find nat_cmp id es ≡ Some x → Q x) → AllByRecursion (λ e. Q e.1) es
 each_found Q last [] r h = tt
 each_found {X = X} Q last (e ∷ es) r h = (
   h e.0 e.1 (rw (equal e.0) refl),

@@ -61,7 +61,8 @@ flag_is false false x y e = (refl, cc)
 other_slot : (s t : Slot) → ⊥ → s ≡ t
 other_slot s t h = absurd h
 
-view_front : (version : Version) (v w : ViewMap) (x y : List ℕ) → AreRecords version v → AreRecords version w → view_bytes version v ++ x ≡ view_bytes version w ++ y → (v ≡ w) × (x ≡ y)
+view_front : (version : Version) (v w : ViewMap) (x y : List ℕ) → AreRecords version v → AreRecords version w
+    → view_bytes version v ++ x ≡ view_bytes version w ++ y → (v ≡ w) × (x ≡ y)
 view_front version v w x y p q e =
     let h = list_front (view_layout version) (view_law version) (fin.entries v) (fin.entries w) x y p.fit q.fit (omega (arith, fin.len-entries v, p.few)) (omega (arith, fin.len-entries w, q.few)) e in
     (fin.same_entries_map v w h.0, h.1)
@@ -105,7 +106,8 @@ other_slots s t ss ts e = cc
 nothing_left : (s : Slot) (ss : List Slot) → [] ≡ s ∷ ss → ⊥
 nothing_left s ss e = cc
 
-pub fields_front : (fs gs : List Field) (x y : List ℕ) → map slot_of fs ≡ map slot_of gs → AllByRecursion IsField fs → AllByRecursion IsField gs → fields_bytes fs ++ x ≡ fields_bytes gs ++ y → (fs ≡ gs) × (x ≡ y)
+pub fields_front : (fs gs : List Field) (x y : List ℕ) → map slot_of fs ≡ map slot_of gs → AllByRecursion IsField fs → AllByRecursion IsField gs
+    → fields_bytes fs ++ x ≡ fields_bytes gs ++ y → (fs ≡ gs) × (x ≡ y)
 fields_front [] [] x y s p q e = (refl, e)
 fields_front [] (g ∷ gs) x y s p q e = absurd (nothing_left (slot_of g) (map slot_of gs) s)
 fields_front (f ∷ fs) [] x y s p q e = absurd (nothing_left (slot_of f) (map slot_of fs) (sym s))
@@ -115,7 +117,9 @@ fields_front (f ∷ fs) (g ∷ gs) x y s p q e =
     (ap (λ (k : Field). k ∷ fs) h.0 ∙ ap (λ (l : List Field). g ∷ l) t.0, t.1)
 
 -- a fault behind some fields, where the others are spelled
-no_fault_behind : (before fs : List Field) (slot : Slot) (after : List Slot) (rest x : List ℕ) (e : MessageFault) → AllByRecursion IsField before → AllByRecursion IsField fs → map slot_of fs ≡ map slot_of before ++ slot ∷ after → fields_bytes fs ++ x ≡ fields_bytes before ++ rest → IsFieldFault slot rest e → ⊥
+no_fault_behind : (before fs : List Field) (slot : Slot) (after : List Slot) (rest x : List ℕ) (e : MessageFault) → AllByRecursion IsField before
+    → AllByRecursion IsField fs → map slot_of fs ≡ map slot_of before ++ slot ∷ after → fields_bytes fs ++ x ≡ fields_bytes before ++ rest
+    → IsFieldFault slot rest e → ⊥
 no_fault_behind [] [] slot after rest x e p q s parts h = nothing_left slot after s
 no_fault_behind [] (f ∷ fs) slot after rest x e p q s parts h =
     no_field_fault f (fields_bytes fs ++ x) e q.0 (subst (λ (t : Slot). IsFieldFault t (field_bytes f ++ (fields_bytes fs ++ x)) e) (sym (first_slot _ _ _ _ s)) (subst (λ (l : List ℕ). IsFieldFault slot l e) (sym parts ∙ on f fs x) h))
@@ -124,14 +128,18 @@ no_fault_behind (g ∷ before) (f ∷ fs) slot after rest x e p q s parts h =
     let k = field_front f g (fields_bytes fs ++ x) (fields_bytes before ++ rest) (first_slot _ _ _ _ s) q.0 p.0 (sym (on f fs x) ∙ parts ∙ on g before rest) in
     no_fault_behind before fs slot after rest x e p.1 q.1 (other_slots _ _ _ _ s) k.1 h
 
-pub no_fields_fault : (fs : List Field) (x : List ℕ) (e : MessageFault) → AllByRecursion IsField fs → IsFieldsFault (map slot_of fs) (fields_bytes fs ++ x) e → ⊥
+pub no_fields_fault : (fs : List Field) (x : List ℕ) (e : MessageFault) → AllByRecursion IsField fs
+    → IsFieldsFault (map slot_of fs) (fields_bytes fs ++ x) e → ⊥
 no_fields_fault fs x e p h = no_fault_behind h.before fs h.slot h.after h.rest x e h.fields p h.shape h.parts h.faulty
 
 -- a field that is spelled where another finds a fault
-spelled_here : (f : Field) (slot : Slot) (x rest : List ℕ) (d : MessageFault) → IsField f → slot_of f ≡ slot → rest ≡ field_bytes f ++ x → IsFieldFault slot rest d → ⊥
+spelled_here : (f : Field) (slot : Slot) (x rest : List ℕ) (d : MessageFault) → IsField f → slot_of f ≡ slot → rest ≡ field_bytes f ++ x
+    → IsFieldFault slot rest d → ⊥
 spelled_here f slot x rest d p s parts h = no_field_fault f x d p (subst (λ (t : Slot). IsFieldFault t (field_bytes f ++ x) d) (sym s) (subst (λ (l : List ℕ). IsFieldFault slot l d) parts h))
 
-same_place : (before gs : List Field) (slot other : Slot) (after afters : List Slot) (x y : List ℕ) (d e : MessageFault) → AllByRecursion IsField before → AllByRecursion IsField gs → map slot_of before ++ slot ∷ after ≡ map slot_of gs ++ other ∷ afters → fields_bytes before ++ x ≡ fields_bytes gs ++ y → IsFieldFault slot x d → IsFieldFault other y e → d ≡ e
+same_place : (before gs : List Field) (slot other : Slot) (after afters : List Slot) (x y : List ℕ) (d e : MessageFault)
+    → AllByRecursion IsField before → AllByRecursion IsField gs → map slot_of before ++ slot ∷ after ≡ map slot_of gs ++ other ∷ afters
+    → fields_bytes before ++ x ≡ fields_bytes gs ++ y → IsFieldFault slot x d → IsFieldFault other y e → d ≡ e
 same_place [] [] slot other after afters x y d e p q s parts bad worse =
     one_field_fault slot x d e bad (subst (λ (t : Slot). IsFieldFault t x e) (sym (first_slot _ _ _ _ s)) (subst (λ (l : List ℕ). IsFieldFault other l e) (sym parts) worse))
 same_place [] (g ∷ gs) slot other after afters x y d e p q s parts bad worse =

@@ -43,7 +43,8 @@ same_code k l e = same_kind k l (sym (kind_at-code k) ∙ ap kind_at e ∙ kind_
 fourth : (v a b : ℕ) (x y : List ℕ) → 0x42 ∷ 0x51 ∷ v ∷ a ∷ x ≡ 0x42 ∷ 0x51 ∷ v ∷ b ∷ y → (a ≡ b) × (x ≡ y)
 fourth v a b x y e = (cc, cc)
 
-head_front : (version : Version) (k l : MessageKind) (f g : ℕ) (x y : List ℕ) → f < 2 ^ 64 → g < 2 ^ 64 → head_bytes version k f ++ x ≡ head_bytes version l g ++ y → (k ≡ l) × (f ≡ g) × (x ≡ y)
+head_front : (version : Version) (k l : MessageKind) (f g : ℕ) (x y : List ℕ) → f < 2 ^ 64 → g < 2 ^ 64
+    → head_bytes version k f ++ x ≡ head_bytes version l g ++ y → (k ≡ l) × (f ≡ g) × (x ≡ y)
 head_front version k l f g x y p q e =
     let c = fourth (version_byte version) (code k) (code l) (number_bytes 8 f ++ x) (number_bytes 8 g ++ y) e in
     let n = number_front 8 f g x y p q c.1 in
@@ -91,10 +92,12 @@ message_is m n p q = λ i. record { from = p i; body = q i }
 
 -- ---- one spelling
 
-spelled_on : (version : Version) (m : Message) (x : List ℕ) → message_bytes version m ++ x ≡ head_bytes version (kind_of m.body) m.from ++ (fields_bytes (fields version m.body) ++ x)
+spelled_on : (version : Version) (m : Message) (x : List ℕ)
+    → message_bytes version m ++ x ≡ head_bytes version (kind_of m.body) m.from ++ (fields_bytes (fields version m.body) ++ x)
 spelled_on version m x = append_assoc (head_bytes version (kind_of m.body) m.from) (fields_bytes (fields version m.body)) x
 
-message_front : (version : Version) (m n : Message) (x y : List ℕ) → IsMessage version m → IsMessage version n → message_bytes version m ++ x ≡ message_bytes version n ++ y → (m ≡ n) × (x ≡ y)
+message_front : (version : Version) (m n : Message) (x y : List ℕ) → IsMessage version m → IsMessage version n
+    → message_bytes version m ++ x ≡ message_bytes version n ++ y → (m ≡ n) × (x ≡ y)
 message_front version m n x y p q e =
     let h = head_front version (kind_of m.body) (kind_of n.body) m.from n.from (fields_bytes (fields version m.body) ++ x) (fields_bytes (fields version n.body) ++ y) p.from q.from (sym (spelled_on version m x) ∙ e ∙ spelled_on version n y) in
     let f = fields_front (fields version m.body) (fields version n.body) x y (sym (laid_out version m.body).0 ∙ ap (slots version) h.0 ∙ (laid_out version n.body).0) p.fields q.fields h.2 in
@@ -113,7 +116,8 @@ value_small : (version : Version) (v : List ℕ) → IsLength version (length v)
 value_small First v p = omega (arith, p.most)
 value_small Second v p = omega (arith, p.most)
 
-entries_small : (version : Version) (es : List (ℕ × Stored)) → AllByRecursion (IsEntry (view_layout version)) es → length (flat_map (entry_bytes (view_layout version)) es) ≤ 129 * length es
+entries_small : (version : Version) (es : List (ℕ × Stored)) → AllByRecursion (IsEntry (view_layout version)) es
+    → length (flat_map (entry_bytes (view_layout version)) es) ≤ 129 * length es
 entries_small version [] p = omega arith
 entries_small version (e ∷ es) p =
     let value = value_bytes version e.1.value in
@@ -176,25 +180,30 @@ message_small version m p = omega (arith, length-append (head_bytes version (kin
 
 -- ---- what is spelled has no fault
 
-format : (version : Version) (k : MessageKind) (f : ℕ) (x : List ℕ) → nat_lt most_bytes (length (head_bytes version k f ++ x)) ≡ false → nat_lt (length (head_bytes version k f ++ x)) 12 ≡ false → head_fault version (head_bytes version k f ++ x) ≡ None
+format : (version : Version) (k : MessageKind) (f : ℕ) (x : List ℕ) → nat_lt most_bytes (length (head_bytes version k f ++ x)) ≡ false
+    → nat_lt (length (head_bytes version k f ++ x)) 12 ≡ false → head_fault version (head_bytes version k f ++ x) ≡ None
 format First k f x low long = rw (low, long, kind_at-code k) refl
 format Second k f x low long = rw (low, long, kind_at-code k) refl
 
-head_sound : (version : Version) (k : MessageKind) (f : ℕ) (x : List ℕ) → length (head_bytes version k f ++ x) ≤ most_bytes → head_fault version (head_bytes version k f ++ x) ≡ None
+head_sound : (version : Version) (k : MessageKind) (f : ℕ) (x : List ℕ) → length (head_bytes version k f ++ x) ≤ most_bytes
+    → head_fault version (head_bytes version k f ++ x) ≡ None
 head_sound version k f x small =
     let low : nat_lt most_bytes (length (head_bytes version k f ++ x)) ≡ false = le-ltb _ _ small in
     let long : nat_lt (length (head_bytes version k f ++ x)) 12 ≡ false = le-ltb _ _ (omega (arith, length-append (head_bytes version k f) x, length-head_bytes version k f)) in
     format version k f x low long
 
-no_head_fault : (version : Version) (bytes rest : List ℕ) (k : MessageKind) (f : ℕ) (e : MessageFault) → length bytes ≤ most_bytes → bytes ≡ head_bytes version k f ++ rest → head_fault version bytes ≡ Some e → ⊥
+no_head_fault : (version : Version) (bytes rest : List ℕ) (k : MessageKind) (f : ℕ) (e : MessageFault) → length bytes ≤ most_bytes
+    → bytes ≡ head_bytes version k f ++ rest → head_fault version bytes ≡ Some e → ⊥
 no_head_fault version bytes rest k f e small parts h = no_fault e (sym (head_sound version k f rest (omega (arith, small, ap length parts))) ∙ ap (head_fault version) (sym parts) ∙ h)
 
 -- behind a head that was read the answer is no fault of the head
-pub head_is_right : {A : Type 0} (version : Version) (bytes rest : List ℕ) (k : MessageKind) (f : ℕ) (r : Result A MessageFault) → length bytes ≤ most_bytes → bytes ≡ head_bytes version k f ++ rest → (e : MessageFault) → head_fault version bytes ≡ Some e → r ≡ Err e
+pub head_is_right : {A : Type 0} (version : Version) (bytes rest : List ℕ) (k : MessageKind) (f : ℕ) (r : Result A MessageFault)
+    → length bytes ≤ most_bytes → bytes ≡ head_bytes version k f ++ rest → (e : MessageFault) → head_fault version bytes ≡ Some e → r ≡ Err e
 head_is_right version bytes rest k f r small parts e h = absurd (no_head_fault version bytes rest k f e small parts h)
 
 -- a field that is faulty behind the head of what is spelled
-no_body_fault : (version : Version) (bytes x : List ℕ) (m : Message) (e : MessageFault) → IsMessage version m → bytes ≡ message_bytes version m ++ x → IsBodyFault version bytes e → ⊥
+no_body_fault : (version : Version) (bytes x : List ℕ) (m : Message) (e : MessageFault) → IsMessage version m → bytes ≡ message_bytes version m ++ x
+    → IsBodyFault version bytes e → ⊥
 no_body_fault version bytes x m e p parts b =
     let h = head_front version b.kind (kind_of m.body) b.from m.from b.rest (fields_bytes (fields version m.body) ++ x) b.fits p.from (sym b.parts ∙ parts ∙ spelled_on version m x) in
     let wanted : slots version b.kind ≡ map slot_of (fields version m.body) = ap (slots version) h.0 ∙ (laid_out version m.body).0 in
@@ -203,7 +212,8 @@ no_body_fault version bytes x m e p parts b =
 nothing_more : (n : ℕ) (x : List ℕ) → [] ≡ n ∷ x → ⊥
 nothing_more n x e = cc
 
-no_first_fault : (version : Version) (bytes : List ℕ) (m : Message) (e : MessageFault) → IsMessage version m → bytes ≡ message_bytes version m → IsFirstFault version bytes e → ⊥
+no_first_fault : (version : Version) (bytes : List ℕ) (m : Message) (e : MessageFault) → IsMessage version m → bytes ≡ message_bytes version m
+    → IsFirstFault version bytes e → ⊥
 no_first_fault version bytes m e p parts (inl h) = no_head_fault version bytes (fields_bytes (fields version m.body)) (kind_of m.body) m.from e (omega (arith, message_small version m p, ap length parts)) parts h
 no_first_fault version bytes m e p parts (inr (inl b)) = no_body_fault version bytes [] m e p (parts ∙ sym (append-nil (message_bytes version m))) b
 no_first_fault version bytes m e p parts (inr (inr x)) =
@@ -213,7 +223,9 @@ pub spelled_has_no_fault : (version : Version) (m : Message) (e : MessageFault) 
 spelled_has_no_fault version m e p h = no_first_fault version (message_bytes version m) m e p refl h
 
 -- what spells a message is decoded, unless memory runs out
-pub decodes : (version : Version) (bytes : List ℕ) (r : Result Message MessageFault) → IfOk r (λ n. bytes ≡ message_bytes version n) → IfOk r (IsMessage version) → IfErr r (IsFault version bytes) → (m : Message) → IsMessage version m → bytes ≡ message_bytes version m → MatchResult r (λ n. n ≡ m) (λ e. e ≡ OutOfMemory)
+pub decodes : (version : Version) (bytes : List ℕ) (r : Result Message MessageFault) → IfOk r (λ n. bytes ≡ message_bytes version n)
+    → IfOk r (IsMessage version) → IfErr r (IsFault version bytes) → (m : Message) → IsMessage version m → bytes ≡ message_bytes version m
+    → MatchResult r (λ n. n ≡ m) (λ e. e ≡ OutOfMemory)
 decodes version bytes (Ok n) spelled legal fault m p e = one_spelling version n m legal p (sym spelled ∙ e)
 decodes version bytes (Err BadHead) spelled legal fault m p e = absurd (no_first_fault version bytes m BadHead p e fault)
 decodes version bytes (Err Short) spelled legal fault m p e = absurd (no_first_fault version bytes m Short p e fault)
@@ -243,5 +255,6 @@ not_memory : (P : MessageFault → Type 0) (e : MessageFault) → (e ≡ OutOfMe
 not_memory P OutOfMemory other p = absurd (other refl)
 not_memory P _ other p = p
 
-pub one_fault : (version : Version) (bytes : List ℕ) (d e : MessageFault) → IsFault version bytes d → IsFault version bytes e → (d ≡ OutOfMemory → ⊥) → (e ≡ OutOfMemory → ⊥) → d ≡ e
+pub one_fault : (version : Version) (bytes : List ℕ) (d e : MessageFault) → IsFault version bytes d → IsFault version bytes e → (d ≡ OutOfMemory → ⊥)
+    → (e ≡ OutOfMemory → ⊥) → d ≡ e
 one_fault version bytes d e p q no_d no_e = one_first_fault version bytes d e (not_memory (IsFirstFault version bytes) d no_d p) (not_memory (IsFirstFault version bytes) e no_e q)

@@ -7,7 +7,9 @@ use Rattle.sc_msg.specs.Kinds.{kind_of}
 use Rattle.sc_msg.specs.Fields.{fields, fields_bytes}
 use Rattle.sc_msg.specs.Messages.{head_bytes, message_bytes, ReadsBody}
 
-pub whole : (version : Version) (bytes rest after : List ℕ) (kind : MessageKind) (from : ℕ) (body : Body) → bytes ≡ head_bytes version kind from ++ rest → ReadsBody version kind rest after body → bytes ≡ message_bytes version (record { from = from; body = body }) ++ after
+pub whole : (version : Version) (bytes rest after : List ℕ) (kind : MessageKind) (from : ℕ) (body : Body)
+    → bytes ≡ head_bytes version kind from ++ rest → ReadsBody version kind rest after body
+    → bytes ≡ message_bytes version (record { from = from; body = body }) ++ after
 whole version bytes rest after kind from body parts read =
     parts ∙ ap (λ k. head_bytes version k from ++ rest) (sym read.kind) ∙ ap (λ (l : List ℕ). head_bytes version (kind_of body) from ++ l) read.parts
     ∙ sym (append_assoc (head_bytes version (kind_of body) from) (fields_bytes (fields version body)) after)

@@ -19,7 +19,8 @@ module _ {A : Type 0} (layout : Layout A) (count : ℕ) (entries : List A) (old 
   written_none new is = record { done = []; split = refl; legal = tt; written = is ∙ ap (λ (l : List ℕ). old ++ l) (sym (append-nil (number_bytes 2 count))) }
 
   -- where these entries are left
-  pub written_more : (new after : List ℕ) (e : A) (rest left : List A) → WrittenTo layout count entries old new left → left ≡ e ∷ rest → IsEntry layout e → after ≡ new ++ entry_bytes layout e → WrittenTo layout count entries old after rest
+  pub written_more : (new after : List ℕ) (e : A) (rest left : List A) → WrittenTo layout count entries old new left → left ≡ e ∷ rest
+      → IsEntry layout e → after ≡ new ++ entry_bytes layout e → WrittenTo layout count entries old after rest
   written_more new after e rest left so_far next is more =
       let w = subst (WrittenTo layout count entries old new) next so_far in
       let spelled : flat_map (entry_bytes layout) (w.done ++ e ∷ []) ≡ flat_map (entry_bytes layout) w.done ++ entry_bytes layout e = flat_map-append (entry_bytes layout) w.done (e ∷ []) ∙ ap (λ (l : List ℕ). flat_map (entry_bytes layout) w.done ++ l) (append-nil (entry_bytes layout e)) in
@@ -32,7 +33,8 @@ module _ {A : Type 0} (layout : Layout A) (count : ℕ) (entries : List A) (old 
       }
 
   -- where none is left
-  pub written_all : (new : List ℕ) (left : List A) → WrittenTo layout count entries old new left → left ≡ [] → count ≡ length entries → AllByRecursion (IsEntry layout) entries × (new ≡ old ++ list_bytes layout entries)
+  pub written_all : (new : List ℕ) (left : List A) → WrittenTo layout count entries old new left → left ≡ [] → count ≡ length entries
+      → AllByRecursion (IsEntry layout) entries × (new ≡ old ++ list_bytes layout entries)
   written_all new left so_far none len =
       let w = subst (WrittenTo layout count entries old new) none so_far in
       let all : entries ≡ w.done = w.split ∙ append-nil w.done in (

@@ -42,7 +42,8 @@ entering_few id =
 grows : (s : Ids) (id : ℕ) → set.len s ≤ set.len (set.insert s id)
 grows s id = omega (arith, set.len-insert nat_cmp_total s id, no_less (set.contains s id) (set.len s))
 
-more : (a b c x y : ℕ) → a ≤ x → b ≤ y → (nat_lt most_facts a || (nat_lt most_facts b || nat_lt most_facts c)) ≡ true → (nat_lt most_facts x || (nat_lt most_facts y || nat_lt most_facts c)) ≡ true
+more : (a b c x y : ℕ) → a ≤ x → b ≤ y → (nat_lt most_facts a || (nat_lt most_facts b || nat_lt most_facts c)) ≡ true
+    → (nat_lt most_facts x || (nat_lt most_facts y || nat_lt most_facts c)) ≡ true
 more a b c x y p q is = grind (arith, p, q, is)
 
 -- facts that are too many stay so where a node joins

@@ -49,14 +49,17 @@ module _ (l : Lengths) where
   same_session : (o p : Session) → Some o ≡ Some p → o ≡ p
   same_session o p is = ap (session_or o) is
 
-  inserted : (b : Bool) (m : fin.FinMap nat_cmp Session) (q : ℕ) (o p : Session) → TableHasValuesWithin l m → SessionHasValuesWithin l o → cond b (Some o) (fin.get m q) ≡ Some p → SessionHasValuesWithin l p
+  inserted : (b : Bool) (m : fin.FinMap nat_cmp Session) (q : ℕ) (o p : Session) → TableHasValuesWithin l m → SessionHasValuesWithin l o
+      → cond b (Some o) (fin.get m q) ≡ Some p → SessionHasValuesWithin l p
   inserted true m q o p table new is = subst (SessionHasValuesWithin l) (same_session o p is) new
   inserted false m q o p table new is = table.at q p is
 
-  table_with : (m : fin.FinMap nat_cmp Session) (tag : ℕ) (o : Session) → TableHasValuesWithin l m → SessionHasValuesWithin l o → TableHasValuesWithin l (fin.insert m tag o)
+  table_with : (m : fin.FinMap nat_cmp Session) (tag : ℕ) (o : Session) → TableHasValuesWithin l m → SessionHasValuesWithin l o
+      → TableHasValuesWithin l (fin.insert m tag o)
   table_with m tag o table new = record { at = λ q p has. inserted (eq_by_cmp nat_cmp q tag) m q o p table new (sym (fin.get-insert nat_cmp_total m tag o q) ∙ has) }
 
-  removed : (b : Bool) (m : fin.FinMap nat_cmp Session) (q : ℕ) (p : Session) → TableHasValuesWithin l m → cond b None (fin.get m q) ≡ Some p → SessionHasValuesWithin l p
+  removed : (b : Bool) (m : fin.FinMap nat_cmp Session) (q : ℕ) (p : Session) → TableHasValuesWithin l m → cond b None (fin.get m q) ≡ Some p
+      → SessionHasValuesWithin l p
   removed true m q p table is = absurd (not_some p is)
   removed false m q p table is = table.at q p is
 
@@ -73,15 +76,18 @@ module _ (l : Lengths) where
   advanced from (advance.Turned threshold view) o new h = h
   advanced from a o new h = with_phase_within o (count_sender (open_phase o) from) h
 
-  moved_by : (b : Bool) (m : fin.FinMap nat_cmp Session) (tag : ℕ) (o : Session) → TableHasValuesWithin l m → SessionHasValuesWithin l o → TableHasValuesWithin l (cond b (fin.remove m tag) (fin.insert m tag o))
+  moved_by : (b : Bool) (m : fin.FinMap nat_cmp Session) (tag : ℕ) (o : Session) → TableHasValuesWithin l m → SessionHasValuesWithin l o
+      → TableHasValuesWithin l (cond b (fin.remove m tag) (fin.insert m tag o))
   moved_by true m tag o table new = table_without m tag table
   moved_by false m tag o table new = table_with m tag o table new
 
-  moved_at : (m : fin.FinMap nat_cmp Session) (p : Progress) (o : Option Session) → TableHasValuesWithin l m → ProgressHasValuesWithin l p → fin.get m p.tag ≡ o → TableHasValuesWithin l (session_moved m p o)
+  moved_at : (m : fin.FinMap nat_cmp Session) (p : Progress) (o : Option Session) → TableHasValuesWithin l m → ProgressHasValuesWithin l p
+      → fin.get m p.tag ≡ o → TableHasValuesWithin l (session_moved m p o)
   moved_at m p None table new is = table
   moved_at m p (Some o) table new is = moved_by (ends p.advance) m p.tag (apply p o) table (advanced p.sender p.advance o new (table.at p.tag o is))
 
-  table_after : (m : fin.FinMap nat_cmp Session) (p : Option Progress) → TableHasValuesWithin l m → IfSome p (ProgressHasValuesWithin l) → TableHasValuesWithin l (sessions_after m p)
+  table_after : (m : fin.FinMap nat_cmp Session) (p : Option Progress) → TableHasValuesWithin l m → IfSome p (ProgressHasValuesWithin l)
+      → TableHasValuesWithin l (sessions_after m p)
   table_after m None table new = table
   table_after m (Some p) table new = moved_at m p (fin.get m p.tag) table new refl
 
@@ -95,11 +101,13 @@ module _ (l : Lengths) where
   ended_at_end tag advance.Counted o h = tt
   ended_at_end tag (advance.Turned threshold view) o h = tt
 
-  if_there : (m : fin.FinMap nat_cmp Session) (tag : ℕ) (o : Option Session) → TableHasValuesWithin l m → fin.get m tag ≡ o → IfSome o (SessionHasValuesWithin l)
+  if_there : (m : fin.FinMap nat_cmp Session) (tag : ℕ) (o : Option Session) → TableHasValuesWithin l m → fin.get m tag ≡ o
+      → IfSome o (SessionHasValuesWithin l)
   if_there m tag None table is = tt
   if_there m tag (Some o) table is = table.at tag o is
 
-  ended_after : (m : fin.FinMap nat_cmp Session) (p : Option Progress) → TableHasValuesWithin l m → IfSome (ended_by p (ended_session m p)) (EndedHasValuesWithin l)
+  ended_after : (m : fin.FinMap nat_cmp Session) (p : Option Progress) → TableHasValuesWithin l m
+      → IfSome (ended_by p (ended_session m p)) (EndedHasValuesWithin l)
   ended_after m None table = tt
   ended_after m (Some p) table = ended_at_end p.tag p.advance (fin.get m p.tag) (if_there m p.tag (fin.get m p.tag) table refl)
 
@@ -128,11 +136,13 @@ module _ (l : Lengths) where
   acked from tag None = tt
   acked from tag (Some p) = advance_if (is_reached (count_sender p from)) advance.Ended advance.Counted tt tt
 
-  replied : (from tag : ℕ) (view : ViewMap) (next : ℕ) (p : Option Phase) → HasValuesWithin l view → IfSome (reply_progress from tag view next p) (ProgressHasValuesWithin l)
+  replied : (from tag : ℕ) (view : ViewMap) (next : ℕ) (p : Option Phase) → HasValuesWithin l view
+      → IfSome (reply_progress from tag view next p) (ProgressHasValuesWithin l)
   replied from tag view next None h = tt
   replied from tag view next (Some p) h = advance_if (is_reached (count_sender p from)) (advance.Turned next view) advance.Counted h tt
 
-  progress_told : (s : NodeState) (from : ℕ) (b : Body) → NodeHasValuesWithin l s → BodyHasValuesWithin l b → IfSome (progress_of s from b) (ProgressHasValuesWithin l)
+  progress_told : (s : NodeState) (from : ℕ) (b : Body) → NodeHasValuesWithin l s → BodyHasValuesWithin l b
+      → IfSome (progress_of s from b) (ProgressHasValuesWithin l)
   progress_told s from (StoreAck a) h told = progress_if (a.to == s.id) (ack_progress from a.tag (storing (fin.get s.sessions a.tag))) (acked from a.tag (storing (fin.get s.sessions a.tag)))
   progress_told s from (CollectReply r) h told =
       progress_if (r.to == s.id) (reply_progress from r.tag (merge s.view r.view) (beta_threshold s) (querying (fin.get s.sessions r.tag)))
@@ -152,7 +162,8 @@ module _ (l : Lengths) where
   bodies_if true bs h = h
   bodies_if false bs h = tt
 
-  answers_told : (s : NodeState) (from : ℕ) (b : Body) → NodeHasValuesWithin l s → BodyHasValuesWithin l b → AllByRecursion (BodyHasValuesWithin l) (answers s from b)
+  answers_told : (s : NodeState) (from : ℕ) (b : Body) → NodeHasValuesWithin l s → BodyHasValuesWithin l b
+      → AllByRecursion (BodyHasValuesWithin l) (answers s from b)
   answers_told s from Enter h told = (h.view, tt)
   answers_told s from (EnterEcho e) h told = bodies_if (joins s from (EnterEcho e)) (Join ∷ []) (tt, tt)
   answers_told s from Join h told = (tt, tt)
@@ -182,7 +193,8 @@ module _ (l : Lengths) where
     ended = ended_after s.sessions (progress_of s from b) h.sessions;
   }
 
-  pub delivery_kept : (s t : NodeState) (m : Message) (d : Delivered) → NodeHasValuesWithin l s → MessageHasValuesWithin l m → delivered s m ≡ Ok (d, t) → NodeHasValuesWithin l t × DeliveryHasValuesWithin l d
+  pub delivery_kept : (s t : NodeState) (m : Message) (d : Delivered) → NodeHasValuesWithin l s → MessageHasValuesWithin l m
+      → delivered s m ≡ Ok (d, t) → NodeHasValuesWithin l t × DeliveryHasValuesWithin l d
   delivery_kept s t m d h told is =
       subst (λ (a : Delivered × NodeState). NodeHasValuesWithin l a.1 × DeliveryHasValuesWithin l a.0)
       (does (hearing s m) _ (d, t) is)
@@ -193,7 +205,8 @@ module _ (l : Lengths) where
   stored_within : (s : NodeState) (value : List ℕ) → NodeHasValuesWithin l s → IsWithin (length value) l → HasValuesWithin l (stored_view s value)
   stored_within s value h new = put_within l s.view s.id (next_stored s value) h.view new
 
-  pub store_kept : (s t : NodeState) (value : List ℕ) (b : Begun) → NodeHasValuesWithin l s → IsWithin (length value) l → store_begun s value ≡ Ok (b, t) → NodeHasValuesWithin l t × BegunHasValuesWithin l b
+  pub store_kept : (s t : NodeState) (value : List ℕ) (b : Begun) → NodeHasValuesWithin l s → IsWithin (length value) l
+      → store_begun s value ≡ Ok (b, t) → NodeHasValuesWithin l t × BegunHasValuesWithin l b
   store_kept s t value b h new is =
       let view = stored_within s value h new in
       let session : SessionHasValuesWithin l (store_session s value) = record { kind = new; view = view } in
@@ -212,7 +225,8 @@ module _ (l : Lengths) where
         record { session = session; outs = outs_of s.id (CollectQuery s.operations ∷ []) (tt, tt) },
       )
 
-  pub leave_kept : (s t : NodeState) (outs : List Message) → NodeHasValuesWithin l s → left s ≡ Ok (outs, t) → NodeHasValuesWithin l t × All (MessageHasValuesWithin l) outs
+  pub leave_kept : (s t : NodeState) (outs : List Message) → NodeHasValuesWithin l s → left s ≡ Ok (outs, t)
+      → NodeHasValuesWithin l t × All (MessageHasValuesWithin l) outs
   leave_kept s t outs h is =
       subst (λ (a : List Message × NodeState). NodeHasValuesWithin l a.1 × All (MessageHasValuesWithin l) a.0)
       (does (leaving s) _ (outs, t) is)

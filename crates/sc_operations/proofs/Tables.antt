@@ -10,8 +10,7 @@ use Rattle.sc_operations.specs.declared.session.Session.{Session}
 use Rattle.sc_operations.specs.declared.progress.Advance.{Advance}
 use Rattle.sc_operations.specs.declared.progress.Advance.TheVariants as advance
 use Rattle.sc_operations.specs.declared.progress.Progress.{Progress}
-use Rattle.sc_operations.specs.Sessions.{advanced_by, ends, ended_at}
-use Rattle.sc_operations.specs.Sessions.{session_moved, sessions_after}
+use Rattle.sc_operations.specs.Sessions.{advanced_by, ends, ended_at, session_moved, sessions_after}
 
 abbrev Table : Type 0
 Table = fin.FinMap nat_cmp Session
@@ -26,11 +25,13 @@ module _ {X : Type 0} where
   written_back es k q v true is at = at ∙ ap (found es) (eqb-true k q (sym (unsigned_tied k q) ∙ is))
 
   -- to write back what was there changes nothing
-  pub unchanged : (es fs : List (ℕ × X)) (k : ℕ) (v : X) → Some v ≡ found es k → ((q : ℕ) → found fs q ≡ cond (is_at (nat_cmp k) q) (Some v) (found es q)) → fin.from_entries {R = nat_cmp} fs ≡ fin.from_entries es
+  pub unchanged : (es fs : List (ℕ × X)) (k : ℕ) (v : X) → Some v ≡ found es k
+      → ((q : ℕ) → found fs q ≡ cond (is_at (nat_cmp k) q) (Some v) (found es q)) → fin.from_entries {R = nat_cmp} fs ≡ fin.from_entries es
   unchanged es fs k v at writes = none_written es fs (λ q. writes q ∙ written_back es k q v (is_at (nat_cmp k) q) refl at)
 
   -- entries that lack one key make the map without it
-  pub one_removed : (es fs : List (ℕ × X)) (k : ℕ) → ((q : ℕ) → found fs q ≡ cond (is_at (nat_cmp k) q) None (found es q)) → fin.from_entries {R = nat_cmp} fs ≡ fin.remove (fin.from_entries es) k
+  pub one_removed : (es fs : List (ℕ × X)) (k : ℕ) → ((q : ℕ) → found fs q ≡ cond (is_at (nat_cmp k) q) None (found es q))
+      → fin.from_entries {R = nat_cmp} fs ≡ fin.remove (fin.from_entries es) k
   one_removed es fs k h = fin.same_map nat_cmp_total fin.nat_cmp-IsAntisymmetric _ _ (λ q.
       get_found fs q ∙ h q ∙ ap (λ b. cond b None (found es q)) ((eq_by_cmp_equiv nat_cmp_total).symm k q)
       ∙ sym (fin.get-remove nat_cmp_total (fin.from_entries es) k q ∙ ap (cond (is_at (nat_cmp q) k) None) (get_found es q)))
@@ -57,7 +58,8 @@ module _ (es : List (ℕ × Session)) (old : Table) (is : fin.from_entries es �
         ∙ sym (ap (session_moved old (progress tag sender a)) (at (Some s) here)
         ∙ ap (λ b. cond b (fin.remove old tag) (fin.insert old tag (advanced_by sender a s))) goes_on)
 
-    pub one_ended : ((q : ℕ) → found fs q ≡ cond (is_at (nat_cmp tag) q) None (found es q)) → fin.from_entries fs ≡ sessions_after old (Some (progress tag sender advance.Ended))
+    pub one_ended : ((q : ℕ) → found fs q ≡ cond (is_at (nat_cmp tag) q) None (found es q))
+        → fin.from_entries fs ≡ sessions_after old (Some (progress tag sender advance.Ended))
     one_ended writes =
         one_removed es fs tag writes ∙ ap (λ (m : Table). fin.remove m tag) is
         ∙ sym (ap (session_moved old (progress tag sender advance.Ended)) (at (Some s) here))

@@ -77,7 +77,8 @@ put_over id x (e ∷ es) fs o =
       | Greater ↦ ap (λ r. e ∷ r) (put_over id x es fs o)
     ]
 
-pub put_within : (id : ℕ) (x : Stored) (es fs gs : List (ℕ × Stored)) → Under id es → Over id gs → put nat_cmp id x (es ++ (fs ++ gs)) ≡ es ++ (put nat_cmp id x fs ++ gs)
+pub put_within : (id : ℕ) (x : Stored) (es fs gs : List (ℕ × Stored)) → Under id es → Over id gs
+    → put nat_cmp id x (es ++ (fs ++ gs)) ≡ es ++ (put nat_cmp id x fs ++ gs)
 put_within id x es fs gs u o = put_under id x es (fs ++ gs) u ∙ ap (λ r. es ++ r) (put_over id x fs gs o)
 
 find_under : (id : ℕ) (es fs : List (ℕ × Stored)) → Under id es → find nat_cmp id (es ++ fs) ≡ find nat_cmp id fs

@@ -34,14 +34,16 @@ unpacked x y is = ap (stored_or x) is
 no_entry : (x : Stored) → None ≡ Some x → ⊥
 no_entry x is = true≢false (sym (ap (λ (o : Option Stored). is_some o) is))
 
-found_within : (l : Lengths) (es : List (ℕ × Stored)) (id : ℕ) (x : Stored) → AllByRecursion (Within l) es → find nat_cmp id es ≡ Some x → IsWithin (length x.value) l
+found_within : (l : Lengths) (es : List (ℕ × Stored)) (id : ℕ) (x : Stored) → AllByRecursion (Within l) es → find nat_cmp id es ≡ Some x
+    → IsWithin (length x.value) l
 found_within l [] id x all is = absurd (no_entry x is)
 found_within l (e ∷ es) id x all is =
     value_of (is_eq (nat_cmp id e.0)) e.1 x (find nat_cmp id es) is
     (λ here. subst (λ (y : Stored). IsWithin (length y.value) l) (unpacked e.1 x here) all.0)
     (λ there. found_within l es id x all.1 there)
 
-each_of : (P : ℕ × Stored → Type 0) (all es : List (ℕ × Stored)) → Rises es → Tells es es all → ((q : ℕ) (x : Stored) → find nat_cmp q all ≡ Some x → P (q, x)) → AllByRecursion P es
+each_of : (P : ℕ × Stored → Type 0) (all es : List (ℕ × Stored)) → Rises es → Tells es es all
+    → ((q : ℕ) (x : Stored) → find nat_cmp q all ≡ Some x → P (q, x)) → AllByRecursion P es
 each_of P all [] r t of = tt
 each_of P all (e ∷ es) r t of = (of e.0 e.1 (sym (t e.0 (omega arith)) ∙ find_here e.0 e es refl), each_of P all es r.1 (from_tail e es all r t) of)
 
@@ -105,12 +107,14 @@ all_parts : (P : ℕ × Stored → Type 0) (cs : List (List (ℕ × Stored))) �
 all_parts P [] h = tt
 all_parts P (c ∷ cs) h = (All-from_recursion P c (all_first P c (joined cs) h), all_parts P cs (all_second P c (joined cs) h))
 
-pub chunks_within : (l : Lengths) (cs : List (List (ℕ × Stored))) (v : ViewMap) → Rises (joined cs) → fin.from_entries (joined cs) ≡ v → HasValuesWithin l v → All (λ c. All (λ e. IsWithin (length e.1.value) l) c) cs
+pub chunks_within : (l : Lengths) (cs : List (List (ℕ × Stored))) (v : ViewMap) → Rises (joined cs) → fin.from_entries (joined cs) ≡ v
+    → HasValuesWithin l v → All (λ c. All (λ e. IsWithin (length e.1.value) l) c) cs
 chunks_within l cs v r is h =
     All-from_recursion (λ c. All (Within l) c) cs
     (all_parts (Within l) cs (subst (AllByRecursion (Within l)) (ap (λ (m : ViewMap). fin.entries m) (sym is) ∙ entries_rising (joined cs) r) (entries_within l v h)))
 
-pub within_by_chunks : (l : Lengths) (cs : List (List (ℕ × Stored))) (v : ViewMap) → Rises (joined cs) → fin.from_entries (joined cs) ≡ v → All (λ c. All (λ e. IsWithin (length e.1.value) l) c) cs → HasValuesWithin l v
+pub within_by_chunks : (l : Lengths) (cs : List (List (ℕ × Stored))) (v : ViewMap) → Rises (joined cs) → fin.from_entries (joined cs) ≡ v
+    → All (λ c. All (λ e. IsWithin (length e.1.value) l) c) cs → HasValuesWithin l v
 within_by_chunks l cs v r is all =
     within_by_entries l v
     (subst (AllByRecursion (Within l)) (sym (entries_rising (joined cs) r) ∙ ap (λ (m : ViewMap). fin.entries m) is) (all_joined (Within l) cs (recursion_from_All (λ c. All (Within l) c) cs all)))
@@ -120,14 +124,13 @@ within_by_chunks l cs v r is all =
 pub empty_within : (l : Lengths) → HasValuesWithin l fin.empty
 empty_within l = record { at = λ id x has. absurd (no_entry x (sym (fin.get-empty nat_cmp id) ∙ has)) }
 
-newer_within : (l : Lengths) (o : Option Stored) (e : Stored) → ((d : Stored) → o ≡ Some d → IsWithin (length d.value) l) → IsWithin (length e.value) l → IsWithin (length (newer o e).value) l
+newer_within : (l : Lengths) (o : Option Stored) (e : Stored) → ((d : Stored) → o ≡ Some d → IsWithin (length d.value) l)
+    → IsWithin (length e.value) l → IsWithin (length (newer o e).value) l
 newer_within l None e old new = new
 newer_within l (Some d) e old new = elim (nat_lt d.number e.number) as (λ b. IsWithin (length (cond b e d).value) l) [ true ↦ new | false ↦ old d refl ]
 
 pub put_within : (l : Lengths) (v : ViewMap) (id : ℕ) (e : Stored) → HasValuesWithin l v → IsWithin (length e.value) l → HasValuesWithin l (put v id e)
-put_within l v id e h new = record {
-  at = λ q x has. at_either (q == id) q x (sym (get-put v id e q) ∙ has);
-}
+put_within l v id e h new = record { at = λ q x has. at_either (q == id) q x (sym (get-put v id e q) ∙ has) }
   where
     at_either : (b : Bool) (q : ℕ) (x : Stored) → cond b (Some (newer (fin.get v id) e)) (fin.get v q) ≡ Some x → IsWithin (length x.value) l
     at_either true q x is = subst (λ (y : Stored). IsWithin (length y.value) l) (unpacked (newer (fin.get v id) e) x is) (newer_within l (fin.get v id) e (h.at id) new)

@@ -1,12 +1,10 @@
 -- Rising entries, seen as a finite map.
-use Rattle.std.proofs.Common.{◌≡◌, ℕ, suc, ◌+◌, ◌≤◌, ◌<◌, Bool, true, false, not, cond, nat_lt, List, [], ◌∷◌, map, length, Option, Some, None, is_some, refl, sym, ap, subst, ◌∙◌, arith, true≢false}
-use Rattle.std.proofs.Common.{length-append, zero}
+use Rattle.std.proofs.Common.{◌≡◌, ℕ, suc, ◌+◌, ◌≤◌, ◌<◌, Bool, true, false, not, cond, nat_lt, List, [], ◌∷◌, map, length, Option, Some, None, is_some, refl, sym, ap, subst, ◌∙◌, arith, true≢false, length-append, zero}
 use mir.Val.{bool_byte}
 use Rattle.std.proofs.lemmas.Bool.{ltb-true}
-use Rattle.std.specs.List.{slice_get}
+use Rattle.std.specs.List.{slice_get, filter}
 use Rattle.std.specs.Ordering.{nat_cmp, is_eq}
 use Rattle.std.specs.Cmp.{nat_cmp_total}
-use Rattle.std.specs.List.{filter}
 use Rattle.std.specs.Option.{option_map}
 use Rattle.std.specs.FinMap as fin
 use Rattle.std.specs.FinMap.Entries as list
@@ -35,10 +33,12 @@ from_put id x es = fin.same_map nat_cmp_total fin.nat_cmp-IsAntisymmetric _ _ (�
     get_rising (list.put nat_cmp id x es) q ∙ find-put nat_cmp nat_cmp_total q id x es
     ∙ sym (fin.get-insert nat_cmp_total (fin.from_entries es) id x q ∙ ap (cond (is_eq (nat_cmp q id)) (Some x)) (get_rising es q)))
 
-pub learned_in : (id : ℕ) (x : Stored) (es : List (ℕ × Stored)) → is_newer (fin.get (fin.from_entries {R = nat_cmp} es) id) x ≡ true → fin.from_entries (list.put nat_cmp id x es) ≡ put (fin.from_entries es) id x
+pub learned_in : (id : ℕ) (x : Stored) (es : List (ℕ × Stored)) → is_newer (fin.get (fin.from_entries {R = nat_cmp} es) id) x ≡ true
+    → fin.from_entries (list.put nat_cmp id x es) ≡ put (fin.from_entries es) id x
 learned_in id x es is = from_put id x es ∙ ap (fin.insert (fin.from_entries es) id) (sym (news (fin.get (fin.from_entries es) id) x is))
 
-pub put_length : (id : ℕ) (x : Stored) (es : List (ℕ × Stored)) → Rises es → is_newer (fin.get (fin.from_entries {R = nat_cmp} es) id) x ≡ true → length (list.put nat_cmp id x es) ≡ fin.len (put (fin.from_entries es) id x)
+pub put_length : (id : ℕ) (x : Stored) (es : List (ℕ × Stored)) → Rises es → is_newer (fin.get (fin.from_entries {R = nat_cmp} es) id) x ≡ true
+    → length (list.put nat_cmp id x es) ≡ fin.len (put (fin.from_entries es) id x)
 put_length id x es r is = sym (len_rising (list.put nat_cmp id x es) (rises_put id x es r)) ∙ ap fin.len (learned_in id x es is)
 
 -- ---- what is still to come of the entries of a row
@@ -79,7 +79,8 @@ lacking_is known (e ∷ es) =
     ap (λ (o : Option Stored). cond (is_some o) (count_lacking known es) (suc (count_lacking known es))) (sym (get_rising known e.0))
     ∙ lacking_by (is_some (fin.get (fin.from_entries known) e.0)) e.0 (filter (lacks (fin.from_entries {R = nat_cmp} known)) (map (λ e. e.0) es)) (count_lacking known es) (lacking_is known es)
 
-pub lacking_new : (known es : List (ℕ × Stored)) → Rises es → count_lacking known es ≡ length (filter (lacks (fin.from_entries {R = nat_cmp} known)) (fin.keys (fin.from_entries {R = nat_cmp} es)))
+pub lacking_new : (known es : List (ℕ × Stored)) → Rises es
+    → count_lacking known es ≡ length (filter (lacks (fin.from_entries {R = nat_cmp} known)) (fin.keys (fin.from_entries {R = nat_cmp} es)))
 lacking_new known es r = lacking_is known es ∙ ap (λ (fs : List (ℕ × Stored)). length (filter (lacks (fin.from_entries {R = nat_cmp} known)) (map (λ e. e.0) fs))) (sym (entries_rising es r))
 
 lacking_more : (b : Bool) (n m : ℕ) → n ≤ m → cond b n (suc n) ≤ suc m
@@ -150,7 +151,8 @@ theirs_next e now next is r = (subst Rises is r).1
 rest_next : (id : ℕ) (now next : List (ℕ × Stored)) → next ≡ from id now → Rises now → Rises next
 rest_next id now next is r = subst Rises (sym is) (rises_onward id now r)
 
-tells_next : (e : ℕ × Stored) (now next rest left known : List (ℕ × Stored)) → now ≡ e ∷ next → left ≡ from e.0 rest → Rises now → Tells now rest known → Tells next left known
+tells_next : (e : ℕ × Stored) (now next rest left known : List (ℕ × Stored)) → now ≡ e ∷ next → left ≡ from e.0 rest → Rises now
+    → Tells now rest known → Tells next left known
 tells_next e now next rest left known is sought r t =
     subst (λ (x : List (ℕ × Stored)). Tells next x known) (sym sought) (tells_from e next rest known (subst Rises is r) (subst (λ (x : List (ℕ × Stored)). Tells x rest known) is t))
 
@@ -160,7 +162,8 @@ pub record AreBeside (es fs known : List (ℕ × Stored)) : Type 0 where
   pub rest : Rises fs
   pub tells : Tells es fs known
 
-pub beside_next : (e : ℕ × Stored) (now next rest left known : List (ℕ × Stored)) → now ≡ e ∷ next → left ≡ from e.0 rest → AreBeside now rest known → AreBeside next left known
+pub beside_next : (e : ℕ × Stored) (now next rest left known : List (ℕ × Stored)) → now ≡ e ∷ next → left ≡ from e.0 rest → AreBeside now rest known
+    → AreBeside next left known
 beside_next e now next rest left known is sought b =
     record { theirs = theirs_next e now next is b.theirs; rest = rest_next e.0 rest left sought b.rest; tells = tells_next e now next rest left known is sought b.theirs b.tells }
 
@@ -198,7 +201,8 @@ pub newer_next : (b : Bool) (e : ℕ × Stored) (now next rest row known : List 
 newer_next b e now next rest row known r is t s found larger =
     newer_here e next rest row known r (subst (λ (x : List (ℕ × Stored)). Tells x rest known) is t) (subst (λ (x : List (ℕ × Stored)). Tells x row known) is s) found ∙ larger
 
-pub same_next : (e : ℕ × Stored) (now next row made known : List (ℕ × Stored)) → now ≡ e ∷ next → made ≡ list.put nat_cmp e.0 e.1 row → Rises now → Tells now row known → Tells next made known
+pub same_next : (e : ℕ × Stored) (now next row made known : List (ℕ × Stored)) → now ≡ e ∷ next → made ≡ list.put nat_cmp e.0 e.1 row → Rises now
+    → Tells now row known → Tells next made known
 same_next e now next row made known is wrote r s =
     subst (λ (x : List (ℕ × Stored)). Tells next x known) (sym wrote) (tells_put e next row known (subst Rises is r) (subst (λ (x : List (ℕ × Stored)). Tells x row known) is s))
 
@@ -227,7 +231,8 @@ pub left_none : (now row : List (ℕ × Stored)) (all : ViewMap) → now ≡ [] 
 left_none now row all is sum = sym (ap (put_all (fin.from_entries row)) is) ∙ sum
 
 -- the ids of two rows together
-pub merged_count : (es fs : List (ℕ × Stored)) (v w : ViewMap) (n m : ℕ) → fin.from_entries es ≡ v → fin.from_entries fs ≡ w → Rises es → Rises fs → n ≡ length es → m ≡ count_lacking es fs → n + m ≡ fin.len (merge v w)
+pub merged_count : (es fs : List (ℕ × Stored)) (v w : ViewMap) (n m : ℕ) → fin.from_entries es ≡ v → fin.from_entries fs ≡ w → Rises es → Rises fs
+    → n ≡ length es → m ≡ count_lacking es fs → n + m ≡ fin.len (merge v w)
 merged_count es fs v w n m is others r s count new =
     let here : fin.len (fin.from_entries es) ≡ length es = len_rising es r in
     let lacking : m ≡ length (filter (lacks (fin.from_entries {R = nat_cmp} es)) (fin.keys (fin.from_entries {R = nat_cmp} fs))) = new ∙ lacking_new es fs s in
@@ -248,7 +253,8 @@ put_none known (e ∷ es) h =
     ∙ put_none known es none.1
 
 -- a merge of what is known changes nothing
-pub merge_none : (es fs : List (ℕ × Stored)) (v w : ViewMap) (n : ℕ) → fin.from_entries es ≡ v → fin.from_entries fs ≡ w → Rises fs → n ≡ count_newer es fs → n ≡ 0 → merge v w ≡ v
+pub merge_none : (es fs : List (ℕ × Stored)) (v w : ViewMap) (n : ℕ) → fin.from_entries es ≡ v → fin.from_entries fs ≡ w → Rises fs
+    → n ≡ count_newer es fs → n ≡ 0 → merge v w ≡ v
 merge_none es fs v w n is others r count none =
     sym (λ i. merge (is i) (others i)) ∙ sym (put_all_rising (fin.from_entries es) fs r) ∙ put_none es fs (sym count ∙ none) ∙ is
 
@@ -276,7 +282,8 @@ none_newer known all (e ∷ es) r t less counted =
     let old : is_newer (find nat_cmp e.0 known) e.1 ≡ false = no_newer (find nat_cmp e.0 known) e.1 (counted e.0 e.1 here) (subst (λ (o : Option Stored). number_of o ≤ number_of (find nat_cmp e.0 known)) here (less e.0)) in
     none_by (is_newer (find nat_cmp e.0 known) e.1) (count_newer known es) old (none_newer known all es r.1 (from_tail e es all r t) less counted)
 
-pub below_none : (es fs : List (ℕ × Stored)) (v w : ViewMap) (n : ℕ) → fin.from_entries es ≡ v → fin.from_entries fs ≡ w → Rises fs → IsView (fin.from_entries fs) → n ≡ count_newer es fs → IsBelow w v → n ≡ 0
+pub below_none : (es fs : List (ℕ × Stored)) (v w : ViewMap) (n : ℕ) → fin.from_entries es ≡ v → fin.from_entries fs ≡ w → Rises fs
+    → IsView (fin.from_entries fs) → n ≡ count_newer es fs → IsBelow w v → n ≡ 0
 below_none es fs v w n is others r valid count below =
     let under : IsBelow (fin.from_entries fs) (fin.from_entries es) = subst (λ (u : ViewMap). IsBelow (fin.from_entries fs) u) (sym is) (subst (λ (u : ViewMap). IsBelow u v) (sym others) below) in
     count ∙ none_newer es fs fs r (tells_all fs fs)
@@ -297,7 +304,8 @@ small_chunks (c ∷ d ∷ cs) row some = small_if_several (c ∷ d ∷ cs) row.m
 length_of : (cs : List (List (ℕ × Stored))) (v : ViewMap) → IsRow cs → fin.from_entries (joined cs) ≡ v → fin.len v ≡ length (joined cs)
 length_of cs v row is = sym (ap (λ (m : ViewMap). fin.len m) is) ∙ len_rising (joined cs) row.rises
 
-pub chunking : (cs : List (List (ℕ × Stored))) (v : ViewMap) → IsRow cs → fin.from_entries (joined cs) ≡ v → 1 ≤ length (joined cs) → length (joined cs) ≤ 256 → IsChunking v cs
+pub chunking : (cs : List (List (ℕ × Stored))) (v : ViewMap) → IsRow cs → fin.from_entries (joined cs) ≡ v → 1 ≤ length (joined cs)
+    → length (joined cs) ≤ 256 → IsChunking v cs
 chunking cs v row is some few = record {
   all = sym (entries_rising (joined cs) row.rises) ∙ ap (λ (m : ViewMap). fin.entries m) is;
   few = row_short cs row few;

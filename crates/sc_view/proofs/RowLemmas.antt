@@ -1,8 +1,7 @@
 -- Rows of chunks.
 use Rattle.std.proofs.Common.{◌≡◌, ℕ, zero, suc, ◌+◌, ◌*◌, ◌≤◌, ◌<◌, Bool, true, false, List, [], ◌∷◌, ◌++◌, length, map, take, drop, get_or, set, refl, sym, ap, subst, ◌∙◌, arith, append_assoc, length-append, true≢false, nat_lt}
 use Rattle.std.proofs.lemmas.Bool.{ltb-true, ltb-false}
-use Rattle.std.proofs.lemmas.List.{drop_more, take-append-drop, drop_all, set_split, take_more_set, drop-set-lt}
-use Rattle.std.proofs.lemmas.List.{length-set, length-drop, length-take-le}
+use Rattle.std.proofs.lemmas.List.{drop_more, take-append-drop, drop_all, set_split, take_more_set, drop-set-lt, length-set, length-drop, length-take-le}
 use Rattle.std.proofs.lemmas.List.Edits.{length-insert}
 use Rattle.std.specs.List.{insert}
 use Rattle.std.specs.Ordering.{nat_cmp}
@@ -20,7 +19,8 @@ flat-append (c ∷ cs) ds = ap (λ r. c ++ r) (flat-append cs ds) ∙ sym (appen
 pub parts : (cs : List (List (ℕ × Stored))) (k : ℕ) (d : List (ℕ × Stored)) → k < length cs → cs ≡ take k cs ++ get_or cs k d ∷ drop (k + 1) cs
 parts cs k d h = sym (take-append-drop k cs) ∙ ap (λ r. take k cs ++ r) (drop_more cs k d h)
 
-pub flat_parts : (cs : List (List (ℕ × Stored))) (k : ℕ) (d : List (ℕ × Stored)) → k < length cs → joined cs ≡ joined (take k cs) ++ (get_or cs k d ++ joined (drop (k + 1) cs))
+pub flat_parts : (cs : List (List (ℕ × Stored))) (k : ℕ) (d : List (ℕ × Stored)) → k < length cs
+    → joined cs ≡ joined (take k cs) ++ (get_or cs k d ++ joined (drop (k + 1) cs))
 flat_parts cs k d h = ap joined (parts cs k d h) ∙ flat-append (take k cs) (get_or cs k d ∷ drop (k + 1) cs)
 
 -- ---- the place of an id
@@ -30,7 +30,8 @@ not_yet_by id [] pre post h above r = absurd (omega (arith, h))
 not_yet_by id (e ∷ c) pre post h above r = under_before id pre e (c ++ post) r (ltb-false id e.0 above)
 
 -- a chunk that doesn't start above has only smaller ids before it
-pub not_yet : (id : ℕ) (cs : List (List (ℕ × Stored))) (k : ℕ) (d : List (ℕ × Stored)) → IsRow cs → 1 ≤ k → k < length cs → starts_above id (get_or cs k d) ≡ false → Under id (joined (take k cs))
+pub not_yet : (id : ℕ) (cs : List (List (ℕ × Stored))) (k : ℕ) (d : List (ℕ × Stored)) → IsRow cs → 1 ≤ k → k < length cs
+    → starts_above id (get_or cs k d) ≡ false → Under id (joined (take k cs))
 not_yet id cs k d row h l above =
     let large : 16 ≤ length (get_or cs k d) = all_at (λ c. 16 ≤ length c) cs k d (row.least (omega (arith, h, l))) l in
     not_yet_by id (get_or cs k d) (joined (take k cs)) (joined (drop (k + 1) cs)) (omega (arith, large)) above (subst Rises (flat_parts cs k d l) row.rises)
@@ -39,7 +40,8 @@ past_by : (id : ℕ) (c post : List (ℕ × Stored)) → starts_above id c ≡ t
 past_by id [] post above r = absurd (true≢false (sym above))
 past_by id (e ∷ c) post above r = over_from id e (c ++ post) r (ltb-true id e.0 above)
 
-pub past : (id : ℕ) (cs : List (List (ℕ × Stored))) (k : ℕ) (d : List (ℕ × Stored)) → IsRow cs → k < length cs → starts_above id (get_or cs k d) ≡ true → Over id (joined (drop k cs))
+pub past : (id : ℕ) (cs : List (List (ℕ × Stored))) (k : ℕ) (d : List (ℕ × Stored)) → IsRow cs → k < length cs
+    → starts_above id (get_or cs k d) ≡ true → Over id (joined (drop k cs))
 past id cs k d row l above =
     let here : joined (drop k cs) ≡ get_or cs k d ++ joined (drop (k + 1) cs) = ap joined (drop_more cs k d l) in
     subst (Over id) (sym here) (past_by id (get_or cs k d) (joined (drop (k + 1) cs)) above (rises_right (joined (take k cs)) (get_or cs k d ++ joined (drop (k + 1) cs)) (subst Rises (flat_parts cs k d l) row.rises)))
@@ -50,7 +52,8 @@ over_end id cs n h = subst (λ r. Over id (joined r)) (sym (drop_all n cs h)) tt
 -- ---- one chunk for another
 
 -- the others are large, even where there are none
-others_large : (pre : List (List (ℕ × Stored))) (c : List (ℕ × Stored)) (post : List (List (ℕ × Stored))) → (1 < length (pre ++ c ∷ post) → HasAtLeast 16 (pre ++ c ∷ post)) → HasAtLeast 16 pre × HasAtLeast 16 post
+others_large : (pre : List (List (ℕ × Stored))) (c : List (ℕ × Stored)) (post : List (List (ℕ × Stored)))
+    → (1 < length (pre ++ c ∷ post) → HasAtLeast 16 (pre ++ c ∷ post)) → HasAtLeast 16 pre × HasAtLeast 16 post
 others_large [] c [] h = (tt, tt)
 others_large [] c (d ∷ post) h = (tt, (h (omega arith)).1)
 others_large (p ∷ pre) c post h =
@@ -59,15 +62,18 @@ others_large (p ∷ pre) c post h =
 
 -- ---- how many entries, and in chunks of which sizes
 
-flat_length : (pre : List (List (ℕ × Stored))) (c : List (ℕ × Stored)) (post : List (List (ℕ × Stored))) → length (joined (pre ++ c ∷ post)) ≡ length (joined pre) + (length c + length (joined post))
+flat_length : (pre : List (List (ℕ × Stored))) (c : List (ℕ × Stored)) (post : List (List (ℕ × Stored)))
+    → length (joined (pre ++ c ∷ post)) ≡ length (joined pre) + (length c + length (joined post))
 flat_length pre c post = ap length (flat-append pre (c ∷ post)) ∙ length-append (joined pre) (c ++ joined post) ∙ ap (λ n. length (joined pre) + n) (length-append c (joined post))
 
-lone : (pre : List (List (ℕ × Stored))) (c : List (ℕ × Stored)) (post : List (List (ℕ × Stored))) → length (pre ++ c ∷ post) ≡ 1 → (length (joined pre) ≡ 0) × (length (joined post) ≡ 0)
+lone : (pre : List (List (ℕ × Stored))) (c : List (ℕ × Stored)) (post : List (List (ℕ × Stored))) → length (pre ++ c ∷ post) ≡ 1
+    → (length (joined pre) ≡ 0) × (length (joined post) ≡ 0)
 lone [] c [] h = (refl, refl)
 lone [] c (d ∷ post) h = absurd (omega (arith, h))
 lone (p ∷ pre) c post h = absurd (omega (arith, h, length-append pre (c ∷ post)))
 
-same_sizes : (pre : List (List (ℕ × Stored))) (c d : List (ℕ × Stored)) (post : List (List (ℕ × Stored))) → length c ≡ length d → map (λ c. length c) (pre ++ c ∷ post) ≡ map (λ c. length c) (pre ++ d ∷ post)
+same_sizes : (pre : List (List (ℕ × Stored))) (c d : List (ℕ × Stored)) (post : List (List (ℕ × Stored))) → length c ≡ length d
+    → map (λ c. length c) (pre ++ c ∷ post) ≡ map (λ c. length c) (pre ++ d ∷ post)
 same_sizes [] c d post h = ap (λ n. n ∷ map (λ c. length c) post) h
 same_sizes (p ∷ pre) c d post h = ap (λ ns. length p ∷ ns) (same_sizes pre c d post h)
 
@@ -165,7 +171,8 @@ put_whole id x cs k c all row l u o read is fits =
     subst (λ old. IsPut id x old (set cs k all)) (sym here)
     (subst (λ new. IsPut id x (take k cs ++ c ∷ drop (k + 1) cs) new) (ap (λ r. take k cs ++ r ∷ drop (k + 1) cs) (sym is) ∙ sym (set_parts cs k all l)) made)
 
-inserted : (cs : List (List (ℕ × Stored))) (k : ℕ) (f b : List (ℕ × Stored)) → k < length cs → insert (set cs k f) (k + 1) b ≡ take k cs ++ f ∷ b ∷ drop (k + 1) cs
+inserted : (cs : List (List (ℕ × Stored))) (k : ℕ) (f b : List (ℕ × Stored)) → k < length cs
+    → insert (set cs k f) (k + 1) b ≡ take k cs ++ f ∷ b ∷ drop (k + 1) cs
 inserted cs k f b h =
     ap (λ r. r ++ b ∷ drop (k + 1) (set cs k f)) (take_more_set cs k f h)
     ∙ append_assoc (take k cs) (f ∷ []) (b ∷ drop (k + 1) (set cs k f))
@@ -184,7 +191,8 @@ long_by : (cs : List (List (ℕ × Stored))) → HasAtLeast 16 cs → 16 * lengt
 long_by [] h = omega arith
 long_by (c ∷ cs) h = omega (arith, h.0, long_by cs h.1, length-append c (joined cs))
 
-short_by : (b : Bool) (cs : List (List (ℕ × Stored))) → (1 < length cs → HasAtLeast 16 cs) → nat_lt 1 (length cs) ≡ b → length (joined cs) ≤ 256 → length cs ≤ 16
+short_by : (b : Bool) (cs : List (List (ℕ × Stored))) → (1 < length cs → HasAtLeast 16 cs) → nat_lt 1 (length cs) ≡ b → length (joined cs) ≤ 256
+    → length cs ≤ 16
 short_by true cs h is few = omega (arith, long_by cs (h (ltb-true 1 (length cs) is)), few)
 short_by false cs h is few = omega (arith, ltb-false 1 (length cs) is)
 
@@ -193,7 +201,8 @@ pub row_short : (cs : List (List (ℕ × Stored))) → IsRow cs → length (join
 row_short cs row few = short_by (nat_lt 1 (length cs)) cs row.least refl few
 
 -- room for one more chunk
-pub room_for : (id : ℕ) (x : Stored) (cs : List (List (ℕ × Stored))) (k : ℕ) (f b : List (ℕ × Stored)) → k < length cs → IsPut id x cs (insert (set cs k f) (k + 1) b) → length (put nat_cmp id x (joined cs)) ≤ 256 → length cs < 16
+pub room_for : (id : ℕ) (x : Stored) (cs : List (List (ℕ × Stored))) (k : ℕ) (f b : List (ℕ × Stored)) → k < length cs
+    → IsPut id x cs (insert (set cs k f) (k + 1) b) → length (put nat_cmp id x (joined cs)) ≤ 256 → length cs < 16
 room_for id x cs k f b l made few =
     let short : length (insert (set cs k f) (k + 1) b) ≤ 16 = row_short (insert (set cs k f) (k + 1) b) made.row (subst (λ es. length es ≤ 256) (sym made.entries) few) in
     omega (arith, short, length-insert (set cs k f) (k + 1) b (omega (arith, length-set cs k f, l)), length-set cs k f)
@@ -204,7 +213,8 @@ get_same (c ∷ cs) zero d e h = refl
 get_same (c ∷ cs) (suc k) d e h = get_same cs k d e (omega (arith, h))
 
 -- a put in place
-pub put_learnt : (id : ℕ) (x : Stored) (cs ds new : List (List (ℕ × Stored))) (k : ℕ) → ds ≡ cs → IsRow cs → k < length ds → Under id (joined (take k ds)) → Over id (joined (drop (k + 1) ds)) → LearnsAt k id x cs new true → IsPut id x cs new
+pub put_learnt : (id : ℕ) (x : Stored) (cs ds new : List (List (ℕ × Stored))) (k : ℕ) → ds ≡ cs → IsRow cs → k < length ds
+    → Under id (joined (take k ds)) → Over id (joined (drop (k + 1) ds)) → LearnsAt k id x cs new true → IsPut id x cs new
 put_learnt id x cs ds new k same row l u o learnt =
     let here : k < length cs = subst (λ r. k < length r) same l in
     let made : IsPut id x cs (set cs k (put nat_cmp id x (get_or cs k []))) =
@@ -236,6 +246,7 @@ rises_in cs ds k c same r l read =
     let all : Rises (joined (take k ds) ++ (get_or ds k c ++ joined (drop (k + 1) ds))) = subst Rises (flat_parts ds k c l) (subst (λ (x : List (List (ℕ × Stored))). Rises (joined x)) (sym same) r) in
     subst Rises (sym read) (rises_left (get_or ds k c) (joined (drop (k + 1) ds)) (rises_right (joined (take k ds)) (get_or ds k c ++ joined (drop (k + 1) ds)) all))
 
-pub find_in : (id : ℕ) (cs ds : List (List (ℕ × Stored))) (k : ℕ) (c : List (ℕ × Stored)) → ds ≡ cs → k < length ds → Under id (joined (take k ds)) → Over id (joined (drop (k + 1) ds)) → c ≡ get_or ds k c → find nat_cmp id c ≡ find nat_cmp id (joined cs)
+pub find_in : (id : ℕ) (cs ds : List (List (ℕ × Stored))) (k : ℕ) (c : List (ℕ × Stored)) → ds ≡ cs → k < length ds → Under id (joined (take k ds))
+    → Over id (joined (drop (k + 1) ds)) → c ≡ get_or ds k c → find nat_cmp id c ≡ find nat_cmp id (joined cs)
 find_in id cs ds k c same l u o read =
     ap (find nat_cmp id) read ∙ sym (find_within id (joined (take k ds)) (get_or ds k c) (joined (drop (k + 1) ds)) u o) ∙ sym (ap (find nat_cmp id) (flat_parts ds k c l)) ∙ ap (λ (x : List (List (ℕ × Stored))). find nat_cmp id (joined x)) same

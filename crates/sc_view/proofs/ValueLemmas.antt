@@ -5,10 +5,7 @@ use Rattle.std.proofs.lemmas.List.{drop-replicate}
 use Rattle.sc_view.specs.Padded.{padded, IsPadded}
 
 front_padded : (v rest : List ℕ) → length v ≤ 112 → rest ≡ replicate (112 - length v) 0 → IsPadded (length v) (v ++ rest)
-front_padded v rest few is = record {
-  few = few;
-  zeros = ap (λ (x : List ℕ). v ++ x) is ∙ ap padded (sym (take-append_seam v rest));
-}
+front_padded v rest few is = record { few = few; zeros = ap (λ (x : List ℕ). v ++ x) is ∙ ap padded (sym (take-append_seam v rest)) }
 
 pub padded_copy : (v copy : List ℕ) → copy ≡ v → length v ≤ 112 → IsPadded (length v) (copy ++ drop (length v) (replicate 112 0))
 padded_copy v copy is few =

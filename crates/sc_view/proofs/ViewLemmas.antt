@@ -87,7 +87,8 @@ pub not_learned : (v : ViewMap) (id : ℕ) (e : Stored) → is_newer (fin.get v 
 not_learned v id e is = sym (same_view (put v id e) v (λ q. get-put v id e q ∙ kept (q == id) v q id (Some (newer (fin.get v id) e)) refl (no_news (fin.get v id) e is)))
 
 -- a value that is news is written
-pub learned : (es fs : List (ℕ × Stored)) (id : ℕ) (e : Stored) → is_newer (fin.get (fin.from_entries {R = nat_cmp} es) id) e ≡ true → ((q : ℕ) → found fs q ≡ cond (is_at (nat_cmp id) q) (Some e) (found es q)) → fin.from_entries fs ≡ put (fin.from_entries es) id e
+pub learned : (es fs : List (ℕ × Stored)) (id : ℕ) (e : Stored) → is_newer (fin.get (fin.from_entries {R = nat_cmp} es) id) e ≡ true
+    → ((q : ℕ) → found fs q ≡ cond (is_at (nat_cmp id) q) (Some e) (found es q)) → fin.from_entries fs ≡ put (fin.from_entries es) id e
 learned es fs id e is h = one_written es fs id e h ∙ ap (fin.insert (fin.from_entries es) id) (sym (news (fin.get (fin.from_entries es) id) e is))
 
 -- ---- two views as one
@@ -100,7 +101,8 @@ step_merged : (v : Option Stored) (b : Bool) (e : Stored) (rest : Option Stored)
 step_merged v true e rest = refl
 step_merged v false e rest = refl
 
-at_tied : (v : ViewMap) (q k : ℕ) (e : Stored) (b : Bool) (x : Option Stored) → (q == k) ≡ b → cond b (Some (newer (fin.get v k) e)) x ≡ cond b (Some (newer (fin.get v q) e)) x
+at_tied : (v : ViewMap) (q k : ℕ) (e : Stored) (b : Bool) (x : Option Stored) → (q == k) ≡ b
+    → cond b (Some (newer (fin.get v k) e)) x ≡ cond b (Some (newer (fin.get v q) e)) x
 at_tied v q k e true x is = ap (λ n. Some (newer (fin.get v n) e)) (sym (eqb-true q k is))
 at_tied v q k e false x is = refl
 
@@ -118,7 +120,8 @@ find-merge v (e ∷ es) q =
     ∙ step_merged (fin.get v q) (q == e.0) e.1 (find nat_cmp q es)
     ∙ ap (λ b. merged (fin.get v q) (cond b (Some e.1) (find nat_cmp q es))) (sym (unsigned_tied q e.0))
 
-get-merged_entries : (v : ViewMap) (es : List (ℕ × Stored)) (q : ℕ) → fin.get (fin.from_entries {R = nat_cmp} (merged_entries v es)) q ≡ merged (fin.get v q) (find nat_cmp q es)
+get-merged_entries : (v : ViewMap) (es : List (ℕ × Stored)) (q : ℕ)
+    → fin.get (fin.from_entries {R = nat_cmp} (merged_entries v es)) q ≡ merged (fin.get v q) (find nat_cmp q es)
 get-merged_entries v es q = fin.get-from_entries nat_cmp_total (merged_entries v es) q ∙ find-merge v es q
 
 pub get-merge : (v w : ViewMap) (q : ℕ) → fin.get (merge v w) q ≡ merged (fin.get v q) (fin.get w q)
@@ -160,7 +163,8 @@ covers_first : (e : Stored) (w : Option Stored) → Covers e (merged (Some e) w)
 covers_first e None = inl refl
 covers_first e (Some f) = newer_first e f (nat_lt e.number f.number) refl
 
-newer_second : (d e : Stored) (b c : Bool) → (d.number ≡ e.number → d ≡ e) → nat_lt d.number e.number ≡ b → nat_lt e.number d.number ≡ c → Covers e (Some (cond b e d))
+newer_second : (d e : Stored) (b c : Bool) → (d.number ≡ e.number → d ≡ e) → nat_lt d.number e.number ≡ b → nat_lt e.number d.number ≡ c
+    → Covers e (Some (cond b e d))
 newer_second d e true c agree is other = inl refl
 newer_second d e false true agree is other = inr (grind (arith, nat_tests))
 newer_second d e false false agree is other = inl (ap Some (agree (grind (arith, nat_tests))))
@@ -256,7 +260,8 @@ count_more : (b : Bool) (k : ℕ) (ks : List ℕ) (n m : ℕ) → n ≡ m + leng
 count_more true k ks n m is = is
 count_more false k ks n m is = omega (arith, is)
 
-len-merged_entries : (v : ViewMap) (es : List (ℕ × Stored)) → T (is_sorted nat_cmp es) → fin.len (fin.from_entries {R = nat_cmp} (merged_entries v es)) ≡ fin.len v + length (filter (lacks v) (map (λ e. e.0) es))
+len-merged_entries : (v : ViewMap) (es : List (ℕ × Stored)) → T (is_sorted nat_cmp es)
+    → fin.len (fin.from_entries {R = nat_cmp} (merged_entries v es)) ≡ fin.len v + length (filter (lacks v) (map (λ e. e.0) es))
 len-merged_entries v [] h = ap fin.len (from_own_entries v) ∙ omega arith
 len-merged_entries v (e ∷ es) h =
     let before : ViewMap = fin.from_entries (merged_entries v es) in
@@ -310,7 +315,8 @@ pub put_all-is : (v w : ViewMap) → put_all v (fin.entries w) ≡ merge v w
 put_all-is v w = same_view (put_all v (fin.entries w)) (merge v w) (λ q. get-put_all v (fin.entries w) q (fin.entries_sorted w) ∙ ap (merged (fin.get v q)) (sym (fin.get-entries w q)) ∙ sym (get-merge v w q))
 
 -- the same of two trees
-pub put_all-found : (es fs : List (ℕ × Stored)) → IsStrictlySortedBy nat_cmp (keys_of fs) → put_all (fin.from_entries es) fs ≡ merge (fin.from_entries es) (fin.from_entries fs)
+pub put_all-found : (es fs : List (ℕ × Stored)) → IsStrictlySortedBy nat_cmp (keys_of fs)
+    → put_all (fin.from_entries es) fs ≡ merge (fin.from_entries es) (fin.from_entries fs)
 put_all-found es fs h = ap (put_all (fin.from_entries es)) (sym (entries_found fs h)) ∙ put_all-is (fin.from_entries es) (fin.from_entries fs)
 
 -- ---- what each view keeps
@@ -327,11 +333,13 @@ pub counted_at : (v : ViewMap) (id : ℕ) (r : Option Stored) → IsView v → r
 counted_at v id None valid is = tt
 counted_at v id (Some e) valid is = valid.counted id e (sym is)
 
-counted_put : (b : Bool) (v : ViewMap) (q id : ℕ) (e f : Stored) → IsView v → 1 ≤ e.number → cond b (Some (newer (fin.get v id) e)) (fin.get v q) ≡ Some f → 1 ≤ f.number
+counted_put : (b : Bool) (v : ViewMap) (q id : ℕ) (e f : Stored) → IsView v → 1 ≤ e.number
+    → cond b (Some (newer (fin.get v id) e)) (fin.get v q) ≡ Some f → 1 ≤ f.number
 counted_put true v q id e f valid counted is = omega (arith, ap number_of is, number-newer (fin.get v id) e, counted)
 counted_put false v q id e f valid counted is = valid.counted q f is
 
-short_newer : (o : Option Stored) (e : Stored) → ((x : Stored) → o ≡ Some x → length x.value ≤ most_bytes) → length e.value ≤ most_bytes → length (newer o e).value ≤ most_bytes
+short_newer : (o : Option Stored) (e : Stored) → ((x : Stored) → o ≡ Some x → length x.value ≤ most_bytes) → length e.value ≤ most_bytes
+    → length (newer o e).value ≤ most_bytes
 short_newer None e known short = short
 short_newer (Some old) e known short = by_test (nat_lt old.number e.number)
   where
@@ -342,11 +350,13 @@ short_newer (Some old) e known short = by_test (nat_lt old.number e.number)
 same_stored : (x y : Stored) → Some x ≡ Some y → x ≡ y
 same_stored x y e = cc
 
-short_put : (b : Bool) (v : ViewMap) (q id : ℕ) (e f : Stored) → IsView v → length e.value ≤ most_bytes → cond b (Some (newer (fin.get v id) e)) (fin.get v q) ≡ Some f → length f.value ≤ most_bytes
+short_put : (b : Bool) (v : ViewMap) (q id : ℕ) (e f : Stored) → IsView v → length e.value ≤ most_bytes
+    → cond b (Some (newer (fin.get v id) e)) (fin.get v q) ≡ Some f → length f.value ≤ most_bytes
 short_put true v q id e f valid short is = subst (λ (x : Stored). length x.value ≤ most_bytes) (same_stored (newer (fin.get v id) e) f is) (short_newer (fin.get v id) e (λ x at. valid.short id x at) short)
 short_put false v q id e f valid short is = valid.short q f is
 
-pub put_valid : (v : ViewMap) (id : ℕ) (e : Stored) → IsView v → 1 ≤ e.number → length e.value ≤ most_bytes → fin.len (put v id e) ≤ most_entries → IsView (put v id e)
+pub put_valid : (v : ViewMap) (id : ℕ) (e : Stored) → IsView v → 1 ≤ e.number → length e.value ≤ most_bytes → fin.len (put v id e) ≤ most_entries
+    → IsView (put v id e)
 put_valid v id e valid counted short few = record {
   few = few;
   counted = λ q f is. counted_put (q == id) v q id e f valid counted (sym (get-put v id e q) ∙ is);

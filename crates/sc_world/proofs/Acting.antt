@@ -99,6 +99,7 @@ by_founders c ids x f false true is has h =
     ∙ ap (λ (y : Reason). let r : Result (fin.FinMap nat_cmp NodeState) Reason = Err y in r) same
 
 -- the refusal of one founder is that of all
-pub found_refused : (c : Config) (ids : List ℕ) (x : ℕ) (f : Reason) → set.contains (set.from_list {R = nat_cmp} ids) x ≡ true → (f ≢ reasons.OutOfMemory → founded c x ids ≡ Err f) → f ≢ reasons.OutOfMemory → founded_nodes c ids ≡ Err f
+pub found_refused : (c : Config) (ids : List ℕ) (x : ℕ) (f : Reason) → set.contains (set.from_list {R = nat_cmp} ids) x ≡ true
+    → (f ≢ reasons.OutOfMemory → founded c x ids ≡ Err f) → f ≢ reasons.OutOfMemory → founded_nodes c ids ≡ Err f
 found_refused c ids x f has h no_memory =
     by_founders c ids x f (are_founders ids) (set.contains (set.from_list {R = nat_cmp} ids) x) refl has (h no_memory)

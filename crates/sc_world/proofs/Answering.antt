@@ -95,13 +95,15 @@ module _ (w : WorldState) (number q : ℕ) (w' : WorldState) (k : IsNext w (even
       (acked_running w (event.Deliver number q) w' k o lt running _ a.session a.back m.from a.stores refl
       (delivered_now (IsAck o) (ap (message_from m.from) (a.body ∙ ap StoreAck (ack_is o a.ack (a.to ∙ name) (a.tag ∙ sym tq))))) (subst (HasCome w o) same r.runs))
 
-  reply_runs : (p : Progress) → o.tag ≡ p.tag → o.end ≡ None → (a : IsReplyMove n m.from m.body p) → o.session ≡ session.Querying a.phase → IsRunning w' (moved place p o)
+  reply_runs : (p : Progress) → o.tag ≡ p.tag → o.end ≡ None → (a : IsReplyMove n m.from m.body p) → o.session ≡ session.Querying a.phase
+      → IsRunning w' (moved place p o)
   reply_runs p tq running a same =
       subst (IsRunning w') (sym (moves_as place p o _ m.from (session.Querying a.phase) a.advance a.sender same))
       (replied_running w (event.Deliver number q) w' k o lt running n (was_now w history) at_node _ a.phase m.from _ refl
       (delivered_now (IsReply o) (a.reply.view, ap (message_from m.from) (a.body ∙ ap CollectReply (reply_is o a.reply (a.to ∙ name) (a.tag ∙ sym tq))))) (subst (HasCome w o) same r.runs))
 
-  pub moved_record : (r' : Outcome) → IsTransition n r' → Among o w.ops → (p : Progress) → o.tag ≡ p.tag → IsMove n m.from m.body (Some p) → IsRecord w' (moved place p o)
+  pub moved_record : (r' : Outcome) → IsTransition n r' → Among o w.ops → (p : Progress) → o.tag ≡ p.tag → IsMove n m.from m.body (Some p)
+      → IsRecord w' (moved place p o)
   moved_record r' x in' p tq (inl a) =
       let h = is_open w (event.Deliver number q) q n r' at linked x o a.session p.tag in' nq tq a.was in record_moved p (ack_runs p tq h.0 a h.1)
   moved_record r' x in' p tq (inr a) =

@@ -85,8 +85,10 @@ pub record IsBegun (w : WorldState) (o : Op) : Type 0 where
 pub data OpFrom (w w' : WorldState) (o' : Op) : Type 0 where
   Kept : Among o' w.ops → OpFrom w w' o'
   Begun : IsBegun w o' → OpFrom w w' o'
-  Acknowledged : (o : Op) (view : ViewMap) (from : ℕ) → Among o w.ops → Among (message_from from (StoreAck (ack_of o))) w.sent → IsAcknowledged o o' view from (clock w) → OpFrom w w' o'
-  Replied : (o : Op) (view : ViewMap) (from : ℕ) → Among o w.ops → Among (message_from from (CollectReply (reply_of o view))) w.sent → IsReplied o o' view (view_at w' o'.node) from → OpFrom w w' o'
+  Acknowledged : (o : Op) (view : ViewMap) (from : ℕ) → Among o w.ops → Among (message_from from (StoreAck (ack_of o))) w.sent
+      → IsAcknowledged o o' view from (clock w) → OpFrom w w' o'
+  Replied : (o : Op) (view : ViewMap) (from : ℕ) → Among o w.ops → Among (message_from from (CollectReply (reply_of o view))) w.sent
+      → IsReplied o o' view (view_at w' o'.node) from → OpFrom w w' o'
 
 -- what is known of a message of q as it is sent
 abbrev pub IsBodySent : WorldState → WorldState → ℕ → Body → Type 0
@@ -120,8 +122,11 @@ pub record IsSound (w : WorldState) : Type 0 where
   pub numbers : (o : Op) → Among o w.ops → HasNumber o
   pub began : (o : Op) → Among o w.ops → o.begin < clock w
   pub acked : (o : Op) (v : ViewMap) (q : ℕ) → Among o w.ops → stored o.session ≡ Some v → Has (ackers o.session) q → IsBelow v (view_at w q)
-  pub stores : (p : ℕ) (s : StoreFields) → Among (message_from p (Store s)) w.sent → (o : Op) → Among o w.ops → o.node ≡ p → o.tag ≡ s.tag → stored o.session ≡ Some s.view
-  pub acks : (q : ℕ) (a : AckFields) → Among (message_from q (StoreAck a)) w.sent → (o : Op) → Among o w.ops → o.node ≡ a.to → o.tag ≡ a.tag → (v : ViewMap) × (stored o.session ≡ Some v) × IsBelow v (view_at w q)
-  pub replies : (q : ℕ) (r : ReplyFields) → Among (message_from q (CollectReply r)) w.sent → (c : Op) → Among c w.ops → c.node ≡ r.to → c.tag ≡ r.tag → KnownBy w c q r.view
+  pub stores : (p : ℕ) (s : StoreFields) → Among (message_from p (Store s)) w.sent → (o : Op) → Among o w.ops → o.node ≡ p → o.tag ≡ s.tag
+      → stored o.session ≡ Some s.view
+  pub acks : (q : ℕ) (a : AckFields) → Among (message_from q (StoreAck a)) w.sent → (o : Op) → Among o w.ops → o.node ≡ a.to → o.tag ≡ a.tag
+      → (v : ViewMap) × (stored o.session ≡ Some v) × IsBelow v (view_at w q)
+  pub replies : (q : ℕ) (r : ReplyFields) → Among (message_from q (CollectReply r)) w.sent → (c : Op) → Among c w.ops → c.node ≡ r.to → c.tag ≡ r.tag
+      → KnownBy w c q r.view
   pub gathering : (c : Op) (q : ℕ) → Among c w.ops → stored c.session ≡ None → Has (repliers c.session) q → KnownBy w c q (view_at w c.node)
   pub gathered : (c : Op) (v : ViewMap) (q : ℕ) → Among c w.ops → stored c.session ≡ Some v → Has (repliers c.session) q → KnownBy w c q v

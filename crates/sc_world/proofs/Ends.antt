@@ -45,7 +45,8 @@ record IsEnding (sessions : fin.FinMap nat_cmp Session) (p : Option Progress) (x
   was : fin.get sessions progress.tag ≡ Some session
   says : ended_with progress.tag session ≡ Some x
 
-ends-at : (sessions : fin.FinMap nat_cmp Session) (p : Progress) (x : Ended) (a : Advance) (o : Option Session) → p.advance ≡ a → fin.get sessions p.tag ≡ o → ended_at p.tag a o ≡ Some x → IsEnding sessions (Some p) x
+ends-at : (sessions : fin.FinMap nat_cmp Session) (p : Progress) (x : Ended) (a : Advance) (o : Option Session) → p.advance ≡ a
+    → fin.get sessions p.tag ≡ o → ended_at p.tag a o ≡ Some x → IsEnding sessions (Some p) x
 ends-at sessions p x advance.Ended (Some s) ends was h = record { progress = p; is = refl; ends = ends; session = s; was = was; says = h }
 ends-at sessions p x a o ends was h = absurd (cc)
 
@@ -174,15 +175,18 @@ module _ (w : WorldState) (linked : IsLinked w) (t : IsTallied w) where
     }
 
   -- after an outcome that is known
-  taken_recorded : (e : WorldEvent) (q : ℕ) (f : NodeState → Result Outcome Reason) (a : WorldStep) (w' : WorldState) (k : IsTaken w e q f a w') → EndIsRecorded w e (told w k.outcome) (after w e q k.outcome) → EndIsRecorded w e a w'
+  taken_recorded : (e : WorldEvent) (q : ℕ) (f : NodeState → Result Outcome Reason) (a : WorldStep) (w' : WorldState) (k : IsTaken w e q f a w')
+      → EndIsRecorded w e (told w k.outcome) (after w e q k.outcome) → EndIsRecorded w e a w'
   taken_recorded e q f a w' k h = subst (λ (s : WorldStep). EndIsRecorded w e s w') k.says (subst (EndIsRecorded w e (told w k.outcome)) k.is h)
 
   -- a node that begins an operation or leaves tells of no end
-  quiet_recorded : (e : WorldEvent) (q : ℕ) (f : NodeState → Result Outcome Reason) (a : WorldStep) (w' : WorldState) (k : IsTaken w e q f a w') (x : Outcome) → x ≡ k.outcome → x.ended ≡ None → EndIsRecorded w e a w'
+  quiet_recorded : (e : WorldEvent) (q : ℕ) (f : NodeState → Result Outcome Reason) (a : WorldStep) (w' : WorldState) (k : IsTaken w e q f a w')
+      (x : Outcome) → x ≡ k.outcome → x.ended ≡ None → EndIsRecorded w e a w'
   quiet_recorded e q f a w' k x same none =
       taken_recorded e q f a w' k (no_end w e (told w k.outcome) (after w e q k.outcome) (ap (λ (y : Outcome). y.ended) (sym same) ∙ none))
 
-  delivered_recorded : (number q : ℕ) (n : NodeState) (m : Option Message) (x : Outcome) → fin.get w.nodes q ≡ Some n → delivers m n ≡ Ok x → EndIsRecorded w (event.Deliver number q) (told w x) (after w (event.Deliver number q) q x)
+  delivered_recorded : (number q : ℕ) (n : NodeState) (m : Option Message) (x : Outcome) → fin.get w.nodes q ≡ Some n → delivers m n ≡ Ok x
+      → EndIsRecorded w (event.Deliver number q) (told w x) (after w (event.Deliver number q) q x)
   delivered_recorded number q n None x at h = absurd (no_refusal _ x h)
   delivered_recorded number q n (Some m) x at h =
       subst (λ (y : Outcome). EndIsRecorded w (event.Deliver number q) (told w y) (after w (event.Deliver number q) q y)) (delivers-ok m n x h) (heard_recorded number q n at m)

@@ -59,7 +59,8 @@ ended_now place advance.Ended h = refl
 ended_now place advance.Counted h = absurd (cc)
 ended_now place (advance.Turned t v) h = absurd (cc)
 
-reply_goes_on : (b : Bool) (threshold : ℕ) (view : ViewMap) → (let a : Advance = cond b (advance.Turned threshold view) advance.Counted in a) ≡ advance.Ended → ⊥
+reply_goes_on : (b : Bool) (threshold : ℕ) (view : ViewMap)
+    → (let a : Advance = cond b (advance.Turned threshold view) advance.Counted in a) ≡ advance.Ended → ⊥
 reply_goes_on true threshold view h = absurd (cc)
 reply_goes_on false threshold view h = absurd (cc)
 
@@ -68,7 +69,8 @@ tells_with tag (session.Store e b) back held = (record { tag = tag; what = op_re
 tells_with tag (session.Querying p) back held = absurd (cc)
 tells_with tag (session.StoringBack p b) back held = (record { tag = tag; what = op_result.Returned b.view }, refl, refl)
 
-tells_by : (n : NodeState) (from : ℕ) (b : Body) (p : Progress) → IsMove n from b (Some p) → p.advance ≡ advance.Ended → Tells (ended_by (Some p) (ended_session n.sessions (Some p))) p.tag
+tells_by : (n : NodeState) (from : ℕ) (b : Body) (p : Progress) → IsMove n from b (Some p) → p.advance ≡ advance.Ended
+    → Tells (ended_by (Some p) (ended_session n.sessions (Some p))) p.tag
 tells_by n from b p (inl m) ends =
     subst (λ (a : Advance). Tells (ended_at p.tag a (fin.get n.sessions p.tag)) p.tag) (sym ends)
     (subst (λ (x : Option Session). Tells (ended_at p.tag advance.Ended x) p.tag) (sym m.was) (tells_with p.tag m.session m.back m.stores))
@@ -123,16 +125,20 @@ module _ (w : WorldState) (records : AreRecords w) where
       outcome_told = record { by = λ o in' ended. (record_told o in' ended).by ∙ sym own; told = λ o in' ended. (record_told o in' ended).told }
 
     -- after an outcome that is known
-    taken_told : (e : WorldEvent) (f : NodeState → Result Outcome Reason) (a : WorldStep) (w' : WorldState) (k : IsTaken w e q f a w') → EndIsTold w e (told w k.outcome) (after w e q k.outcome) → EndIsTold w e a w'
+    taken_told : (e : WorldEvent) (f : NodeState → Result Outcome Reason) (a : WorldStep) (w' : WorldState) (k : IsTaken w e q f a w')
+        → EndIsTold w e (told w k.outcome) (after w e q k.outcome) → EndIsTold w e a w'
     taken_told e f a w' k h = subst (λ (s : WorldStep). EndIsTold w e s w') k.says (subst (EndIsTold w e (told w k.outcome)) k.is h)
 
     -- a node that begins an operation or leaves ends none
-    quiet_told : (e : WorldEvent) → node_of e ≡ q → (f : NodeState → Result Outcome Reason) (a : WorldStep) (w' : WorldState) (k : IsTaken w e q f a w') (x : Outcome) → x ≡ k.outcome → x.progress ≡ None → EndIsTold w e a w'
+    quiet_told : (e : WorldEvent) → node_of e ≡ q
+        → (f : NodeState → Result Outcome Reason) (a : WorldStep) (w' : WorldState) (k : IsTaken w e q f a w') (x : Outcome) → x ≡ k.outcome
+        → x.progress ≡ None → EndIsTold w e a w'
     quiet_told e own f a w' k x same none =
         taken_told e f a w' k
         (outcome_told e own k.outcome (none_told k.outcome.progress k.outcome.ended (ap (λ (y : Outcome). y.progress) (sym same) ∙ none)))
 
-    delivered_told : (number : ℕ) (n : NodeState) (m : Option Message) (x : Outcome) → delivers m n ≡ Ok x → EndIsTold w (event.Deliver number q) (told w x) (after w (event.Deliver number q) q x)
+    delivered_told : (number : ℕ) (n : NodeState) (m : Option Message) (x : Outcome) → delivers m n ≡ Ok x
+        → EndIsTold w (event.Deliver number q) (told w x) (after w (event.Deliver number q) q x)
     delivered_told number n None x h = absurd (no_refusal _ x h)
     delivered_told number n (Some m) x h =
         let e : WorldEvent = event.Deliver number q in

@@ -64,7 +64,8 @@ view_grows n (CollectReply r) = below_if (is_reply n r) n.view (merge n.view r.v
 view_grows n b = below_refl n.view
 
 -- a look-up after an operation moved
-none_moved : (m : fin.FinMap nat_cmp Session) (p : Progress) (t : ℕ) (b : Bool) → (t == p.tag) ≡ b → fin.get m p.tag ≡ None → fin.get m t ≡ cond b (session_moved p (fin.get m t)) (fin.get m t)
+none_moved : (m : fin.FinMap nat_cmp Session) (p : Progress) (t : ℕ) (b : Bool) → (t == p.tag) ≡ b → fin.get m p.tag ≡ None
+    → fin.get m t ≡ cond b (session_moved p (fin.get m t)) (fin.get m t)
 none_moved m p t false is none = refl
 none_moved m p t true is none =
     let at : fin.get m t ≡ None = ap (fin.get m) (eqb-true t p.tag is) ∙ none in
@@ -108,7 +109,8 @@ ack_counted (session.Store e c) b from is = record { kind = refl; view = refl; r
 ack_counted (session.Querying p) b from is = absurd (cc)
 ack_counted (session.StoringBack p c) b from is = record { kind = refl; view = refl; replied = refl; acked = refl }
 
-ack_makes : (c : Bool) (s : Session) (b : StoreBack) (from : ℕ) → back_of s ≡ Some b → AckMakes s (advanced_by from (cond c advance.Ended advance.Counted) s) from
+ack_makes : (c : Bool) (s : Session) (b : StoreBack) (from : ℕ) → back_of s ≡ Some b
+    → AckMakes s (advanced_by from (cond c advance.Ended advance.Counted) s) from
 ack_makes true s b from is = ack_counted s b from is
 ack_makes false s b from is = ack_counted s b from is
 
@@ -127,7 +129,8 @@ module _ (n : NodeState) (from : ℕ) where
       → IsMove n from (StoreAck a) (ack_progress from a.tag (Some (open_phase s)))
   ack_at a s b is at back = inl (record { session = s; back = b; was = at; stores = back; ack = a; body = refl; to = eqb-true a.to n.id is; tag = refl; sender = refl; advance = refl })
 
-  ack_move : (a : AckFields) (c : Bool) (s : Option Session) → (a.to == n.id) ≡ c → fin.get n.sessions a.tag ≡ s → IsMove n from (StoreAck a) (cond c (ack_progress from a.tag (storing s)) None)
+  ack_move : (a : AckFields) (c : Bool) (s : Option Session) → (a.to == n.id) ≡ c → fin.get n.sessions a.tag ≡ s
+      → IsMove n from (StoreAck a) (cond c (ack_progress from a.tag (storing s)) None)
   ack_move a true (Some (session.Store e b)) is at = ack_at a (session.Store e b) b is at refl
   ack_move a true (Some (session.StoringBack p b)) is at = ack_at a (session.StoringBack p b) b is at refl
   ack_move a c s is at = tt
@@ -220,7 +223,8 @@ module _ (w : WorldState) (e : WorldEvent) (q : ℕ) (n : NodeState) (at : fin.g
     tt,
   )
 
-  back_sent : (p : Option Progress) (f : ReplyFields) (r : Outcome) → r.progress ≡ p → r.begun ≡ None → IsTransition n r → IsMove n from (CollectReply f) p → Each (IsBodySent w (after w e q r) q) (store_back p)
+  back_sent : (p : Option Progress) (f : ReplyFields) (r : Outcome) → r.progress ≡ p → r.begun ≡ None → IsTransition n r
+      → IsMove n from (CollectReply f) p → Each (IsBodySent w (after w e q r) q) (store_back p)
   back_sent None f r moves begins x m = tt
   back_sent (Some p) f r moves begins x m = turned_sent p p.advance f r moves begins x m refl
 
@@ -323,7 +327,8 @@ module _ (w : WorldState) (e : WorldEvent) (q : ℕ) (n : NodeState) (at : fin.g
   own_name b = ap (λ (i : ℕ). message_from i b ∷ []) (linked.named q n at)
 
   -- the store message has the view of its operation
-  store_sent : (value : List ℕ) → (o : Op) → Among o (after w e q (store_outcome n value)).ops → o.node ≡ q → o.tag ≡ n.operations → stored o.session ≡ Some (stored_view n value)
+  store_sent : (value : List ℕ) → (o : Op) → Among o (after w e q (store_outcome n value)).ops → o.node ≡ q → o.tag ≡ n.operations
+      → stored o.session ≡ Some (stored_view n value)
   store_sent value o in' nq tt' =
       elim (among-append o (map (advanced q (clock w) None) w.ops) (op_begun q (clock w) (store_outcome n value).begun) in') [
         | inl h ↦
@@ -334,7 +339,8 @@ module _ (w : WorldState) (e : WorldEvent) (q : ℕ) (n : NodeState) (at : fin.g
         | inr (inr none) ↦ absurd none
       ]
 
-  pub store_number : (value : List ℕ) (s : Stored) → kind.Store (next_stored n value) ≡ kind.Store s → (v : ViewMap) × (Some (stored_view n value) ≡ Some v) × (s.number ≤ number_at v q)
+  pub store_number : (value : List ℕ) (s : Stored) → kind.Store (next_stored n value) ≡ kind.Store s
+      → (v : ViewMap) × (Some (stored_view n value) ≡ Some v) × (s.number ≤ number_at v q)
   store_number value s is =
       let entry : next_stored n value ≡ s = cc in
       let name : n.id ≡ q = linked.named q n at in
@@ -345,7 +351,8 @@ module _ (w : WorldState) (e : WorldEvent) (q : ℕ) (n : NodeState) (at : fin.g
       is_change w e q n (store_outcome n value) at linked (store_moves n value) tt (record { replied = refl; acked = refl; number = store_number value })
       (Store (store_under n.operations (stored_view n value)) ∷ []) (own_name (Store (store_under n.operations (stored_view n value)))) (store_sent value, tt)
 
-  begun_known : (r : Outcome) (node tag : ℕ) → n.operations < r.node.operations → (q ≡ node) × (n.operations ≡ tag) → (m : NodeState) × (fin.get (after w e q r).nodes node ≡ Some m) × (tag < m.operations)
+  begun_known : (r : Outcome) (node tag : ℕ) → n.operations < r.node.operations → (q ≡ node) × (n.operations ≡ tag)
+      → (m : NodeState) × (fin.get (after w e q r).nodes node ≡ Some m) × (tag < m.operations)
   begun_known r node tag lt about = (r.node, ap (fin.get (fin.insert w.nodes q r.node)) (sym about.0) ∙ get-insert_same w.nodes q r.node, omega (arith, about.1, lt))
 
   pub store_linked : (value : List ℕ) → IsLinked (after w e q (store_outcome n value))
@@ -381,11 +388,13 @@ module _ (w : WorldState) (e : WorldEvent) (q : ℕ) (linked : IsLinked w) where
     abbrev entry_world : WorldState
     entry_world = after w e q (entered_outcome c q)
 
-    at_entry : (A : Option NodeState → Type 0) (id : ℕ) (b : Bool) → (id == q) ≡ b → (id ≡ q → A (Some (entering c q))) → ((id ≡ q → ⊥) → A (fin.get w.nodes id)) → A (cond b (Some (entering c q)) (fin.get w.nodes id))
+    at_entry : (A : Option NodeState → Type 0) (id : ℕ) (b : Bool) → (id == q) ≡ b → (id ≡ q → A (Some (entering c q)))
+        → ((id ≡ q → ⊥) → A (fin.get w.nodes id)) → A (cond b (Some (entering c q)) (fin.get w.nodes id))
     at_entry A id true is here there = here (eqb-true id q is)
     at_entry A id false is here there = there (λ e. let k : (id == q) ≡ true = eq-eqb id q e in absurd (cc))
 
-    pub entry_at : (A : Option NodeState → Type 0) (id : ℕ) → (id ≡ q → A (Some (entering c q))) → ((id ≡ q → ⊥) → A (fin.get w.nodes id)) → A (fin.get entry_world.nodes id)
+    pub entry_at : (A : Option NodeState → Type 0) (id : ℕ) → (id ≡ q → A (Some (entering c q))) → ((id ≡ q → ⊥) → A (fin.get w.nodes id))
+        → A (fin.get entry_world.nodes id)
     entry_at A id here there = subst A (sym (get-insert w.nodes q (entering c q) id)) (at_entry A id (id == q) refl here there)
 
     enter_grows : (id : ℕ) → IsBelow (view_at w id) (view_at entry_world id)

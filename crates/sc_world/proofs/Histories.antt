@@ -51,12 +51,14 @@ module _ (w : WorldState) where
   step_next (event.Collect q) a w' h = taken_next _ _ _ a w' (acts-ok w (event.Collect q) q collects a w' h)
   step_next (event.Deliver number q) a w' h = taken_next _ _ _ a w' (acts-ok w (event.Deliver number q) q (delivers (slice_get w.sent number)) a w' h)
 
-pub reaches_next : (es : List WorldEvent) (w u : WorldState) (e : WorldEvent) (a : WorldStep) (w' : WorldState) → Reaches w es u → stepped u e ≡ Ok (a, w') → Reaches w (es ++ e ∷ []) w'
+pub reaches_next : (es : List WorldEvent) (w u : WorldState) (e : WorldEvent) (a : WorldStep) (w' : WorldState) → Reaches w es u
+    → stepped u e ≡ Ok (a, w') → Reaches w (es ++ e ∷ []) w'
 reaches_next [] w u e a w' h s = (a, w', subst (λ (x : WorldState). stepped x e ≡ Ok (a, w')) h s, refl)
 reaches_next (f ∷ es) w u e a w' h s = (h.0, h.1, h.2, reaches_next es h.1 u e a w' h.3 s)
 
 -- the start of a history, by its parts
-starts : (c d : Config) (ids jds : List ℕ) (es fs : List WorldEvent) (w : WorldState) → d ≡ c → jds ≡ ids → fs ≡ es → Reaches (start c ids) es w → Reaches (start d jds) fs w
+starts : (c d : Config) (ids jds : List ℕ) (es fs : List WorldEvent) (w : WorldState) → d ≡ c → jds ≡ ids → fs ≡ es → Reaches (start c ids) es w
+    → Reaches (start d jds) fs w
 starts c d ids jds es fs w hc hi he r =
     subst (λ (x : Config). Reaches (start x jds) fs w) (sym hc) (subst (λ (x : List ℕ). Reaches (start c x) fs w) (sym hi) (subst (λ (x : List WorldEvent). Reaches (start c ids) x w) (sym he) r))
 
@@ -66,7 +68,8 @@ history_next w e a w' h s =
     starts w.config w'.config w.founders w'.founders (w.events ++ e ∷ []) w'.events w' k.config k.founders k.events (reaches_next w.events (start w.config w.founders) w e a w' h s)
 
 -- what was once, was so later
-pub before_next : (w : WorldState) (e : WorldEvent) (w' : WorldState) (place : ℕ) (u : WorldState) → IsNext w e w' → place ≤ clock w → WasBefore w place u → WasBefore w' place u
+pub before_next : (w : WorldState) (e : WorldEvent) (w' : WorldState) (place : ℕ) (u : WorldState) → IsNext w e w' → place ≤ clock w
+    → WasBefore w place u → WasBefore w' place u
 before_next w e w' place u k le h =
     starts w.config w'.config w.founders w'.founders (take place w.events) (take place w'.events) u k.config k.founders
     (ap (take place) k.events ∙ take-append-le place w.events (e ∷ []) le) h

@@ -53,17 +53,20 @@ pub record IsTaken (w : WorldState) (e : WorldEvent) (id : ℕ) (f : NodeState �
   pub says : told w outcome ≡ a
   pub is : after w e id outcome ≡ w'
 
-took-ok : (w : WorldState) (e : WorldEvent) (id : ℕ) (r : Result Outcome Reason) (a : WorldStep) (w' : WorldState) → took w e id r ≡ Ok (a, w') → (x : Outcome) × (r ≡ Ok x) × (told w x ≡ a) × (after w e id x ≡ w')
+took-ok : (w : WorldState) (e : WorldEvent) (id : ℕ) (r : Result Outcome Reason) (a : WorldStep) (w' : WorldState) → took w e id r ≡ Ok (a, w')
+    → (x : Outcome) × (r ≡ Ok x) × (told w x ≡ a) × (after w e id x ≡ w')
 took-ok w e id (Ok x) a w' h =
     let same = same_answer _ (a, w') h in
     (x, refl, ap (λ (z : WorldStep × WorldState). z.0) same, ap (λ (z : WorldStep × WorldState). z.1) same)
 took-ok w e id (Err f) a w' h = absurd (no_refusal f (a, w') h)
 
-pub by_live-ok : (o : Option NodeState) (f : NodeState → Result Outcome Reason) (x : Outcome) → by_live o f ≡ Ok x → (n : NodeState) × (o ≡ Some n) × (f n ≡ Ok x)
+pub by_live-ok : (o : Option NodeState) (f : NodeState → Result Outcome Reason) (x : Outcome) → by_live o f ≡ Ok x
+    → (n : NodeState) × (o ≡ Some n) × (f n ≡ Ok x)
 by_live-ok None f x h = absurd (no_refusal _ x h)
 by_live-ok (Some n) f x h = (n, refl, h)
 
-pub acts-ok : (w : WorldState) (e : WorldEvent) (id : ℕ) (f : NodeState → Result Outcome Reason) (a : WorldStep) (w' : WorldState) → acts w e id f ≡ Ok (a, w') → IsTaken w e id f a w'
+pub acts-ok : (w : WorldState) (e : WorldEvent) (id : ℕ) (f : NodeState → Result Outcome Reason) (a : WorldStep) (w' : WorldState)
+    → acts w e id f ≡ Ok (a, w') → IsTaken w e id f a w'
 acts-ok w e id f a w' h =
     let k = took-ok w e id (by_live (live_at w id) f) a w' h in
     let n = by_live-ok (live_at w id) f k.0 k.1 in

@@ -32,7 +32,8 @@ use Rattle.sc_world.proofs.Histories.{IsNext, step_next, was_now}
 use Rattle.sc_world.proofs.Recording.{record_kept, new_measured, new_open, event_new}
 use Rattle.sc_world.proofs.Answering.{moved_record}
 
-pub get_append : {X : Type 0} (xs ys : List X) (i : ℕ) (a : X) → slice_get (xs ++ ys) i ≡ Some a → (slice_get xs i ≡ Some a) ⊎ ((j : ℕ) × (i ≡ length xs + j) × (slice_get ys j ≡ Some a))
+pub get_append : {X : Type 0} (xs ys : List X) (i : ℕ) (a : X) → slice_get (xs ++ ys) i ≡ Some a
+    → (slice_get xs i ≡ Some a) ⊎ ((j : ℕ) × (i ≡ length xs + j) × (slice_get ys j ≡ Some a))
 get_append [] ys i a h = inr (i, omega arith, h)
 get_append (x ∷ xs) ys zero a h = inl h
 get_append (x ∷ xs) ys (suc i) a h = elim (get_append xs ys i a h) [ inl k ↦ inl k | inr k ↦ inr (k.0, omega (arith, k.1), k.2) ]
@@ -53,7 +54,8 @@ module _ (q place : ℕ) (p : Option Progress) (ops : List Op) (b : Option Begun
     Old : (o : Op) → slice_get ops i ≡ Some o → a.node ≡ o.node → a.tag ≡ o.tag → From i a
     New : (y : BegunOp) → b ≡ Some y → i ≡ length (map (advanced q place p) ops) → a.node ≡ q → a.tag ≡ y.tag → From i a
 
-  begun_from : (i j : ℕ) (a : Op) (y : Option BegunOp) → b ≡ y → i ≡ length (map (advanced q place p) ops) + j → slice_get (op_begun q place y) j ≡ Some a → From i a
+  begun_from : (i j : ℕ) (a : Op) (y : Option BegunOp) → b ≡ y → i ≡ length (map (advanced q place p) ops) + j
+      → slice_get (op_begun q place y) j ≡ Some a → From i a
   begun_from i j a None is at h = absurd (cc)
   begun_from i zero a (Some y) is at h =
       let e : (let o : Op = record { node = q; tag = y.tag; begin = place; end = None; session = y.session } in o) ≡ a = cc in
@@ -89,7 +91,8 @@ module _ (w : WorldState) (history : IsHistory w) (linked : IsLinked w) (sound :
     kept : (o : Op) → Among o w.ops → IsRecord w' o
     kept o in' = record_kept w e w' k o (sound.began o in') (records.each o in')
 
-    begun_now : (place j node : ℕ) (d : OperationKind) → (e ≡ beginning_of node d → HasBegun w' (clock w)) → place ≡ clock w + j → slice_get (e ∷ []) j ≡ Some (beginning_of node d) → HasBegun w' place
+    begun_now : (place j node : ℕ) (d : OperationKind) → (e ≡ beginning_of node d → HasBegun w' (clock w)) → place ≡ clock w + j
+        → slice_get (e ∷ []) j ≡ Some (beginning_of node d) → HasBegun w' place
     begun_now place zero node d new at h =
         let same : e ≡ beginning_of node d = cc in
         let now : clock w ≡ place = omega (arith, at) in
@@ -118,7 +121,8 @@ module _ (w : WorldState) (history : IsHistory w) (linked : IsLinked w) (sound :
     next = after w e q r
 
     -- each event that begins an operation has its record in the next world
-    all_next : ((node : ℕ) (d : OperationKind) → e ≡ beginning_of node d → HasBegun next (clock w)) → (place node : ℕ) (d : OperationKind) → slice_get next.events place ≡ Some (beginning_of node d) → HasBegun next place
+    all_next : ((node : ℕ) (d : OperationKind) → e ≡ beginning_of node d → HasBegun next (clock w)) → (place node : ℕ) (d : OperationKind)
+        → slice_get next.events place ≡ Some (beginning_of node d) → HasBegun next place
     all_next new = all_begun e next k (persists w e q r) new
 
     module _ (moves_none : r.progress ≡ None) where
@@ -160,7 +164,9 @@ module _ (w : WorldState) (history : IsHistory w) (linked : IsLinked w) (sound :
   begun_here e q r b is =
       record { op = record { node = q; tag = b.tag; begin = clock w; end = None; session = b.session }; among = begun_among w e q r b is; at = refl }
 
-  pub store_records : (q : ℕ) (value : List ℕ) (n : NodeState) → fin.get w.nodes q ≡ Some n → IsNext w (event.Store q value) (after w (event.Store q value) q (store_outcome n value)) → AreRecords (after w (event.Store q value) q (store_outcome n value))
+  pub store_records : (q : ℕ) (value : List ℕ) (n : NodeState) → fin.get w.nodes q ≡ Some n
+      → IsNext w (event.Store q value) (after w (event.Store q value) q (store_outcome n value))
+      → AreRecords (after w (event.Store q value) q (store_outcome n value))
   store_records q value n at k =
       begun_records (event.Store q value) q (store_outcome n value) k refl
       (λ y is o in' nq tq. let tag : n.operations ≡ y.tag = begun_tag _ y is in absurd (omega (arith, tag_below q n at o in' nq, tq, tag)))
@@ -181,7 +187,8 @@ module _ (w : WorldState) (history : IsHistory w) (linked : IsLinked w) (sound :
             runs = record { measured = new_measured w (event.Store q value) w' k q n (was_now w history) at; until = new_open w' (IsAck made) q (clock w) n };
           })
 
-  pub collect_records : (q : ℕ) (n : NodeState) → fin.get w.nodes q ≡ Some n → IsNext w (event.Collect q) (after w (event.Collect q) q (collect_outcome n)) → AreRecords (after w (event.Collect q) q (collect_outcome n))
+  pub collect_records : (q : ℕ) (n : NodeState) → fin.get w.nodes q ≡ Some n
+      → IsNext w (event.Collect q) (after w (event.Collect q) q (collect_outcome n)) → AreRecords (after w (event.Collect q) q (collect_outcome n))
   collect_records q n at k =
       begun_records (event.Collect q) q (collect_outcome n) k refl
       (λ y is o in' nq tq. let tag : n.operations ≡ y.tag = begun_tag _ y is in absurd (omega (arith, tag_below q n at o in' nq, tq, tag)))
@@ -223,17 +230,20 @@ module _ (w : WorldState) (history : IsHistory w) (linked : IsLinked w) (sound :
       all = all_next (event.Deliver number q) q (heard n m.from m.body) k (λ node d is. absurd (none_begins (event.Deliver number q) (λ _. refl) node d is));
     }
 
-  left_records : (q : ℕ) (n : NodeState) → IsNext w (event.Leave q) (after w (event.Leave q) q (left_outcome n)) → AreRecords (after w (event.Leave q) q (left_outcome n))
+  left_records : (q : ℕ) (n : NodeState) → IsNext w (event.Leave q) (after w (event.Leave q) q (left_outcome n))
+      → AreRecords (after w (event.Leave q) q (left_outcome n))
   left_records q n k = begun_records (event.Leave q) q (left_outcome n) k refl (λ y is. absurd (cc)) (λ o in'. absurd in') (λ node d is. absurd (none_begins (event.Leave q) (λ _. refl) node d is))
 
-  entered_records : (q : ℕ) → IsNext w (event.Enter q) (after w (event.Enter q) q (entered_outcome w.config q)) → AreRecords (after w (event.Enter q) q (entered_outcome w.config q))
+  entered_records : (q : ℕ) → IsNext w (event.Enter q) (after w (event.Enter q) q (entered_outcome w.config q))
+      → AreRecords (after w (event.Enter q) q (entered_outcome w.config q))
   entered_records q k = begun_records (event.Enter q) q (entered_outcome w.config q) k refl (λ y is. absurd (cc)) (λ o in'. absurd in') (λ node d is. absurd (none_begins (event.Enter q) (λ _. refl) node d is))
 
   at_live : (q : ℕ) (n : NodeState) → live_at w q ≡ Some n → fin.get w.nodes q ≡ Some n
   at_live q n h = live_is (set.contains w.crashed q) (fin.get w.nodes q) n h
 
   -- after an outcome that is known
-  by_outcome : (e : WorldEvent) (q : ℕ) (x y : Outcome) (w' : WorldState) → x ≡ y → after w e q y ≡ w' → (IsNext w e (after w e q x) → AreRecords (after w e q x)) → IsNext w e w' → AreRecords w'
+  by_outcome : (e : WorldEvent) (q : ℕ) (x y : Outcome) (w' : WorldState) → x ≡ y → after w e q y ≡ w'
+      → (IsNext w e (after w e q x) → AreRecords (after w e q x)) → IsNext w e w' → AreRecords w'
   by_outcome e q x y w' same is f k =
       let h : after w e q x ≡ w' = ap (after w e q) same ∙ is in
       subst AreRecords h (f (subst (IsNext w e) (sym h) k))

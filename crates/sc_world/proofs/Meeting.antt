@@ -17,7 +17,8 @@ too-many num den all first second half some few a b =
     let below : (first + second) * den ≤ all * den = mul-le-mul_right den few in
     absurd (omega (arith, above, below, a, b, some, few))
 
-meeting : (num den : ℕ) (members : Ids) (p q : Phase) (least : Option ℕ) → den < 2 * num → IsQuorum num den members p → IsQuorum num den members q → IsLeastCommon p.counted q.counted least → is_some least ≡ true
+meeting : (num den : ℕ) (members : Ids) (p q : Phase) (least : Option ℕ) → den < 2 * num → IsQuorum num den members p → IsQuorum num den members q
+    → IsLeastCommon p.counted q.counted least → is_some least ≡ true
 meeting num den members p q (Some id) half a b l = refl
 meeting num den members p q None half a b l =
     absurd (too-many num den (set.len members) (set.len p.counted) (set.len q.counted) half (omega (arith, a.waited, a.reached)) (apart_are_few p.counted q.counted members a.among b.among l.none)

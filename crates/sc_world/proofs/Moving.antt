@@ -55,7 +55,8 @@ module _ (test : Op → Bool) (f : Op → Op) where
   not_tested true never = absurd (never refl)
   not_tested false never = refl
 
-  pub one_changes : (ops : List Op) (k : ℕ) (o : Op) → slice_get ops k ≡ Some o → test o ≡ true → ((j : ℕ) (x : Op) → slice_get ops j ≡ Some x → test x ≡ true → j ≡ k) → slice_set ops k (f o) ≡ map change ops
+  pub one_changes : (ops : List Op) (k : ℕ) (o : Op) → slice_get ops k ≡ Some o → test o ≡ true
+      → ((j : ℕ) (x : Op) → slice_get ops j ≡ Some x → test x ≡ true → j ≡ k) → slice_set ops k (f o) ≡ map change ops
   one_changes [] k o at is only = absurd (cc)
   one_changes (x ∷ ops) zero o at is only =
       let same : x ≡ o = cc in
@@ -68,7 +69,8 @@ module _ (test : Op → Bool) (f : Op → Op) where
   past : (ops : List Op) → position test ops ≡ None → length ops ≤ position_or_len test ops
   past ops none = go (nat_lt (position_or_len test ops) (length ops)) refl none
     where
-      go : (b : Bool) → nat_lt (position_or_len test ops) (length ops) ≡ b → (let r : Option ℕ = cond b (Some (position_or_len test ops)) None in r) ≡ None → length ops ≤ position_or_len test ops
+      go : (b : Bool) → nat_lt (position_or_len test ops) (length ops) ≡ b
+          → (let r : Option ℕ = cond b (Some (position_or_len test ops)) None in r) ≡ None → length ops ≤ position_or_len test ops
       go true is h = absurd (cc)
       go false is h = grind (arith, nat_tests)
 
@@ -80,7 +82,8 @@ module _ (test : Op → Bool) (f : Op → Op) where
       ∙ fails_before_first test ops k.0 o (omega (arith, past ops none, slice_get_within ops k.0 o k.1))
 
 -- what is found is there
-pub found_at : (test : Op → Bool) (ops : List Op) (place : Option ℕ) → place ≡ position test ops → IfSome place (λ at. (o : Op) × (test o ≡ true) × (slice_get ops at ≡ Some o))
+pub found_at : (test : Op → Bool) (ops : List Op) (place : Option ℕ) → place ≡ position test ops
+    → IfSome place (λ at. (o : Op) × (test o ≡ true) × (slice_get ops at ≡ Some o))
 found_at test ops None is = tt
 found_at test [] (Some at) is = absurd (cc)
 found_at test (d ∷ ops) (Some at) is =
@@ -120,7 +123,8 @@ module _ (w : WorldState) (linked : IsLinked w) (distinct : AreDistinct w.ops) (
   for_it p (inl k) = ack_for p k
   for_it p (inr k) = reply_for p k
 
-  ready_right : (p : Progress) → IsMove n from b (Some p) → (c : Option Counting) → IsReady w.ops id (Some (p.tag, p.sender)) c → IsRight w.ops id place (Some p) c
+  ready_right : (p : Progress) → IsMove n from b (Some p) → (c : Option Counting) → IsReady w.ops id (Some (p.tag, p.sender)) c
+      → IsRight w.ops id place (Some p) c
   ready_right p k None h = record { fits = tt; moves = none_change (is_op id p.tag) (moved place p) w.ops (none_found (is_op id p.tag) (moved place p) w.ops h) }
   ready_right p k (Some c) h =
       let o = h.0 in
@@ -144,20 +148,23 @@ module _ (w : WorldState) (l : IsLawful w) (id place : ℕ) (r : Report) (n' : N
   still_by : (n : NodeState) (x : Outcome) → x.progress ≡ None → x ≡ outcome r n' → IsRight w.ops id place (progress_in r.change) c
   still_by n x none is = still w.ops id place (progress_in r.change) c (ap (λ (y : Outcome). y.progress) (sym is) ∙ none)
 
-  deliver_right : (n : NodeState) (m : Option Message) → fin.get w.nodes id ≡ Some n → delivers m n ≡ Ok (outcome r n') → IsReady w.ops id (answered_by id m) c → IsRight w.ops id place (progress_in r.change) c
+  deliver_right : (n : NodeState) (m : Option Message) → fin.get w.nodes id ≡ Some n → delivers m n ≡ Ok (outcome r n')
+      → IsReady w.ops id (answered_by id m) c → IsRight w.ops id place (progress_in r.change) c
   deliver_right n None at h ready = absurd (no_refusal _ (outcome r n') h)
   deliver_right n (Some m) at h ready =
       let same : progress_of n m.from m.body ≡ (progress_in r.change) = ap (λ (y : Outcome). y.progress) (delivers-ok m n (outcome r n') h) in
       move_right w l.invariant.linked l.records.distinct id place n at m.from m.body (progress_in r.change) (subst (IsMove n m.from m.body) same (moves n m.from m.body)) c ready
 
-  acted_right : (n : NodeState) (a : Act) → fin.get w.nodes id ≡ Some n → acted w.sent a n ≡ Ok (outcome r n') → IsReady w.ops id (answered_at id w.sent a) c → IsRight w.ops id place (progress_in r.change) c
+  acted_right : (n : NodeState) (a : Act) → fin.get w.nodes id ≡ Some n → acted w.sent a n ≡ Ok (outcome r n')
+      → IsReady w.ops id (answered_at id w.sent a) c → IsRight w.ops id place (progress_in r.change) c
   acted_right n act.Leave at h ready = still_by n _ refl (leaves-ok n (outcome r n') h)
   acted_right n (act.Store value) at h ready = still_by n _ refl (stores-ok value n (outcome r n') h)
   acted_right n act.Collect at h ready = still_by n _ refl (collects-ok n (outcome r n') h)
   acted_right n (act.Deliver number) at h ready = deliver_right n (slice_get w.sent number) at h ready
 
   -- whatever the act was
-  pub right : (a : Act) → by_live (live_at w id) (acted w.sent a) ≡ Ok (outcome r n') → IsReady w.ops id (answered_at id w.sent a) c → IsRight w.ops id place (progress_in r.change) c
+  pub right : (a : Act) → by_live (live_at w id) (acted w.sent a) ≡ Ok (outcome r n') → IsReady w.ops id (answered_at id w.sent a) c
+      → IsRight w.ops id place (progress_in r.change) c
   right a h ready =
       let k = by_live-ok (live_at w id) (acted w.sent a) (outcome r n') h in
       acted_right k.0 a (live_is (set.contains w.crashed id) (fin.get w.nodes id) k.0 k.1) k.2 ready

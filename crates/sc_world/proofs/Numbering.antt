@@ -66,7 +66,8 @@ module _ (w : WorldState) (e : WorldEvent) (q : ℕ) (n : NodeState) (r : Outcom
         | inr h ↦ begun_start r.begun refl o h
       ]
 
-  counted' : (o : Op) → Start w q r o → (e : Stored) → kind_of o.session ≡ kind.Store e → (m : NodeState) → fin.get next.nodes o.node ≡ Some m → e.number ≤ m.stores
+  counted' : (o : Op) → Start w q r o → (e : Stored) → kind_of o.session ≡ kind.Store e → (m : NodeState) → fin.get next.nodes o.node ≡ Some m
+      → e.number ≤ m.stores
   counted' o (Old p in' nq kq) f is m has =
       node_next w e q n r at linked x (λ (z : Option NodeState). z ≡ Some m → f.number ≤ m.stores) o.node
       (λ here h. let same : r.node ≡ m = cc in omega (arith, k.counted p in' f (sym kq ∙ is) n (ap (fin.get w.nodes) (sym nq ∙ here) ∙ at), more, ap (λ (z : NodeState). z.stores) same))
@@ -82,7 +83,8 @@ module _ (w : WorldState) (e : WorldEvent) (q : ℕ) (n : NodeState) (r : Outcom
   positive' o (Old p in' nq kq) e is = k.positive p in' e (sym kq ∙ is)
   positive' o (New y b nq kq) e is = let c = next_number y e b (sym kq ∙ is) in omega (arith, c.0)
 
-  one' : (o o' : Op) → Start w q r o → Start w q r o' → (e e' : Stored) → kind_of o.session ≡ kind.Store e → kind_of o'.session ≡ kind.Store e' → o.node ≡ o'.node → e.number ≡ e'.number → e ≡ e'
+  one' : (o o' : Op) → Start w q r o → Start w q r o' → (e e' : Stored) → kind_of o.session ≡ kind.Store e → kind_of o'.session ≡ kind.Store e'
+      → o.node ≡ o'.node → e.number ≡ e'.number → e ≡ e'
   one' o o' (Old p in' nq kq) (Old p' in2 nq' kq') e e' is is' same number = k.one p p' in' in2 e e' (sym kq ∙ is) (sym kq' ∙ is') (sym nq ∙ same ∙ nq') number
   one' o o' (Old p in' nq kq) (New y b nq' kq') e e' is is' same number =
       let c = next_number y e' b (sym kq' ∙ is') in absurd (omega (arith, c.0, number, k.counted p in' e (sym kq ∙ is) n (ap (fin.get w.nodes) (sym nq ∙ same ∙ nq') ∙ at)))

@@ -60,7 +60,8 @@ module _ (w : WorldState) (e : WorldEvent) (w' : WorldState) (k : IsNext w e w')
   delivered_kept : (P : Answers) (node place from : ℕ) → IsDelivered w P node place from → IsDelivered w' P node place from
   delivered_kept P node place from d = record { number = d.number; message = d.message; event = event_kept place _ d.event; sent = sent_kept d.number d.message d.sent; answer = d.answer }
 
-  answered_kept : (P : Answers) (node since until until' from : ℕ) → until ≤ until' → IsAnswered w P node since until from → IsAnswered w' P node since until' from
+  answered_kept : (P : Answers) (node since until until' from : ℕ) → until ≤ until' → IsAnswered w P node since until from
+      → IsAnswered w' P node since until' from
   answered_kept P node since until until' from le a = record { place = a.place; after = a.after; before = omega (arith, a.before, le); delivered = delivered_kept P node a.place from a.delivered }
 
   until_kept : (P : Answers) (node since : ℕ) (p : Phase) (end : Option ℕ) → IsUntil w P node since p end → IsUntil w' P node since p end
@@ -134,7 +135,8 @@ module _ (w : WorldState) (e : WorldEvent) (w' : WorldState) (k : IsNext w e w')
     }
 
   -- a phase that begins
-  pub new_measured : (node : ℕ) (n : NodeState) → WasBefore w (clock w) w → fin.get w.nodes node ≡ Some n → IsMeasured w' node (clock w) (new_phase (beta_threshold n))
+  pub new_measured : (node : ℕ) (n : NodeState) → WasBefore w (clock w) w → fin.get w.nodes node ≡ Some n
+      → IsMeasured w' node (clock w) (new_phase (beta_threshold n))
   new_measured node n was at = record { before = w; was = before_next w e w' (clock w) w k (omega arith) was; state = n; at = at; threshold = refl }
 
 pub new_open : (w' : WorldState) (P : Answers) (node since : ℕ) (n : NodeState) → IsOpen w' P node since (new_phase (beta_threshold n))
@@ -147,5 +149,6 @@ new_open w' P node since n = record {
 abbrev pub moves_to : ℕ → Op → Advance → ℕ → Session → Op
 moves_to place o a from s = record { node = o.node; tag = o.tag; begin = o.begin; end = end_at place a; session = advanced_by from a s }
 
-pub moves_as : (place : ℕ) (p : Progress) (o : Op) (a : Advance) (from : ℕ) (s : Session) → p.advance ≡ a → p.sender ≡ from → o.session ≡ s → moved place p o ≡ moves_to place o a from s
+pub moves_as : (place : ℕ) (p : Progress) (o : Op) (a : Advance) (from : ℕ) (s : Session) → p.advance ≡ a → p.sender ≡ from → o.session ≡ s
+    → moved place p o ≡ moves_to place o a from s
 moves_as place p o a from s adv sender same = λ i. moves_to place o (adv i) (sender i) (same i)

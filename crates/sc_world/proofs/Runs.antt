@@ -116,7 +116,8 @@ module _ (w : WorldState) (e : WorldEvent) (linked : IsLinked w) where
         numbered = λ k. record { counted = k.counted; positive = k.positive; one = k.one };
       }
 
-  enter_tells : (u : WorldState) (q : ℕ) (m : Message) → Among m (w.sent ++ message_from q Enter ∷ []) → Among m w.sent ⊎ ((v : ViewMap) → body_view m.body ≡ Some v → IsTrue u (clock u) v)
+  enter_tells : (u : WorldState) (q : ℕ) (m : Message) → Among m (w.sent ++ message_from q Enter ∷ [])
+      → Among m w.sent ⊎ ((v : ViewMap) → body_view m.body ≡ Some v → IsTrue u (clock u) v)
   enter_tells u q m in' = elim (among-append m w.sent (message_from q Enter ∷ []) in') [
     | inl h ↦ inl h
     | inr (inl same) ↦ inr (λ v is. let k : None ≡ Some v = sym (ap (λ (y : Message). body_view y.body) same) ∙ is in absurd (cc))
@@ -151,7 +152,8 @@ module _ (w : WorldState) (linked : IsLinked w) where
   at_live : (q : ℕ) (n : NodeState) → live_at w q ≡ Some n → fin.get w.nodes q ≡ Some n
   at_live q n h = live_is (set.contains w.crashed q) (fin.get w.nodes q) n h
 
-  deliver_any : (q k : ℕ) (n : NodeState) (m : Option Message) (x : Outcome) → ((y : Message) → m ≡ Some y → Among y w.sent) → live_at w q ≡ Some n → delivers m n ≡ Ok x → IsGood w (after w (event.Deliver k q) q x)
+  deliver_any : (q k : ℕ) (n : NodeState) (m : Option Message) (x : Outcome) → ((y : Message) → m ≡ Some y → Among y w.sent) → live_at w q ≡ Some n
+      → delivers m n ≡ Ok x → IsGood w (after w (event.Deliver k q) q x)
   deliver_any q k n None x all is h = absurd (no_refusal _ x h)
   deliver_any q k n (Some m) x all is h = subst (λ (y : Outcome). IsGood w (after w (event.Deliver k q) q y)) (delivers-ok m n x h) (deliver_good w (event.Deliver k q) linked q n m (at_live q n is) (all m refl))
 
@@ -189,11 +191,14 @@ pub run_keeps : (es : List WorldEvent) (w w' : WorldState) → IsInvariant w →
 run_keeps [] w w' i h = subst IsInvariant (sym h) i
 run_keeps (e ∷ es) w w' i h = run_keeps es h.1 w' (step_keeps w h.1 e h.0 i h.2) h.3
 
-founder_by : (c : Config) (ids : List ℕ) (p q : ℕ) (o : Option NodeState) (b : Bool) (n : NodeState) → (q == p) ≡ b → ((m : NodeState) → o ≡ Some m → m.id ≡ q) → (let x : Option NodeState = cond b (Some (founder c ids p)) o in x) ≡ Some n → n.id ≡ q
+founder_by : (c : Config) (ids : List ℕ) (p q : ℕ) (o : Option NodeState) (b : Bool) (n : NodeState) → (q == p) ≡ b
+    → ((m : NodeState) → o ≡ Some m → m.id ≡ q) → (let x : Option NodeState = cond b (Some (founder c ids p)) o in x) ≡ Some n → n.id ≡ q
 founder_by c ids p q o true n is rest h = let e : founder c ids p ≡ n = cc in sym (ap (λ (y : NodeState). y.id) e) ∙ sym (eqb-true q p is)
 founder_by c ids p q o false n is rest h = rest n h
 
-founders_named : (c : Config) (ids qs : List ℕ) (nodes : fin.FinMap nat_cmp NodeState) → ((q : ℕ) (n : NodeState) → fin.get nodes q ≡ Some n → n.id ≡ q) → (q : ℕ) (n : NodeState) → fin.get (nodes_with c ids nodes qs) q ≡ Some n → n.id ≡ q
+founders_named : (c : Config) (ids qs : List ℕ) (nodes : fin.FinMap nat_cmp NodeState)
+    → ((q : ℕ) (n : NodeState) → fin.get nodes q ≡ Some n → n.id ≡ q) → (q : ℕ) (n : NodeState) → fin.get (nodes_with c ids nodes qs) q ≡ Some n
+    → n.id ≡ q
 founders_named c ids [] nodes named q n h = named q n h
 founders_named c ids (p ∷ qs) nodes named q n h =
     founders_named c ids qs (fin.insert nodes p (founder c ids p))
@@ -202,11 +207,13 @@ founders_named c ids (p ∷ qs) nodes named q n h =
 nobody_named : (q : ℕ) (n : NodeState) → fin.get (fin.empty {R = nat_cmp}) q ≡ Some n → n.id ≡ q
 nobody_named q n h = let k : None ≡ Some n = sym (fin.get-empty nat_cmp q) ∙ h in absurd (cc)
 
-founder_view : (c : Config) (ids : List ℕ) (p : ℕ) (o : Option NodeState) (w : WorldState) (b : Bool) → IsTrue w 0 (view_of o) → IsTrue w 0 (view_of (cond b (Some (founder c ids p)) o))
+founder_view : (c : Config) (ids : List ℕ) (p : ℕ) (o : Option NodeState) (w : WorldState) (b : Bool) → IsTrue w 0 (view_of o)
+    → IsTrue w 0 (view_of (cond b (Some (founder c ids p)) o))
 founder_view c ids p o w true g = true_empty w 0
 founder_view c ids p o w false g = g
 
-founder_views : (c : Config) (ids qs : List ℕ) (nodes : fin.FinMap nat_cmp NodeState) (w : WorldState) → ((q : ℕ) → IsTrue w 0 (view_of (fin.get nodes q))) → (q : ℕ) → IsTrue w 0 (view_of (fin.get (nodes_with c ids nodes qs) q))
+founder_views : (c : Config) (ids qs : List ℕ) (nodes : fin.FinMap nat_cmp NodeState) (w : WorldState)
+    → ((q : ℕ) → IsTrue w 0 (view_of (fin.get nodes q))) → (q : ℕ) → IsTrue w 0 (view_of (fin.get (nodes_with c ids nodes qs) q))
 founder_views c ids [] nodes w g q = g q
 founder_views c ids (p ∷ qs) nodes w g q =
     founder_views c ids qs (fin.insert nodes p (founder c ids p)) w

@@ -47,7 +47,8 @@ module _ (w : WorldState) (linked : IsLinked w) where
   outcome_sends : (e : WorldEvent) (q : ℕ) (x : Outcome) → AreOwn (node_of e) x.outs → Sends w e (told w x) (after w e q x)
   outcome_sends e q x own = record { outs = x.outs; sent = refl; numbers = refl; own = own }
 
-  taken_sends : (e : WorldEvent) (q : ℕ) (f : NodeState → Result Outcome Reason) (a : WorldStep) (w' : WorldState) (k : IsTaken w e q f a w') (x : Outcome) → x ≡ k.outcome → AreOwn (node_of e) x.outs → Sends w e a w'
+  taken_sends : (e : WorldEvent) (q : ℕ) (f : NodeState → Result Outcome Reason) (a : WorldStep) (w' : WorldState) (k : IsTaken w e q f a w')
+      (x : Outcome) → x ≡ k.outcome → AreOwn (node_of e) x.outs → Sends w e a w'
   taken_sends e q f a w' k x same own =
       subst (λ (s : WorldStep). Sends w e s w') k.says
       (subst (Sends w e (told w k.outcome)) k.is (outcome_sends e q k.outcome (subst (λ (y : Outcome). AreOwn (node_of e) y.outs) same own)))

@@ -50,7 +50,8 @@ settled w w' o e (Acknowledged o0 v q a m r) is lt =
 settled w w' o e (Replied o0 v q a m r) is lt = let no : o.end ≡ None = r.stays in absurd (cc)
 
 -- what q had acknowledged before c began stays as it is
-known_kept : (w w' : WorldState) (x : IsChange w w') (s : IsSound w) (c c' : Op) (q : ℕ) (v : ViewMap) → c'.begin ≡ c.begin → Among c w.ops → KnownBy w c q v → KnownBy w' c' q v
+known_kept : (w w' : WorldState) (x : IsChange w w') (s : IsSound w) (c c' : Op) (q : ℕ) (v : ViewMap) → c'.begin ≡ c.begin → Among c w.ops
+    → KnownBy w c q v → KnownBy w' c' q v
 known_kept w w' x s c c' q v same in_ops known o u in' before held acked =
     let early : before.0 < c.begin = omega (arith, before.2, same) in
     let lt : before.0 < clock w = omega (arith, early, s.began c in_ops) in
@@ -70,7 +71,8 @@ module _ (w w' : WorldState) (x : IsChange w w') (s : IsSound w) where
   grown v q h = below_trans v _ _ h (x.grows q)
 
   -- whoever's acknowledgement was sent has the view
-  ack_has : (q : ℕ) (o : Op) (v : ViewMap) → Among o w.ops → stored o.session ≡ Some v → Among (message_from q (StoreAck (ack_of o))) w.sent → IsBelow v (view_at w q)
+  ack_has : (q : ℕ) (o : Op) (v : ViewMap) → Among o w.ops → stored o.session ≡ Some v → Among (message_from q (StoreAck (ack_of o))) w.sent
+      → IsBelow v (view_at w q)
   ack_has q o v in_ops held sent =
       let h = s.acks q (ack_of o) sent o in_ops refl refl in
       let eq : h.0 ≡ v = cc in
@@ -107,26 +109,30 @@ module _ (w w' : WorldState) (x : IsChange w w') (s : IsSound w) where
   origin c m sent about (Acknowledged o v q a k r) = record { op = o; was = a; node = r.same.node; tag = r.same.tag; begin = r.same.begin }
   origin c m sent about (Replied o v q a k r) = record { op = o; was = a; node = r.same.node; tag = r.same.tag; begin = r.same.begin }
 
-  store_old : (p : ℕ) (m : StoreFields) → Among (message_from p (Store m)) w.sent → (o : Op) → o.node ≡ p → o.tag ≡ m.tag → OpFrom w w' o → stored o.session ≡ Some m.view
+  store_old : (p : ℕ) (m : StoreFields) → Among (message_from p (Store m)) w.sent → (o : Op) → o.node ≡ p → o.tag ≡ m.tag → OpFrom w w' o
+      → stored o.session ≡ Some m.view
   store_old p m sent o np tt' (Kept h) = s.stores p m sent o h np tt'
   store_old p m sent o np tt' (Begun b) = absurd (b.fresh (message_from p (Store m)) sent (sym np, sym tt'))
   store_old p m sent o np tt' (Acknowledged o0 u q a k r) = let was : stored o0.session ≡ Some m.view = s.stores p m sent o0 a (sym r.same.node ∙ np) (sym r.same.tag ∙ tt') in cc
   store_old p m sent o np tt' (Replied o0 u q a k r) = let was : stored o0.session ≡ Some m.view = s.stores p m sent o0 a (sym r.same.node ∙ np) (sym r.same.tag ∙ tt') in absurd (cc)
 
-  stores' : (p : ℕ) (m : StoreFields) → Among (message_from p (Store m)) w'.sent → (o : Op) → Among o w'.ops → o.node ≡ p → o.tag ≡ m.tag → stored o.session ≡ Some m.view
+  stores' : (p : ℕ) (m : StoreFields) → Among (message_from p (Store m)) w'.sent → (o : Op) → Among o w'.ops → o.node ≡ p → o.tag ≡ m.tag
+      → stored o.session ≡ Some m.view
   stores' p m sent o in' np tt' =
       elim (x.sent (message_from p (Store m)) sent) [
         | inl old ↦ store_old p m old o np tt' (x.ops o in')
         | inr new ↦ new o in' np tt'
       ]
 
-  ack_old : (q : ℕ) (a : AckFields) → Among (message_from q (StoreAck a)) w.sent → (o : Op) → o.node ≡ a.to → o.tag ≡ a.tag → OpFrom w w' o → (v : ViewMap) × (stored o.session ≡ Some v) × IsBelow v (view_at w' q)
+  ack_old : (q : ℕ) (a : AckFields) → Among (message_from q (StoreAck a)) w.sent → (o : Op) → o.node ≡ a.to → o.tag ≡ a.tag → OpFrom w w' o
+      → (v : ViewMap) × (stored o.session ≡ Some v) × IsBelow v (view_at w' q)
   ack_old q a sent o np tt' (Kept h) = let k = s.acks q a sent o h np tt' in (k.0, k.1, grown k.0 q k.2)
   ack_old q a sent o np tt' (Begun b) = absurd (b.fresh (message_from q (StoreAck a)) sent (sym np, sym tt'))
   ack_old q a sent o np tt' (Acknowledged o0 u f was m r) = let k = s.acks q a sent o0 was (sym r.same.node ∙ np) (sym r.same.tag ∙ tt') in (k.0, cc, grown k.0 q k.2)
   ack_old q a sent o np tt' (Replied o0 u f was m r) = let k = s.acks q a sent o0 was (sym r.same.node ∙ np) (sym r.same.tag ∙ tt') in absurd (cc)
 
-  acks' : (q : ℕ) (a : AckFields) → Among (message_from q (StoreAck a)) w'.sent → (o : Op) → Among o w'.ops → o.node ≡ a.to → o.tag ≡ a.tag → (v : ViewMap) × (stored o.session ≡ Some v) × IsBelow v (view_at w' q)
+  acks' : (q : ℕ) (a : AckFields) → Among (message_from q (StoreAck a)) w'.sent → (o : Op) → Among o w'.ops → o.node ≡ a.to → o.tag ≡ a.tag
+      → (v : ViewMap) × (stored o.session ≡ Some v) × IsBelow v (view_at w' q)
   acks' q a sent o in' np tt' =
       elim (x.sent (message_from q (StoreAck a)) sent) [
         | inl old ↦ ack_old q a old o np tt' (x.ops o in')
@@ -137,7 +143,8 @@ module _ (w w' : WorldState) (x : IsChange w w') (s : IsSound w) where
   known_here : (c : Op) (q : ℕ) → KnownBy w c q (view_at w q)
   known_here c q o v in' before held acked = s.acked o v q in' held acked
 
-  replies' : (q : ℕ) (r : ReplyFields) → Among (message_from q (CollectReply r)) w'.sent → (c : Op) → Among c w'.ops → c.node ≡ r.to → c.tag ≡ r.tag → KnownBy w' c q r.view
+  replies' : (q : ℕ) (r : ReplyFields) → Among (message_from q (CollectReply r)) w'.sent → (c : Op) → Among c w'.ops → c.node ≡ r.to → c.tag ≡ r.tag
+      → KnownBy w' c q r.view
   replies' q r sent c in' np tt' =
       elim (x.sent (message_from q (CollectReply r)) sent) [
         | inl old ↦
@@ -149,7 +156,8 @@ module _ (w w' : WorldState) (x : IsChange w w') (s : IsSound w) where
       ]
 
   -- whoever's reply is counted now, or was before
-  reply_known : (c c' : Op) (v : ViewMap) (from q : ℕ) → Among c w.ops → Among (message_from from (CollectReply (reply_of c v))) w.sent → IsReplied c c' v (view_at w' c'.node) from → Has (repliers c'.session) q → KnownBy w' c' q (view_at w' c'.node)
+  reply_known : (c c' : Op) (v : ViewMap) (from q : ℕ) → Among c w.ops → Among (message_from from (CollectReply (reply_of c v))) w.sent
+      → IsReplied c c' v (view_at w' c'.node) from → Has (repliers c'.session) q → KnownBy w' c' q (view_at w' c'.node)
   reply_known c c' v from q in_ops sent r h =
       known_kept w w' x s c c' q (view_at w' c'.node) r.same.begin in_ops (elim (counted _ _ from q r.repliers h) [
         | inl is ↦ known_above w c q v (view_at w' c'.node) r.learns (subst (λ (n : ℕ). KnownBy w c n v) (sym is) (s.replies from (reply_of c v) sent c in_ops refl refl))

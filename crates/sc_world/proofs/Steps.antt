@@ -51,7 +51,8 @@ among-image f x (y ∷ xs) (inl e) = inl (ap f e)
 among-image f x (y ∷ xs) (inr h) = inr (among-image f x xs h)
 
 -- what an event leaves of the record of an operation
-pub kept_among : (w : WorldState) (e : WorldEvent) (q : ℕ) (r : Outcome) (o : Op) → Among o w.ops → Among (advanced q (clock w) r.progress o) (after w e q r).ops
+pub kept_among : (w : WorldState) (e : WorldEvent) (q : ℕ) (r : Outcome) (o : Op) → Among o w.ops
+    → Among (advanced q (clock w) r.progress o) (after w e q r).ops
 kept_among w e q r o in' =
     among-left (advanced q (clock w) r.progress o) (map (advanced q (clock w) r.progress) w.ops) (op_begun q (clock w) r.begun) (among-image (advanced q (clock w) r.progress) o w.ops in')
 
@@ -235,7 +236,8 @@ module _ (w : WorldState) (e : WorldEvent) (q : ℕ) (n : NodeState) (r : Outcom
       (λ other. record { node = refl; tag = refl; session = λ nq. off_tag p o.tag (open_session o) (o.tag == p.tag) refl (other nq); elsewhere = λ _. refl })
 
   -- which node is at an id
-  node_by : (A : Option NodeState → Type 0) (id : ℕ) (b : Bool) → (id == q) ≡ b → (id ≡ q → A (Some r.node)) → ((id ≡ q → ⊥) → A (fin.get w.nodes id)) → A (cond b (Some r.node) (fin.get w.nodes id))
+  node_by : (A : Option NodeState → Type 0) (id : ℕ) (b : Bool) → (id == q) ≡ b → (id ≡ q → A (Some r.node)) → ((id ≡ q → ⊥) → A (fin.get w.nodes id))
+      → A (cond b (Some r.node) (fin.get w.nodes id))
   node_by A id true is here there = here (eqb-true id q is)
   node_by A id false is here there = there (λ e. let k : (id == q) ≡ true = eq-eqb id q e in absurd (cc))
 
@@ -249,14 +251,16 @@ module _ (w : WorldState) (e : WorldEvent) (q : ℕ) (n : NodeState) (r : Outcom
       (λ there e. linked.named id m e) is
 
   -- whoever has begun so many operations has begun as many later
-  pub known_next : (p t : ℕ) (m : NodeState) → fin.get w.nodes p ≡ Some m → t < m.operations → (m' : NodeState) × (fin.get next.nodes p ≡ Some m') × (t < m'.operations)
+  pub known_next : (p t : ℕ) (m : NodeState) → fin.get w.nodes p ≡ Some m → t < m.operations
+      → (m' : NodeState) × (fin.get next.nodes p ≡ Some m') × (t < m'.operations)
   known_next p t m is lt =
       node_next (λ (o : Option NodeState). (m' : NodeState) × (o ≡ Some m') × (t < m'.operations)) p
       (λ here. let same : m ≡ n = (let e : Some m ≡ Some n = sym is ∙ ap (fin.get w.nodes) here ∙ at in cc) in (r.node, refl, omega (arith, x.more, ap (λ (y : NodeState). y.operations) same, lt)))
       (λ there. (m, is, lt))
 
   module _ (progress : IsProgress w q n r r.progress) where
-    running_by : (p : Option Progress) → IsProgress w q n r p → (o : Op) → Among o w.ops → (k : Progress) → p ≡ Some k → o.node ≡ q → o.tag ≡ k.tag → o.end ≡ None
+    running_by : (p : Option Progress) → IsProgress w q n r p → (o : Op) → Among o w.ops → (k : Progress) → p ≡ Some k → o.node ≡ q → o.tag ≡ k.tag
+        → o.end ≡ None
     running_by None h o in' k is nq tt' = absurd (cc)
     running_by (Some p) (inl h) o in' k is nq tt' = let same : p ≡ k = cc in (is_open o h.session p.tag in' nq (tt' ∙ ap (λ (y : Progress). y.tag) (sym same)) h.was).0
     running_by (Some p) (inr h) o in' k is nq tt' = let same : p ≡ k = cc in (is_open o h.session p.tag in' nq (tt' ∙ ap (λ (y : Progress). y.tag) (sym same)) h.was).0

@@ -34,11 +34,13 @@ live_found : (crashed : Bool) (o : Option NodeState) (n : NodeState) → true �
 live_found true o n is at = absurd (cc)
 live_found false o n is at = sym (ap (live false) at) ∙ by_gone n.gone (is ∙ sym (ap (λ (x : Option NodeState). is_some (live false x)) at))
   where
-    by_gone : (b : Bool) → true ≡ is_some (let x : Option NodeState = cond b None (Some n) in x) → (let x : Option NodeState = cond b None (Some n) in x) ≡ Some n
+    by_gone : (b : Bool) → true ≡ is_some (let x : Option NodeState = cond b None (Some n) in x)
+        → (let x : Option NodeState = cond b None (Some n) in x) ≡ Some n
     by_gone true h = absurd (cc)
     by_gone false h = refl
 
-written_back : (es : List (ℕ × NodeState)) (id q : ℕ) (n : NodeState) (b : Bool) → is_at (nat_cmp id) q ≡ b → Some n ≡ found es id → cond b (Some n) (found es q) ≡ found es q
+written_back : (es : List (ℕ × NodeState)) (id q : ℕ) (n : NodeState) (b : Bool) → is_at (nat_cmp id) q ≡ b → Some n ≡ found es id
+    → cond b (Some n) (found es q) ≡ found es q
 written_back es id q n false is at = refl
 written_back es id q n true is at = at ∙ ap (found es) (eqb-true id q (sym (unsigned_tied id q) ∙ is))
 
@@ -70,7 +72,8 @@ module _ (es fs : List (ℕ × NodeState)) (old : fin.FinMap nat_cmp NodeState) 
   )
 
 -- there is no such node
-pub no_node : (old : fin.FinMap nat_cmp NodeState) (id : ℕ) (crashed : Bool) (f : NodeState → Result Outcome Reason) (es : List (ℕ × NodeState)) → fin.from_entries es ≡ old → None ≡ found es id → by_live (live crashed (fin.get old id)) f ≡ Err reasons.NoSuchNode
+pub no_node : (old : fin.FinMap nat_cmp NodeState) (id : ℕ) (crashed : Bool) (f : NodeState → Result Outcome Reason) (es : List (ℕ × NodeState))
+    → fin.from_entries es ≡ old → None ≡ found es id → by_live (live crashed (fin.get old id)) f ≡ Err reasons.NoSuchNode
 no_node old id crashed f es is at = ap (λ (o : Option NodeState). by_live (live crashed o) f) (sym (at ∙ sym (get_found es id) ∙ ap (λ (m : fin.FinMap nat_cmp NodeState). fin.get m id) is)) ∙ by_crash crashed
   where
     by_crash : (c : Bool) → by_live (live c None) f ≡ Err reasons.NoSuchNode

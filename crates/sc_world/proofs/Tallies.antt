@@ -125,7 +125,8 @@ module _ (w : WorldState) (e : WorldEvent) (q : ℕ) (r : Outcome) (own : node_o
     }
 
   -- the node has an operation open that begins now
-  begun_kept : (n : NodeState) (made : Session) → AreKept next q n → r.begun ≡ Some (record { tag = n.operations; session = made }) → r.node.sessions ≡ fin.insert n.sessions n.operations made → AreKept next q r.node
+  begun_kept : (n : NodeState) (made : Session) → AreKept next q n → r.begun ≡ Some (record { tag = n.operations; session = made })
+      → r.node.sessions ≡ fin.insert n.sessions n.operations made → AreKept next q r.node
   begun_kept n made before begun opens tag s h =
       go (tag == n.operations) refl (sym (get-insert n.sessions n.operations made tag) ∙ ap (λ (m : fin.FinMap nat_cmp Session). fin.get m tag) (sym opens) ∙ h)
     where
@@ -222,7 +223,8 @@ module _ (w : WorldState) (t : IsTallied w) where
   by_outcome : (e : WorldEvent) (q : ℕ) (x y : Outcome) (w' : WorldState) → x ≡ y → after w e q y ≡ w' → IsTallied (after w e q x) → IsTallied w'
   by_outcome e q x y w' same is k = subst IsTallied (ap (after w e q) same ∙ is) k
 
-  delivered_any : (number q : ℕ) (n : NodeState) (m : Option Message) (x : Outcome) (w' : WorldState) → fin.get w.nodes q ≡ Some n → delivers m n ≡ Ok x → after w (event.Deliver number q) q x ≡ w' → IsTallied w'
+  delivered_any : (number q : ℕ) (n : NodeState) (m : Option Message) (x : Outcome) (w' : WorldState) → fin.get w.nodes q ≡ Some n
+      → delivers m n ≡ Ok x → after w (event.Deliver number q) q x ≡ w' → IsTallied w'
   delivered_any number q n None x w' at h is = absurd (no_refusal _ x h)
   delivered_any number q n (Some m) x w' at h is = by_outcome (event.Deliver number q) q (heard n m.from m.body) x w' (delivers-ok m n x h) is (heard_tallied q n at number m)
 
@@ -276,7 +278,8 @@ module _ (c : Config) (ids : List ℕ) where
   idle_by p o true g = founder_idle p
   idle_by p o false g = g
 
-  founders_idle : (qs : List ℕ) (nodes : fin.FinMap nat_cmp NodeState) → ((q : ℕ) → IsIdle (fin.get nodes q)) → (q : ℕ) → IsIdle (fin.get (nodes_with c ids nodes qs) q)
+  founders_idle : (qs : List ℕ) (nodes : fin.FinMap nat_cmp NodeState) → ((q : ℕ) → IsIdle (fin.get nodes q)) → (q : ℕ)
+      → IsIdle (fin.get (nodes_with c ids nodes qs) q)
   founders_idle [] nodes g q = g q
   founders_idle (p ∷ qs) nodes g q =
       founders_idle qs (fin.insert nodes p (founder c ids p)) (λ i. subst IsIdle (sym (get-insert nodes p (founder c ids p) i)) (idle_by p (fin.get nodes i) (i == p) (g i))) q

@@ -59,13 +59,7 @@ same_start q place (Some p) o =
 pub persists : (w : WorldState) (e : WorldEvent) (q : ℕ) (r : Outcome) (o : Op) → Among o w.ops → IsThere (after w e q r) o
 persists w e q r o in' =
     let k = same_start q (clock w) r.progress o in
-    record {
-      op = advanced q (clock w) r.progress o;
-      among = kept_among w e q r o in';
-      node = k.node;
-      kind = k.kind;
-      begin = k.begin;
-    }
+    record { op = advanced q (clock w) r.progress o; among = kept_among w e q r o in'; node = k.node; kind = k.kind; begin = k.begin }
 
 module _ (w : WorldState) (e : WorldEvent) (q : ℕ) (n : NodeState) (r : Outcome) (at : fin.get w.nodes q ≡ Some n) (linked : IsLinked w) (x : IsTransition n r) (s : IsSound w) (t : IsTruthful w) where
   abbrev next : WorldState
@@ -90,7 +84,8 @@ module _ (w : WorldState) (e : WorldEvent) (q : ℕ) (n : NodeState) (r : Outcom
                 inr (λ v is. each-among (λ (b : Body). (v : ViewMap) → body_view b ≡ Some v → IsTrue next (clock next) v) k.0 bodies outs k.1 v (sym (ap (λ (y : Message). body_view y.body) k.2) ∙ is))
           ]
 
-      new_begun : (y : Option BegunOp) → r.begun ≡ y → (o : Op) → Among o (op_begun q (clock w) y) → (v : ViewMap) → stored o.session ≡ Some v → IsTrue next (clock next) v
+      new_begun : (y : Option BegunOp) → r.begun ≡ y → (o : Op) → Among o (op_begun q (clock w) y) → (v : ViewMap) → stored o.session ≡ Some v
+          → IsTrue next (clock next) v
       new_begun None is o in' v held = absurd in'
       new_begun (Some y) is o (inr none) v held = absurd none
       new_begun (Some y) is o (inl e) v held = opens y v is (sym (ap (λ (z : Op). stored z.session) e) ∙ held)
@@ -127,12 +122,14 @@ module _ (w : WorldState) (e : WorldEvent) (q : ℕ) (n : NodeState) (at : fin.g
   abbrev TellsOf : WorldState → Body → Type 0
   TellsOf u b = (v : ViewMap) → body_view b ≡ Some v → IsTrue u (clock u) v
 
-  turned_true : (u : WorldState) (tag : ℕ) (a : Advance) → ((k : ℕ) (y : ViewMap) → a ≡ advance.Turned k y → IsTrue u (clock u) y) → Each (TellsOf u) (store_of tag a)
+  turned_true : (u : WorldState) (tag : ℕ) (a : Advance) → ((k : ℕ) (y : ViewMap) → a ≡ advance.Turned k y → IsTrue u (clock u) y)
+      → Each (TellsOf u) (store_of tag a)
   turned_true u tag advance.Counted g = tt
   turned_true u tag advance.Ended g = tt
   turned_true u tag (advance.Turned k y) g = ((λ v is. let same : y ≡ v = cc in subst (IsTrue u (clock u)) same (g k y refl)), tt)
 
-  back_true : (u : WorldState) (p : Option Progress) → ((c : Progress) (k : ℕ) (y : ViewMap) → p ≡ Some c → c.advance ≡ advance.Turned k y → IsTrue u (clock u) y) → Each (TellsOf u) (store_back p)
+  back_true : (u : WorldState) (p : Option Progress)
+      → ((c : Progress) (k : ℕ) (y : ViewMap) → p ≡ Some c → c.advance ≡ advance.Turned k y → IsTrue u (clock u) y) → Each (TellsOf u) (store_back p)
   back_true u None g = tt
   back_true u (Some p) g = turned_true u p.tag p.advance (λ k y. g p k y refl)
 
@@ -149,12 +146,14 @@ module _ (w : WorldState) (e : WorldEvent) (q : ℕ) (n : NodeState) (at : fin.g
       by_reached (is_reached (count_sender p from)) next k v z c.advance (ap (λ (x : Progress). x.advance) same) is
 
   -- what a collect stores back is true
-  reply_true : (from : ℕ) (r : ReplyFields) → Among (message_from from (CollectReply r)) w.sent → (c : Progress) (k : ℕ) (z : ViewMap) → progress_of n from (CollectReply r) ≡ Some c → c.advance ≡ advance.Turned k z → IsTrue w (clock w) z
+  reply_true : (from : ℕ) (r : ReplyFields) → Among (message_from from (CollectReply r)) w.sent → (c : Progress) (k : ℕ) (z : ViewMap)
+      → progress_of n from (CollectReply r) ≡ Some c → c.advance ≡ advance.Turned k z → IsTrue w (clock w) z
   reply_true from r sent c k z h is =
       subst (IsTrue w (clock w)) (by_query (r.to == n.id) (querying (fin.get n.sessions r.tag)) from r.tag (merge n.view r.view) (beta_threshold n) c k z h is)
       (true_merge w (clock w) n.view r.view own (t.sent (message_from from (CollectReply r)) sent r.view refl))
 
-  answers_true : (u : WorldState) (from : ℕ) (b : Body) → Among (message_from from b) w.sent → ((z : ViewMap) → IsTrue w (clock w) z → IsTrue u (clock u) z) → Each (TellsOf u) (answers n from b)
+  answers_true : (u : WorldState) (from : ℕ) (b : Body) → Among (message_from from b) w.sent
+      → ((z : ViewMap) → IsTrue w (clock w) z → IsTrue u (clock u) z) → Each (TellsOf u) (answers n from b)
   answers_true u from Enter sent lifts = ((λ v is. lifts v (subst (IsTrue w (clock w)) (some_is is) own)), tt)
     where
       some_is : {x y : ViewMap} → Some x ≡ Some y → x ≡ y

@@ -39,7 +39,8 @@ true_merge w t a b ga gb = record {
       ];
 }
 
-put_is : (v : ViewMap) (k id : ℕ) (x e : Stored) (b : Bool) → (id == k) ≡ b → cond b (Some (newer (fin.get v k) x)) (fin.get v id) ≡ Some e → (fin.get v id ≡ Some e) ⊎ ((id ≡ k) × (x ≡ e))
+put_is : (v : ViewMap) (k id : ℕ) (x e : Stored) (b : Bool) → (id == k) ≡ b → cond b (Some (newer (fin.get v k) x)) (fin.get v id) ≡ Some e
+    → (fin.get v id ≡ Some e) ⊎ ((id ≡ k) × (x ≡ e))
 put_is v k id x e false is h = inl h
 put_is v k id x e true is h =
     let same : newer (fin.get v k) x ≡ e = cc in

@@ -9,11 +9,14 @@ ghost use Rattle.sc_node.specs.Nodes.{ack_for};
 ghost use Rattle.sc_node.specs.Sessions.{ackers};
 ghost use Rattle.sc_node.specs.State.{NodeState};
 ghost use Rattle.sc_operations.specs.declared.session.Session.{Session};
-ghost use Rattle.sc_world.specs.Acts.{answered, IsReady};
+ghost use Rattle.sc_operations.specs.declared.progress.Progress.{Progress};
+ghost use Rattle.sc_world.specs.Acts.{answered, begun_in, progress_in, IsReady};
 ghost use Rattle.sc_world.specs.Ledgers.{first, has_room, recorded};
 ghost use Rattle.sc_world.specs.Operations.{IsMeeting};
 ghost use Rattle.sc_world.specs.State.{WorldState};
 ghost use Rattle.sc_world.specs.Worlds.{collects, leaves, live, live_at, start, started, stepped, took};
+ghost use Rattle.sc_world.specs.declared.act.BegunOp.{BegunOp};
+ghost use Rattle.sc_world.specs.declared.op_change.OpChange.TheVariants.{Begins, Moves};
 ghost use Rattle.sc_world.specs.declared.event.WorldEvent.{WorldEvent};
 ghost use Rattle.sc_world.specs.declared.event.WorldEvent.TheVariants as event;
 ghost use Rattle.sc_world.specs.declared.op.Op.{Op};
@@ -33,6 +36,10 @@ pub fn worked()
     ensures kept { (c : Config) (e : WorldEvent) (m : Message) → (recorded (first c (3 ∷ [])) e 3 (m ∷ []) None None).sent ≡ m ∷ [] }
     ensures room { has_room 0 1 0 2 0 1 ≡ true }
     ensures room_for_one { has_room 0 1 0 1 0 1 ≡ false }
+
+    // An event begins an operation, or moves one, and never both.
+    ensures begins { (b : BegunOp) → (begun_in (Begins b) ≡ Some b) × (progress_in (Begins b) ≡ None) }
+    ensures moves { (p : Progress) → (progress_in (Moves p) ≡ Some p) × (begun_in (Moves p) ≡ None) }
 
     // An answer to a node moves the operation that it is for.
     ensures answer { answered 3 4 (StoreAck (ack_for 3 0)) ≡ Some (0, 4) }

@@ -25,7 +25,8 @@ three_on a b c x = append_assoc a (b ++ c) x ∙ ap (λ (l : List ℕ). a ++ l) 
 
 -- ---- numbers
 
-pub number_front : (width m n : ℕ) (x y : List ℕ) → m < 256 ^ width → n < 256 ^ width → number_bytes width m ++ x ≡ number_bytes width n ++ y → (m ≡ n) × (x ≡ y)
+pub number_front : (width m n : ℕ) (x y : List ℕ) → m < 256 ^ width → n < 256 ^ width → number_bytes width m ++ x ≡ number_bytes width n ++ y
+    → (m ≡ n) × (x ≡ y)
 number_front width m n x y p q e = (
   sym (first_number-number_bytes width m x p) ∙ ap (first_number width) e ∙ first_number-number_bytes width n y q,
   (same_front (number_bytes width m) (number_bytes width n) x y width (length-number_bytes width m) (length-number_bytes width n) e).1,
@@ -48,7 +49,8 @@ number_then width n bytes rest parts = omega (arith, ap length parts, length-app
 -- ---- parts
 
 -- one value behind another
-pub pair : {A B : Type 0} (f : A → List ℕ) (g : B → List ℕ) (P : A → Type 0) (Q : B → Type 0) → IsPrefixCode f P → IsPrefixCode g Q → IsPrefixCode (λ (z : A × B). f z.0 ++ g z.1) (λ z. P z.0 × Q z.1)
+pub pair : {A B : Type 0} (f : A → List ℕ) (g : B → List ℕ) (P : A → Type 0) (Q : B → Type 0) → IsPrefixCode f P → IsPrefixCode g Q
+    → IsPrefixCode (λ (z : A × B). f z.0 ++ g z.1) (λ z. P z.0 × Q z.1)
 pair f g P Q c d = record {
   one = λ a b x y p q e.
       let k = c.one a.0 b.0 (g a.1 ++ x) (g b.1 ++ y) p.0 q.0 (sym (append_assoc (f a.0) (g a.1) x) ∙ e ∙ append_assoc (f b.0) (g b.1) y) in
@@ -57,10 +59,9 @@ pair f g P Q c d = record {
 }
 
 -- a value by its parts
-pub along : {A B : Type 0} (to : A → B) → ((a b : A) → to a ≡ to b → a ≡ b) → (f : B → List ℕ) (P : B → Type 0) → IsPrefixCode f P → IsPrefixCode (λ a. f (to a)) (λ a. P (to a))
-along to same f P c = record {
-  one = λ a b x y p q e. let k = c.one (to a) (to b) x y p q e in (same a b k.0, k.1);
-}
+pub along : {A B : Type 0} (to : A → B) → ((a b : A) → to a ≡ to b → a ≡ b) → (f : B → List ℕ) (P : B → Type 0) → IsPrefixCode f P
+    → IsPrefixCode (λ a. f (to a)) (λ a. P (to a))
+along to same f P c = record { one = λ a b x y p q e. let k = c.one (to a) (to b) x y p q e in (same a b k.0, k.1) }
 
 -- the same bytes in front of each value
 pub behind : {A : Type 0} (front : List ℕ) (f : A → List ℕ) (P : A → Type 0) → IsPrefixCode f P → IsPrefixCode (λ a. front ++ f a) P
@@ -77,14 +78,16 @@ module _ {A B : Type 0} (f : A → List ℕ) (g : B → List ℕ) (P : A → Typ
   none_first left = record { none = λ z more p e. left.none z.0 (g z.1 ++ more) p.0 (e ∙ append_assoc (f z.0) (g z.1) more) }
 
   -- where no second part begins behind the first
-  pub none_second : IsPrefixCode f P → (a : A) (rest : List ℕ) → P a → bytes ≡ f a ++ rest → BeginsNone g Q rest → BeginsNone (λ (z : A × B). f z.0 ++ g z.1) (λ z. P z.0 × Q z.1) bytes
+  pub none_second : IsPrefixCode f P → (a : A) (rest : List ℕ) → P a → bytes ≡ f a ++ rest → BeginsNone g Q rest
+      → BeginsNone (λ (z : A × B). f z.0 ++ g z.1) (λ z. P z.0 × Q z.1) bytes
   none_second code a rest legal parts left = record {
     none = λ z more p e.
         left.none z.1 more p.1 (code.one a z.0 rest (g z.1 ++ more) legal p.0 (sym parts ∙ e ∙ append_assoc (f z.0) (g z.1) more)).1;
   }
 
 -- where no parts of a value begin
-pub none_along : {A B : Type 0} (to : A → B) (f : B → List ℕ) (P : B → Type 0) (bytes : List ℕ) → BeginsNone f P bytes → BeginsNone (λ a. f (to a)) (λ a. P (to a)) bytes
+pub none_along : {A B : Type 0} (to : A → B) (f : B → List ℕ) (P : B → Type 0) (bytes : List ℕ) → BeginsNone f P bytes
+    → BeginsNone (λ a. f (to a)) (λ a. P (to a)) bytes
 none_along to f P bytes left = record { none = λ a more p e. left.none (to a) more p e }
 
 -- one part behind another, and then the rest
@@ -119,7 +122,8 @@ module _ {A : Type 0} (bytes_of : A → List ℕ) (Legal : A → Type 0) (code :
   none_left (z ∷ zs) r y none all some e = none.none z (flat_map bytes_of zs ++ y) all.0 (e ∙ spelled_on z zs y)
 
   -- where no value begins, there are no more
-  pub stops : (xs ys : List A) (r y : List ℕ) → BeginsNone bytes_of Legal r → AllByRecursion Legal xs → AllByRecursion Legal ys → length xs < length ys → flat_map bytes_of xs ++ r ≡ flat_map bytes_of ys ++ y → ⊥
+  pub stops : (xs ys : List A) (r y : List ℕ) → BeginsNone bytes_of Legal r → AllByRecursion Legal xs → AllByRecursion Legal ys
+      → length xs < length ys → flat_map bytes_of xs ++ r ≡ flat_map bytes_of ys ++ y → ⊥
   stops xs ys r y none p q lt e =
       let h = cut xs ys r y p q (omega (arith, lt)) e in
       none_left h.0 r y none h.2 (omega (arith, lt, ap length h.1, length-append xs h.0)) h.3
@@ -129,7 +133,8 @@ module _ {A : Type 0} (bytes_of : A → List ℕ) (Legal : A → Type 0) (code :
   nothing_more (z ∷ zs) xs r y none e = absurd (omega (arith, none))
 
   -- so many values are spelled once
-  pub once : (xs ys : List A) (r y : List ℕ) → AllByRecursion Legal xs → AllByRecursion Legal ys → length xs ≡ length ys → flat_map bytes_of xs ++ r ≡ flat_map bytes_of ys ++ y → (xs ≡ ys) × (r ≡ y)
+  pub once : (xs ys : List A) (r y : List ℕ) → AllByRecursion Legal xs → AllByRecursion Legal ys → length xs ≡ length ys
+      → flat_map bytes_of xs ++ r ≡ flat_map bytes_of ys ++ y → (xs ≡ ys) × (r ≡ y)
   once xs ys r y p q same e =
       let h = cut xs ys r y p q (omega (arith, same)) e in
       let n = nothing_more h.0 xs r y (omega (arith, same, ap length h.1, length-append xs h.0)) h.3 in
@@ -169,7 +174,8 @@ module _ {A : Type 0} (bytes_of : A → List ℕ) (Legal : A → Type 0) (code :
     pub read_none : (bytes : List ℕ) (count : ℕ) (rest : List ℕ) → bytes ≡ number_bytes width count ++ rest → ReadSome bytes count [] rest
     read_none bytes count rest parts = record { legal = tt; parts = parts }
 
-    pub read_more : (bytes : List ℕ) (count : ℕ) (xs : List A) (rest after : List ℕ) (x : A) → ReadSome bytes count xs rest → Legal x → rest ≡ bytes_of x ++ after → ReadSome bytes count (xs ++ x ∷ []) after
+    pub read_more : (bytes : List ℕ) (count : ℕ) (xs : List A) (rest after : List ℕ) (x : A) → ReadSome bytes count xs rest → Legal x
+        → rest ≡ bytes_of x ++ after → ReadSome bytes count (xs ++ x ∷ []) after
     read_more bytes count xs rest after x read is parts = record {
       legal = all_push Legal xs x read.legal is;
       parts = read.parts
@@ -179,7 +185,8 @@ module _ {A : Type 0} (bytes_of : A → List ℕ) (Legal : A → Type 0) (code :
           );
     }
 
-    pub read_all : (bytes : List ℕ) (count : ℕ) (xs : List A) (rest : List ℕ) → ReadSome bytes count xs rest → length xs ≡ count → bytes ≡ counted_bytes xs ++ rest
+    pub read_all : (bytes : List ℕ) (count : ℕ) (xs : List A) (rest : List ℕ) → ReadSome bytes count xs rest → length xs ≡ count
+        → bytes ≡ counted_bytes xs ++ rest
     read_all bytes count xs rest read all =
         read.parts ∙ ap (λ n. number_bytes width n ++ (flat_map bytes_of xs ++ rest)) (sym all) ∙ sym (counted_on xs rest)
 
@@ -209,7 +216,8 @@ module _ {A B C : Type 0} {first : A → B} {second : A → C} {f : B → List �
   both_on a x = append_assoc (f (first a)) (g (second a)) x
 
   -- what stands behind the first part
-  on_second : (a : A) (b : B) (bytes middle more : List ℕ) → Legal a → P b → bytes ≡ f b ++ middle → bytes ≡ bytes_of_both a ++ more → (first a ≡ b) × (g (second a) ++ more ≡ middle)
+  on_second : (a : A) (b : B) (bytes middle more : List ℕ) → Legal a → P b → bytes ≡ f b ++ middle → bytes ≡ bytes_of_both a ++ more
+      → (first a ≡ b) × (g (second a) ++ more ≡ middle)
   on_second a b bytes middle more p q front e =
       parts.front.one (first a) b (g (second a) ++ more) middle (parts.legal a p).0 q (sym (both_on a more) ∙ sym e ∙ front)
 
@@ -230,7 +238,8 @@ module _ {A B C : Type 0} {first : A → B} {second : A → C} {f : B → List �
   }
 
   -- two parts of no legal value
-  pub no_both : (b : B) (c : C) (bytes middle rest : List ℕ) → P b → Q c → bytes ≡ f b ++ middle → middle ≡ g c ++ rest → ((a : A) → Legal a → first a ≡ b → second a ≡ c → ⊥) → BeginsNone bytes_of_both Legal bytes
+  pub no_both : (b : B) (c : C) (bytes middle rest : List ℕ) → P b → Q c → bytes ≡ f b ++ middle → middle ≡ g c ++ rest
+      → ((a : A) → Legal a → first a ≡ b → second a ≡ c → ⊥) → BeginsNone bytes_of_both Legal bytes
   no_both b c bytes middle rest q r front behind apart = record {
     none = λ a more p e.
         let k = on_second a b bytes middle more p q front e in

@@ -20,7 +20,8 @@ pub record IsPlain (text : List ℕ) : Type 0 where
   pub some : 0 < length text
   pub zero : get_or text 0 0 ≡ 48 → length text ≡ 1
 
-plain_from : (c : ℕ) (cs : List ℕ) → cond (eqb c 48) (eqb (length cs) 0) (list_all is_ascii_digit (c ∷ cs)) ≡ true → (eqb c 48 ≡ true) ⊎ (eqb c 48 ≡ false) → IsPlain (c ∷ cs)
+plain_from : (c : ℕ) (cs : List ℕ) → cond (eqb c 48) (eqb (length cs) 0) (list_all is_ascii_digit (c ∷ cs)) ≡ true
+    → (eqb c 48 ≡ true) ⊎ (eqb c 48 ≡ false) → IsPlain (c ∷ cs)
 plain_from c cs e (inl h) =
     let k : eqb (length cs) 0 ≡ true = sym (cond-true (eqb c 48) _ _ h) ∙ e in
     let z : cs ≡ [] = nil_from_length cs (eqb-true (length cs) 0 k) in
@@ -31,18 +32,15 @@ plain_from c cs e (inl h) =
     }
 plain_from c cs e (inr h) =
     let k : list_all is_ascii_digit (c ∷ cs) ≡ true = sym (cond-false (eqb c 48) _ _ h) ∙ e in
-    record {
-      digits = k;
-      some = omega arith;
-      zero = λ z. let t : eqb c 48 ≡ true = eq-eqb c 48 z in absurd cc;
-    }
+    record { digits = k; some = omega arith; zero = λ z. let t : eqb c 48 ≡ true = eq-eqb c 48 z in absurd cc }
 
 pub decimal_parts : (text : List ℕ) → is_decimal text ≡ true → IsPlain text
 unfolding is_decimal
 decimal_parts [] e = let k : false ≡ true = e in absurd cc
 decimal_parts (c ∷ cs) e = plain_from c cs e (cases_Bool (eqb c 48))
 
-plain_is : (c : ℕ) (cs : List ℕ) → IsPlain (c ∷ cs) → (eqb c 48 ≡ true) ⊎ (eqb c 48 ≡ false) → cond (eqb c 48) (eqb (length cs) 0) (list_all is_ascii_digit (c ∷ cs)) ≡ true
+plain_is : (c : ℕ) (cs : List ℕ) → IsPlain (c ∷ cs) → (eqb c 48 ≡ true) ⊎ (eqb c 48 ≡ false)
+    → cond (eqb c 48) (eqb (length cs) 0) (list_all is_ascii_digit (c ∷ cs)) ≡ true
 plain_is c cs h (inl e) = cond-true (eqb c 48) _ _ e ∙ eq-eqb (length cs) 0 (let l = h.zero (eqb-true c 48 e) in omega arith)
 plain_is c cs h (inr e) = cond-false (eqb c 48) _ _ e ∙ h.digits
 

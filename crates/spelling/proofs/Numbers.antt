@@ -49,18 +49,21 @@ number_bytes-first_number width front len fits =
     subst P len (read_bytes front fits)
 
 -- a number that was read from the bytes in front
-pub number_parts : (width n : ℕ) (old front rest : List ℕ) → length front ≡ width → IsBytes front → old ≡ front ++ rest → n ≡ little_number width front → old ≡ number_bytes width n ++ rest
+pub number_parts : (width n : ℕ) (old front rest : List ℕ) → length front ≡ width → IsBytes front → old ≡ front ++ rest
+    → n ≡ little_number width front → old ≡ number_bytes width n ++ rest
 unfolding first_number
 number_parts width n old front rest len fits parts is =
     parts ∙ ap (λ (l : List ℕ). l ++ rest) (sym (ap (number_bytes width) is ∙ number_bytes-first_number width front len fits))
 
 -- and it is the first one
-pub number_first : (width n : ℕ) (old front rest : List ℕ) → length front ≡ width → old ≡ front ++ rest → n ≡ little_number width front → first_number width old ≡ n
+pub number_first : (width n : ℕ) (old front rest : List ℕ) → length front ≡ width → old ≡ front ++ rest → n ≡ little_number width front
+    → first_number width old ≡ n
 unfolding first_number
 number_first width n old front rest len parts is = ap (λ (l : List ℕ). little_from 0 width l) parts ∙ little_from-append width front rest (omega arith) ∙ sym is
 
 -- a number that stands in front is the first, and the bytes are long enough for it
-pub number_leads : (width n : ℕ) (bytes rest : List ℕ) → n < 256 ^ width → bytes ≡ number_bytes width n ++ rest → (first_number width bytes ≡ n) × (width ≤ length bytes)
+pub number_leads : (width n : ℕ) (bytes rest : List ℕ) → n < 256 ^ width → bytes ≡ number_bytes width n ++ rest
+    → (first_number width bytes ≡ n) × (width ≤ length bytes)
 number_leads width n bytes rest fits parts = (
   ap (first_number width) parts ∙ first_number-number_bytes width n rest fits,
   omega (arith, ap length parts, length-append (number_bytes width n) rest, length-number_bytes width n),

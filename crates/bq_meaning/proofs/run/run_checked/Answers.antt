@@ -1,6 +1,4 @@
--- run_checked: one record run over a record of 16 to 128 bytes, of at most `limit` steps: from the entry, where r2
--- is the record's length, until an exit, or the fault that stops it (91 to 95), or 96 where `limit` steps were done
--- without an exit.
+-- run_checked: one record run over a record of 16 to 128 bytes, of at most `limit` steps.
 use Rattle.std.proofs.Common.{◌≡◌, ◌+◌, ℕ, List, arith, ap, sym, subst}
 use Rattle.std.specs.Prelude.{Ok, Err}
 use Rattle.bq_meaning.specs.declared.fault.Fault.TheVariants.{StepsOut}

@@ -1,6 +1,4 @@
--- verify_within: the notes of a text for records of these lengths: in rising order of the units the state of each
--- is the join of what its feasible predecessors leave, that of unit 0 of the entry too, and a unit that none of
--- them reaches has none.
+-- verify_within: the notes of a text for records of these lengths.
 use Rattle.std.proofs.Common.{rules, ◌≡◌, sym, subst}
 use Rattle.bq_insn.specs.Slots.{units}
 use Rattle.bq_sound.specs.Passes.{Passes}

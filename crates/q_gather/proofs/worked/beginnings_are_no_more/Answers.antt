@@ -4,7 +4,4 @@ use Rattle.q_gather.proofs.BookHeads.{part_brief}
 use Rattle.q_gather.proofs.worked.beginnings_are_no_more.Goals as goal
 
 pub returns : goal.returns
-returns c = record {
-  brief = part_brief;
-  lost = λ books k place b m here at none hold. none (hold k place b m here at);
-}
+returns c = record { brief = part_brief; lost = λ books k place b m here at none hold. none (hold k place b m here at) }

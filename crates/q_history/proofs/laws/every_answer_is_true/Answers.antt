@@ -1,6 +1,4 @@
--- every_answer_is_true: a law: whatever the founders are, and whatever list of events is accepted, in which
--- messages are lost, repeated and reordered, nodes enter, leave and crash, and jobs are finished in any order or
--- never, each recorded answer is right.
+-- every_answer_is_true: a law: in every history each recorded answer is right.
 use Rattle.q_history.proofs.EveryHistory.{every_true}
 use Rattle.q_history.proofs.laws.every_answer_is_true.Goals as goal
 

@@ -1,6 +1,4 @@
--- every_view_is_returned: a law: in every history each view over which a query is to run, runs or ran is the one
--- that the query's own collect returned; and it holds each store that ended before the collect began and that meets
--- it.
+-- every_view_is_returned: a law: each view that a query runs over is the one that its own collect returned.
 use Rattle.q_history.proofs.EveryHistory.{every_returned}
 use Rattle.q_history.proofs.laws.every_view_is_returned.Goals as goal
 

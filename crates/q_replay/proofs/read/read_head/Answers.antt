@@ -4,7 +4,7 @@ use Rattle.std.proofs.Common.{sym, ◌∙◌, option_map}
 use Rattle.std.proofs.lemmas.Result.{err_from_is_err_and}
 use Rattle.spelling.specs.Codes.{BeginsNone}
 use Rattle.q_replay.specs.Spelling.{head_bytes, IsHead}
-use Rattle.q_replay.specs.Reading.{config_of}
+use Rattle.sc_members.specs.Members.{config_of}
 use Rattle.q_replay.proofs.Exits.{no_form, passed}
 use Rattle.q_replay.proofs.Heads.{no_format, no_id, no_config, no_founders, head_parts}
 use Rattle.q_replay.proofs.read.read_head.Goals as goal

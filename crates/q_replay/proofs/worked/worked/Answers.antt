@@ -8,7 +8,8 @@ use Rattle.q_replay.specs.declared.raw_entry.RawEntry.TheVariants.{Leave}
 use Rattle.q_replay.proofs.Fronts.{head_front}
 use Rattle.q_replay.proofs.worked.worked.Goals as goal
 
-none_before : (version : Version) (events : List RawEntry) (bytes rest : List ℕ) → 0 ≡ length events → bytes ≡ flat_map (event_bytes version) events ++ rest → rest ≡ bytes
+none_before : (version : Version) (events : List RawEntry) (bytes rest : List ℕ) → 0 ≡ length events
+    → bytes ≡ flat_map (event_bytes version) events ++ rest → rest ≡ bytes
 none_before version [] bytes rest many is = sym is
 none_before version (w ∷ ws) bytes rest many is = absurd (omega (arith, many))
 

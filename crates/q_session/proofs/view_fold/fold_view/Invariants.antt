@@ -9,7 +9,8 @@ use Rattle.q_session.proofs.view_fold.fold_view.Given as goal
 
 abbrev pub invariant-loop-entries : goal.invariant-loop-entries
 invariant-loop-entries l = record {
-  folds : (p : Place) → IsPlacement p → FoldsTo p l.certified.text (map record_bytes (joined (take l.k l.chunks))) l.start zero_frame l.ran.acc l.ran.steps (take 512 l.block);
+  folds : (p : Place) → IsPlacement p
+      → FoldsTo p l.certified.text (map record_bytes (joined (take l.k l.chunks))) l.start zero_frame l.ran.acc l.ran.steps (take 512 l.block);
   within : l.ran.steps ≤ l.certified.longest * length (joined (take l.k l.chunks));
 }
 

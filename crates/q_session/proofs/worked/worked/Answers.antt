@@ -12,7 +12,8 @@ use Rattle.q_session.proofs.worked.worked.Goals as goal
 placed : IsPlacement (record { frame = 0; «record» = 512 })
 placed = search rules
 
-over_none : (p : Certificate) (v : ViewMap) (ran : Ran) → view_records v ≡ [] → IsRight p v 7 ran → Folds (record { frame = 0; «record» = 512 }) p.text [] 7 zero_frame ran.acc ran.steps
+over_none : (p : Certificate) (v : ViewMap) (ran : Ran) → view_records v ≡ [] → IsRight p v 7 ran
+    → Folds (record { frame = 0; «record» = 512 }) p.text [] 7 zero_frame ran.acc ran.steps
 over_none p v ran none right =
     subst (λ (records : List (List ℕ)). Folds (record { frame = 0; «record» = 512 }) p.text records 7 zero_frame ran.acc ran.steps) none (right.meant _ placed)
 

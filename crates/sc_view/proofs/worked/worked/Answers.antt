@@ -18,13 +18,15 @@ use Rattle.sc_view.proofs.worked.worked.Goals as goal
 abbrev one : Stored → List (ℕ × Stored)
 one e = (7, e) ∷ []
 
-put_at : (es : List (ℕ × Stored)) (id : ℕ) (e : Stored) (q : ℕ) → fin.get (put (fin.from_entries es) id e) q ≡ cond (q == id) (Some (newer (find nat_cmp id es) e)) (find nat_cmp q es)
+put_at : (es : List (ℕ × Stored)) (id : ℕ) (e : Stored) (q : ℕ)
+    → fin.get (put (fin.from_entries es) id e) q ≡ cond (q == id) (Some (newer (find nat_cmp id es) e)) (find nat_cmp q es)
 put_at es id e q =
     get-put (fin.from_entries es) id e q
     ∙ ap (λ (o : Option Stored). cond (q == id) (Some (newer o e)) (fin.get (fin.from_entries {R = nat_cmp} es) q)) (get_rising es id)
     ∙ ap (λ (o : Option Stored). cond (q == id) (Some (newer (find nat_cmp id es) e)) o) (get_rising es q)
 
-len_at : (es : List (ℕ × Stored)) (id : ℕ) (e : Stored) → Rises es → fin.len (put (fin.from_entries es) id e) ≡ cond (is_some (find nat_cmp id es)) (length es) (length es + 1)
+len_at : (es : List (ℕ × Stored)) (id : ℕ) (e : Stored) → Rises es
+    → fin.len (put (fin.from_entries es) id e) ≡ cond (is_some (find nat_cmp id es)) (length es) (length es + 1)
 len_at es id e r =
     len-put (fin.from_entries es) id e
     ∙ ap (λ (o : Option Stored). cond (is_some o) (fin.len (fin.from_entries {R = nat_cmp} es)) (fin.len (fin.from_entries {R = nat_cmp} es) + 1)) (get_rising es id)
@@ -39,7 +41,8 @@ merge_at es fs q =
 number_of_7 : (e : Stored) → number_at (view_of_7 e) 7 ≡ e.number
 number_of_7 e = ap number_of (get_rising (one e) 7)
 
-values_of : (l : Lengths) (es : List (ℕ × Stored)) → Rises es → list_all (λ (e : ℕ × Stored). is_within (length e.1.value) l) (fin.entries (fin.from_entries {R = nat_cmp} es)) ≡ list_all (λ (e : ℕ × Stored). is_within (length e.1.value) l) es
+values_of : (l : Lengths) (es : List (ℕ × Stored)) → Rises es
+    → list_all (λ (e : ℕ × Stored). is_within (length e.1.value) l) (fin.entries (fin.from_entries {R = nat_cmp} es)) ≡ list_all (λ (e : ℕ × Stored). is_within (length e.1.value) l) es
 values_of l es r = ap (λ (es : List (ℕ × Stored)). list_all (λ (e : ℕ × Stored). is_within (length e.1.value) l) es) (entries_rising es r)
 
 pub returns-clause-numbers_from_1 : goal.returns-clause-numbers_from_1

@@ -1,6 +1,4 @@
--- regular: a law: whatever the founders are, and whatever list of events was accepted, in which messages are lost,
--- repeated and reordered and nodes enter, leave and crash, the world that they lead to is regular, and the records
--- of its operations are true.
+-- regular: a law: the world that any accepted list of events leads to is regular, and its records are true.
 use Rattle.sc_world.proofs.EveryHistory.{every_lawful, lawful_regular, lawful_ends, lawful_told}
 use Rattle.sc_world.proofs.laws.regular.Goals as goal
 

@@ -1,6 +1,4 @@
--- Certified::is_safe: from every accumulator, record of one of these lengths and frame a record run of the text
--- ends within the longest path, with no fault, and with one answer and one frame that are the same at every
--- placement.
+-- Certified::is_safe: a record run from any accumulator, record of these lengths and frame ends without a fault.
 use Rattle.std.proofs.Common.{ℕ, subst}
 use Rattle.bq_range.specs.Interval.{IsIn}
 use Rattle.bq_sound.specs.Safe.{IsSafe}

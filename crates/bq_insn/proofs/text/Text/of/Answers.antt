@@ -1,6 +1,4 @@
--- Text::of: the text of these instructions, in their order: 1 BadLength where there are none, 2 TooLong where they
--- have more than 4,096 units, and no other fault, since each instruction has a spelling. 99 OutOfMemory may stand
--- in place of a text alone: 1 and 2 take no memory.
+-- Text::of: the text of these instructions, in their order: 1 BadLength, 2 TooLong, or 99 in place of a text.
 use Rattle.std.proofs.Common.{◌≤◌, length, ap, arith, rules}
 use Rattle.bq_insn.proofs.Listed.{same_insns, listed_text, listed_slots, length-units}
 use Rattle.bq_insn.proofs.text.Text.of.Goals as goal

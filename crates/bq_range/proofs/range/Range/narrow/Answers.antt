@@ -22,7 +22,8 @@ ranges c =
     }
 
 -- what was found is what the edge leaves
-found : (c : goal.After-by_opposite) → by_opposite (bits_of c.args.width) c.args.relation (opposite c.args.relation) c.args.taken c.args.a c.args.b ≡ c.by_opposite.result
+found : (c : goal.After-by_opposite)
+    → by_opposite (bits_of c.args.width) c.args.relation (opposite c.args.relation) c.args.taken c.args.a c.args.b ≡ c.by_opposite.result
 found c = sym (c.by_opposite.ensures ∙ ap (λ (o : Option Relation). by_opposite (bits_of c.args.width) c.args.relation o c.args.taken c.args.a c.args.b) c.opposite.ensures)
 
 pub returns-then-b-top-clause-covers : goal.returns-then-b-top-clause-covers

@@ -1,7 +1,6 @@
 -- AskerSeat::held: the slot at a place of the row, where a job is open there.
-use Rattle.std.proofs.Common.{◌≡◌, ◌<◌, sym, ap, arith, subst}
+use Rattle.std.proofs.Common.{◌≡◌, ◌<◌, sym, ap, arith, subst, Some, None}
 use Rattle.q_board.specs.Calls.{is_at}
-use Rattle.std.proofs.Common.{Some, None}
 use Rattle.q_session.specs.declared.job.Job.{Job}
 use Rattle.q_board.specs.AskerModel.{AskerModel}
 use Rattle.q_board.specs.Places.{times}

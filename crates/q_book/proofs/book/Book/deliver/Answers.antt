@@ -31,7 +31,8 @@ take-requires c =
     subst (λ (l : Interval). IfSome c.in_ok-delivered.delivered.ended (EndsWithin l)) lengths (ends_within c.records_of_values.ensures (value_lengths b.version) c.in_ok-delivered.delivered.ended kept.1.ended)
 
 -- what the book makes of the message
-is : (c : goal.After-take) → delivered (book.the_view c.self.inside) c.args.message.now ≡ Ok (delivers_call (book.the_view c.self.inside) c.in_ok-delivered.delivered c.deliver.new.self c.deliver.new.node)
+is : (c : goal.After-take)
+    → delivered (book.the_view c.self.inside) c.args.message.now ≡ Ok (delivers_call (book.the_view c.self.inside) c.in_ok-delivered.delivered c.deliver.new.self c.deliver.new.node)
 is c =
     let b : BookState = book.the_view c.self.inside in
     let m = c.args.message.now in

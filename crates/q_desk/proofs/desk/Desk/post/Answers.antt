@@ -34,7 +34,8 @@ sound c =
     subst (λ (j : Job). IsRight j.certified j.view j.start c.ran-ran.result) (sym c.job-job.ensures.job)
     (subst (λ (r : Ran). IsRight job.certified job.view job.start r) (sym c.ran-ran.ensures) c.job-job.ensures.right)
 
-after : (c : goal.After-append) → c.record_answer.new.queries.items ≡ with_phase c.self.inside.queries.items c.job-job.result.now.query (Answered (runs c).view c.ran-ran.result)
+after : (c : goal.After-append)
+    → c.record_answer.new.queries.items ≡ with_phase c.self.inside.queries.items c.job-job.result.now.query (Answered (runs c).view c.ran-ran.result)
 after c =
     c.record_answer.ensures (runs c).query (runs c).view (ap (λ (k : ℕ). slice_get c.self.inside.queries.items k) c.query-query.ensures ∙ (runs c).at) (runs c).phase
     ∙ ap (λ (k : ℕ). with_phase c.self.inside.queries.items k (Answered (runs c).view c.ran-ran.result)) c.query-query.ensures

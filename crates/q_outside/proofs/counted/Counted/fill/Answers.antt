@@ -1,10 +1,9 @@
 -- Counted::fill: reads until the buffer is full or the input ends, and gives how many bytes came.
-use Rattle.std.proofs.Common.{◌+◌, ◌-◌, ◌++◌, rules, arith, length, take, ap, ◌∙◌, subst, le_refl}
+use Rattle.std.proofs.Common.{◌+◌, ◌-◌, ◌++◌, rules, arith, length, take, ap, ◌∙◌, subst, le_refl, sym}
 use Rattle.std.proofs.lemmas.Slice.{take-put_mid_below}
 use Rattle.std.specs.Io.KnownBytes.{Consumes}
 use Rattle.std.proofs.KnownBytes.{Consumes-trans}
 use borrow.Rule.Slice.PartMut.{put_mid}
-use Rattle.std.proofs.Common.{sym}
 use Rattle.q_outside.proofs.Parts.{take_split, slice_range-put_mid}
 use Rattle.q_outside.proofs.counted.Counted.fill.Goals as goal
 

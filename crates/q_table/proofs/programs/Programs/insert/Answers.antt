@@ -18,7 +18,8 @@ returns-then-id-ge-MOST_PROGRAMS c =
     let count = count-is c.self.inside.by_text.entries c.args.self.now c.self.view_is in
     (refl, λ _. registered-full c.args.self.now c.args.encoded id (omega (arith, c.len-id.ensures.len)))
 
-grows : (c : goal.Joined-insert-2) → (id_of c.args.self.now c.args.encoded.text ≡ None) × (c.len-id.result ≡ length c.args.self.now) × HasGrown c.args.self.now c.args.encoded c.insert.new.self.entries
+grows : (c : goal.Joined-insert-2)
+    → (id_of c.args.self.now c.args.encoded.text ≡ None) × (c.len-id.result ≡ length c.args.self.now) × HasGrown c.args.self.now c.args.encoded c.insert.new.self.entries
 grows c =
     let text = ap (λ x. x.text) c.encoded.view_is in
     let id = found-is c.self.inside.by_text.entries c.args.self.now _ _ c.args.encoded.text _ c.self.view_is c.self.invariant.1 c.encoded.invariant text c.in_default.ensures.index in

@@ -10,12 +10,14 @@ use Rattle.sc_node.specs.Nodes.{fitting, opening, store_begun, stored_view}
 use Rattle.sc_node.proofs.node.Node.begin_store.Goals as goal
 
 -- a test that does not hold refuses whatever follows
-refuses_at : {A B E : Type 0} (b : Bool) (e f : E) (r : Result A E) (s : Result B E) → (r ≡ Err e → s ≡ Err e) → (let x : Result A E = Err e in x) ≡ cond b r (Err f) → cond b s (Err f) ≡ Err e
+refuses_at : {A B E : Type 0} (b : Bool) (e f : E) (r : Result A E) (s : Result B E) → (r ≡ Err e → s ≡ Err e)
+    → (let x : Result A E = Err e in x) ≡ cond b r (Err f) → cond b s (Err f) ≡ Err e
 refuses_at true e f r s later h = later (sym h)
 refuses_at {A} {B} {E} false e f r s later h = ap (λ (x : E). let y : Result B E = Err x in y) (sym (same_fault e f h))
 
 -- tests that refuse a call refuse each that makes them first
-refuses : {A B E : Type 0} (ts us : Tests E) (value : A) (e : E) (rest : Result B E) → (let r : Result A E = Err e in r) ≡ tested ts (Ok value) → tested (ts ++ us) rest ≡ Err e
+refuses : {A B E : Type 0} (ts us : Tests E) (value : A) (e : E) (rest : Result B E) → (let r : Result A E = Err e in r) ≡ tested ts (Ok value)
+    → tested (ts ++ us) rest ≡ Err e
 refuses [] us value e rest h = absurd (no_refusal e value h)
 refuses (t ∷ ts) us value e rest h = refuses_at t.0 e t.1 (tested ts (Ok value)) (tested (ts ++ us) rest) (λ k. refuses ts us value e rest (sym k)) h
 

@@ -12,13 +12,17 @@ use Rattle.sc_view.proofs.ViewLemmas.{put_valid, not_learned, known_len}
 use Rattle.sc_view.proofs.view.View.put.Goals as goal
 
 -- what is read of the view is read of its entries
-same_news : (id : ℕ) (x : Stored) (es : List (ℕ × Stored)) (v : ViewMap) (known : Option Stored) → fin.from_entries es ≡ v → known ≡ fin.get v id → is_newer known x ≡ true → is_newer (fin.get (fin.from_entries {R = nat_cmp} es) id) x ≡ true
+same_news : (id : ℕ) (x : Stored) (es : List (ℕ × Stored)) (v : ViewMap) (known : Option Stored) → fin.from_entries es ≡ v → known ≡ fin.get v id
+    → is_newer known x ≡ true → is_newer (fin.get (fin.from_entries {R = nat_cmp} es) id) x ≡ true
 same_news id x es v known is read new = ap (λ (m : ViewMap). is_newer (fin.get m id) x) is ∙ ap (λ o. is_newer o x) (sym read) ∙ new
 
-counted : (id : ℕ) (x : Stored) (es : List (ℕ × Stored)) (v : ViewMap) (n : ℕ) → fin.from_entries es ≡ v → Rises es → is_newer (fin.get (fin.from_entries {R = nat_cmp} es) id) x ≡ true → n ≡ fin.len (put v id x) → length (list.put nat_cmp id x es) ≡ n
+counted : (id : ℕ) (x : Stored) (es : List (ℕ × Stored)) (v : ViewMap) (n : ℕ) → fin.from_entries es ≡ v → Rises es
+    → is_newer (fin.get (fin.from_entries {R = nat_cmp} es) id) x ≡ true → n ≡ fin.len (put v id x) → length (list.put nat_cmp id x es) ≡ n
 counted id x es v n is r new count = put_length id x es r new ∙ ap (λ (m : ViewMap). fin.len (put m id x)) is ∙ sym count
 
-made : (id : ℕ) (x : Stored) (es fs : List (ℕ × Stored)) (v : ViewMap) → fin.from_entries es ≡ v → is_newer (fin.get (fin.from_entries {R = nat_cmp} es) id) x ≡ true → fs ≡ list.put nat_cmp id x es → fin.from_entries {R = nat_cmp} fs ≡ put v id x
+made : (id : ℕ) (x : Stored) (es fs : List (ℕ × Stored)) (v : ViewMap) → fin.from_entries es ≡ v
+    → is_newer (fin.get (fin.from_entries {R = nat_cmp} es) id) x ≡ true → fs ≡ list.put nat_cmp id x es
+    → fin.from_entries {R = nat_cmp} fs ≡ put v id x
 made id x es fs v is new wrote = ap (λ (gs : List (ℕ × Stored)). fin.from_entries {R = nat_cmp} gs) wrote ∙ learned_in id x es new ∙ ap (λ (m : ViewMap). put m id x) is
 
 pub put_entry-requires-clause-room : goal.put_entry-requires-clause-room

@@ -1,8 +1,8 @@
--- Fraction::read: a fraction as `4/5`.
+-- fraction: a fraction as `4/5`.
 use Rattle.q_script.specs.Founding.{SpellsFraction}
 use Rattle.q_script.proofs.Pairs.{reads_none}
 use Rattle.q_script.proofs.Foundings.{no_fraction}
-use Rattle.q_script.proofs.founding.Fraction.read.Goals as goal
+use Rattle.q_script.proofs.founding.fraction.Goals as goal
 
 pub returns-in_err-numerator : goal.returns-in_err-numerator
 returns-in_err-numerator c = reads_none SpellsFraction c.args.text.now _ c.from_residual.ensures (no_fraction c.args.text.now c.in_err-numerator.ensures)
