@@ -1,6 +1,6 @@
 //! Scripts, run over a cluster in memory.
 
-ghost use Rattle.std.specs.Prelude.{◌≡◌, ◌≢◌, ℕ, ◌<◌, ◌≤◌, ◌↔◌, ◌++◌, ◌+◌, ◌^◌, [], length, min, None, IfOk, IfErr, OnOk, OnErr, IsTrue, IsFalse, MatchResult, string_bytes};
+ghost use Rattle.std.specs.Prelude.{◌≡◌, ◌≢◌, ℕ, ◌<◌, ◌≤◌, ◌↔◌, ◌++◌, ◌+◌, ◌^◌, [], length, min, None, IfOk, IfErr, OnOk, OnErr, IsTrue, IsFalse, string_bytes};
 ghost use Rattle.q_sim.specs.Simulates.{IsSimulationFault, Rises, Simulates, TellsFaults, event_of, first_ids, with_id};
 ghost use Rattle.q_sim.specs.Awaited.{AwaitsFrom};
 
