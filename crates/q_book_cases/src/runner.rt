@@ -21,7 +21,7 @@ pub struct Runner<'b> {
 }
 
 /// A seat of the board, with a block.
-fn at(board: &Board, seat: RunnerSeat, block: Block) -> Runner<'_>
+pub fn at(board: &Board, seat: RunnerSeat, block: Block) -> Runner<'_>
     requires { seat.table ≡ board_id board.now }
 {
     Runner { board, seat, block }
