@@ -8,7 +8,7 @@
 //! | `pump` | two queries of such a node, whose jobs go over a board to a runner in the same thread |
 //! | `runners` | the same while two runners run in threads of their own |
 //!
-//! A line of the input runs a part; so does the program's first word, and then nothing else is run. Nothing here refuses
+//! A line of the input runs a part; so does the program's first word, and then nothing else runs. Nothing here refuses
 //! memory: `./refuse` at the top runs each part by its word under a C library that refuses one request for memory, each
 //! in turn, and compares what each prints.
 //!

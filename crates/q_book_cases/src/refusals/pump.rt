@@ -7,7 +7,7 @@ use crate::asker::{Asker, last_asker};
 use crate::founder::Founder;
 use crate::refusals::again::again;
 use crate::refusals::alone::{begin, end, found};
-use crate::runner::at;
+use crate::runner::runner_at;
 use crate::step::StepOutcome;
 use bq_frame::Block;
 use q_board::{Board, OpenFault, RunnerSeat};
@@ -27,7 +27,7 @@ fn run_round(rt: &HostRuntime, board: &Board, mut seats: Vec<RunnerSeat>) -> Opt
 {
     let block = again!(rt, Block::new(rt.alloc())).ok()?;
     match seats.pop() {
-        Some(seat) => Some(at(board, seat, block).run()),
+        Some(seat) => Some(runner_at(board, seat, block).run()),
         None => None,
     }
 }
