@@ -5,7 +5,7 @@ ghost use Rattle.q_board.specs.BoardId.{board_id};
 
 use crate::step::StepOutcome;
 use q_board::{AskerSeat, Board, ROW, pump_once};
-use q_book::Book;
+use q_book::{Book, BookFault};
 use q_session::{Done, Job};
 use std::alloc::Global;
 
@@ -22,6 +22,16 @@ fn at(board: &Board, seat: AskerSeat) -> Asker<'_>
     requires { seat.table ≡ board_id board.now }
 {
     Asker { board, seat }
+}
+
+/// The last of these seats of a board; none where there is none.
+pub fn last_asker(board: &Board, mut seats: Vec<AskerSeat>) -> Option<Asker<'_>>
+    requires { All (λ s. s.table ≡ board_id board.now) seats.items }
+{
+    match seats.pop() {
+        Some(seat) => Some(at(board, seat)),
+        None => None,
+    }
 }
 
 /// These seats of a board; none where there is no memory.
@@ -46,9 +56,14 @@ fn post(book: &mut Book, done: &Done) -> StepOutcome {
 }
 
 impl Asker<'_> {
-    /// How many results the pump records, or with which number it is refused.
-    pub fn pump(&mut self, book: &mut Book) -> StepOutcome {
-        match pump_once(self.board, &mut self.seat, book) {
+    /// Carries results into the book, and jobs out of it: how many results were posted.
+    pub fn pump(&mut self, book: &mut Book) -> Result<u32, BookFault> {
+        pump_once(self.board, &mut self.seat, book)
+    }
+
+    /// The same as a step.
+    fn pump_step(&mut self, book: &mut Book) -> StepOutcome {
+        match self.pump(book) {
             Ok(posted) => StepOutcome::Count(posted.into()),
             Err(reason) => StepOutcome::Refused(reason.number()),
         }
@@ -96,7 +111,7 @@ impl Asker<'_> {
     /// Does a step of the asker.
     pub fn step(&mut self, book: &mut Book, word: &str, place: usize) -> StepOutcome {
         match word {
-            "pump" => self.pump(book),
+            "pump" => self.pump_step(book),
             "offer" => self.offer(book),
             _ => self.receive(book, place),
         }

@@ -3,7 +3,7 @@
 ghost use Rattle.std.specs.Prelude.{◌≡◌, All};
 ghost use Rattle.q_board.specs.BoardId.{board_id};
 
-use crate::asker::{Asker, askers};
+use crate::asker::{Asker, last_asker};
 use crate::founder::{Founder, Served};
 use crate::gate::holds_none_up;
 use crate::many::right_answers;
@@ -26,7 +26,7 @@ use std::time::Clock;
 pub struct Cases<'b> {
     alloc: Global,
     founder: Option<Box<Founder>>,
-    askers: Vec<Asker<'b>>,
+    asker: Asker<'b>,
     runners: Vec<Runner<'b>>,
     input: Vec<u8>,
     read_limit: Option<usize>,
@@ -67,13 +67,13 @@ pub fn seated(
     requires runners { All (λ s. s.table ≡ board_id board.now) runner_seats.items }
 {
     match (
-        askers(alloc, board, seats),
+        last_asker(board, seats),
         runners(alloc, board, runner_seats),
     ) {
-        (Some(askers), Some(runners)) => Some(Cases {
+        (Some(asker), Some(runners)) => Some(Cases {
             alloc,
             founder: None,
-            askers,
+            asker,
             runners,
             input: Vec::new(alloc),
             read_limit: None,
@@ -94,12 +94,12 @@ impl Cases<'_> {
         let (word, rest) = text.split_once(' ').unwrap_or((text, ""));
         match word {
             "--" => {
-                self.founder = Founder::new(self.alloc);
+                self.founder = Founder::new(self.alloc).ok();
                 self.input.clear();
                 writeln!(out, "{text}")
             }
             "old" => {
-                self.founder = Founder::of(self.alloc, Version::First);
+                self.founder = Founder::of(self.alloc, Version::First).ok();
                 Ok(())
             }
             "+" => self.add(1, rest),
@@ -151,9 +151,9 @@ impl Cases<'_> {
 
     /// Does a step of the asker.
     fn asker_step(&mut self, word: &str, place: u64) -> StepOutcome {
-        match (&mut self.founder, self.askers.first_mut()) {
-            (Some(founder), Some(asker)) => asker.step(&mut founder.book, word, place as usize),
-            _ => StepOutcome::Nothing,
+        match &mut self.founder {
+            Some(founder) => self.asker.step(&mut founder.book, word, place as usize),
+            None => StepOutcome::Nothing,
         }
     }
 
@@ -191,7 +191,7 @@ impl Cases<'_> {
     fn serve_input<R: Wait, W: Write>(&mut self, rt: &R, out: &mut W) -> io::Result<()> {
         let (reads, writes) = (self.read_limit.take(), self.write_limit.take());
         let served = match &mut self.founder {
-            Some(founder) => founder.serve(rt, self.input.as_slice(), reads, writes),
+            Some(founder) => founder.serve(rt, self.input.as_slice(), reads, writes).ok(),
             None => None,
         };
         self.input.clear();

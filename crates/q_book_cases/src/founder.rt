@@ -3,14 +3,14 @@
 use crate::step::StepOutcome;
 use crate::stream::{Input, Output};
 use bq_frame::Block;
-use q_book::Book;
+use q_book::{Asked, Book, BookFault, Delivery};
 use q_net::serve;
 use q_outside::Counted;
-use q_session::{Done, Job, Ran};
+use q_session::{Done, Ran};
 use q_table::ProgramId;
 use sc_members::Config;
 use sc_msg::{Message, Version};
-use std::alloc::Global;
+use std::alloc::{AllocError, Global};
 use std::sync::Wait;
 
 /// How many deliveries or answers a book is given to settle.
@@ -23,7 +23,7 @@ pub struct Founder {
     pub alloc: Global,
     pub book: Book,
     block: Block,
-    sent: Vec<Message>,
+    pub sent: Vec<Message>,
 }
 
 /// What came of requests that were served.
@@ -38,63 +38,26 @@ pub struct Served {
     pub messages: usize,
 }
 
-/// A founder of this version that is alone, before any call.
-fn founded(alloc: Global, version: Version) -> Option<Box<Founder>> {
-    let block = Block::new(alloc).ok()?;
-    let book = Book::founder_as(alloc, version, Config::default(), 1, &[1]).ok()?;
-    let sent = Vec::new(alloc);
-    let founder = Founder {
-        alloc,
-        book,
-        block,
-        sent,
-    };
-    Box::new(alloc, founder).ok()
-}
-
-/// The job of the next ready query; tried twice.
-fn hand_out(book: &mut Book) -> Option<Job> {
-    match book.hand_out() {
-        Ok(job) => job,
-        Err(_) => book.hand_out().unwrap_or(None),
-    }
-}
-
-/// The book hears a message; tried twice. Whether it took it.
-fn hear(book: &mut Book, sent: &mut Vec<Message>, message: &Message) -> bool {
-    for _ in 0..2 {
-        if sent.reserve(2).is_ok() {
-            if let Ok(taken) = book.deliver(message) {
-                taken.outs.append_to(sent);
-                return true;
-            }
-        }
-    }
-    false
-}
-
-impl Served {
-    /// Whether these are the replies.
-    pub fn is(&self, replies: &[u8]) -> bool {
-        self.replies.as_slice() == replies
-    }
-}
-
 impl Founder {
-    /// A founder that is alone, before any call; none where there is no memory. Tried twice, as memory may be refused.
-    pub fn new(alloc: Global) -> Option<Box<Founder>> {
+    /// A founder that is alone, before any call. The one error is that there is no memory.
+    pub fn new(alloc: Global) -> Result<Box<Founder>, BookFault> {
         Founder::of(alloc, Version::Second)
     }
 
     /// The same of this version.
-    pub fn of(alloc: Global, version: Version) -> Option<Box<Founder>> {
-        match founded(alloc, version) {
-            Some(founder) => Some(founder),
-            None => founded(alloc, version),
-        }
+    pub fn of(alloc: Global, version: Version) -> Result<Box<Founder>, BookFault> {
+        let block = Block::new(alloc)?;
+        let book = Book::founder_as(alloc, version, Config::default(), 1, &[1])?;
+        let founder = Founder {
+            alloc,
+            book,
+            block,
+            sent: Vec::new(alloc),
+        };
+        Ok(Box::new(alloc, founder)?)
     }
 
-    /// Serves requests, where a read fails once so many bytes were read, or a write once so many were written. None
+    /// Serves requests, where a read fails once so many bytes were read, or a write once so many were written. Refused
     /// where there is no memory for the replies.
     pub fn serve<R: Wait>(
         &mut self,
@@ -102,7 +65,7 @@ impl Founder {
         requests: &[u8],
         read_limit: Option<usize>,
         write_limit: Option<usize>,
-    ) -> Option<Served> {
+    ) -> Result<Served, AllocError> {
         let before = self.sent.len();
         let mut input = Counted::new(Input::new(requests, read_limit));
         let mut out = Counted::new(Output::new(self.alloc, write_limit)?);
@@ -114,7 +77,7 @@ impl Founder {
             &mut out,
             &mut self.sent,
         );
-        Some(Served {
+        Ok(Served {
             has_ended: ended.is_ok(),
             failed_reads: input.failures(),
             failed_writes: out.failures(),
@@ -123,10 +86,18 @@ impl Founder {
         })
     }
 
+    /// Hears a message. What it gives waits.
+    pub fn hear(&mut self, message: &Message) -> Result<(), BookFault> {
+        self.sent.reserve(2)?;
+        let Delivery { outs, .. } = self.book.deliver(message)?;
+        outs.append_to(&mut self.sent);
+        Ok(())
+    }
+
     /// Hears the next of what the book gave. Whether the book took it; none where there is nothing.
     fn hear_next(&mut self) -> Option<bool> {
         let message = self.sent.pop()?;
-        Some(hear(&mut self.book, &mut self.sent, &message))
+        Some(self.hear(&message).is_ok())
     }
 
     /// Hears what the book gave until it gives nothing more. Whether the book took all.
@@ -141,21 +112,24 @@ impl Founder {
         false
     }
 
-    /// Runs the job of the next ready query. Whether its answer was recorded; none where there is no job.
-    fn answer_next(&mut self) -> Option<bool> {
-        let job = hand_out(&mut self.book)?;
-        let done = Done::run(job, &mut self.block);
-        Some(self.book.post(&done).is_ok())
+    /// Runs the job of the next ready query, and records its answer. Whether there was one.
+    pub fn run_job(&mut self) -> Result<bool, BookFault> {
+        match self.book.hand_out()? {
+            Some(job) => {
+                self.book.post(&Done::run(job, &mut self.block))?;
+                Ok(true)
+            }
+            None => Ok(false),
+        }
     }
 
     /// Runs the job of each ready query, and records its answer: how many.
-    pub fn answer(&mut self) -> u64 {
+    fn answer(&mut self) -> u64 {
         let mut answered: u64 = 0;
         for _ in 0..MOST_TURNS {
-            match self.answer_next() {
-                Some(true) => answered = answered.saturating_add(1),
-                Some(false) => {}
-                None => return answered,
+            match self.run_job() {
+                Ok(true) => answered = answered.saturating_add(1),
+                Ok(false) | Err(_) => return answered,
             }
         }
         answered
@@ -189,18 +163,17 @@ impl Founder {
         }
     }
 
-    /// Asks the first program from a start value, and hears what the book gives. Whether that ends the collect.
-    pub fn ask(&mut self, start: u64) -> bool {
-        if self.sent.reserve(2).is_err() {
-            return false;
-        }
-        match self.book.ask(ProgramId::new(0), start) {
-            Ok(asked) => {
-                asked.begun.outs.append_to(&mut self.sent);
-                self.settle()
-            }
-            Err(_) => false,
-        }
+    /// Asks the first program from a start value: the query. What the book gives waits.
+    pub fn ask(&mut self, start: u64) -> Result<usize, BookFault> {
+        self.sent.reserve(2)?;
+        let Asked { query, begun } = self.book.ask(ProgramId::new(0), start)?;
+        begun.outs.append_to(&mut self.sent);
+        Ok(query)
+    }
+
+    /// The same, and hears what the book gives. Whether that ends the collect.
+    pub fn collect(&mut self, start: u64) -> bool {
+        self.ask(start).is_ok() && self.settle()
     }
 
     /// How many of the first queries have the right answer. Query number n was asked from n, and counted one record in

@@ -70,7 +70,7 @@ fn pump_until_answered<R: Clock>(
     looks: u64,
 ) -> bool {
     for _ in 0..looks {
-        if !asker.pump(&mut founder.book).is_count() {
+        if asker.pump(&mut founder.book).is_err() {
             return false;
         }
         if founder.answer_of(query).is_some() {
@@ -90,12 +90,12 @@ fn ask_three<R: Clock>(
     signs: &Signs,
 ) -> bool {
     let looks = signs.looks;
-    let is_held = founder.ask(0)
+    let is_held = founder.collect(0)
         && pump_until_answered(rt, asker, founder, 0, looks)
-        && founder.ask(1)
-        && asker.pump(&mut founder.book).is_count()
+        && founder.collect(1)
+        && asker.pump(&mut founder.book).is_ok()
         && wait_for(rt, &signs.began, looks);
-    if !(is_held && founder.ask(2) && pump_until_answered(rt, asker, founder, 2, looks)) {
+    if !(is_held && founder.collect(2) && pump_until_answered(rt, asker, founder, 2, looks)) {
         return false;
     }
     signs.answered.store(true, SeqCst);

@@ -1,5 +1,5 @@
 //! Cases of a book whose node is a founder that is alone: requests of clients, and the job board, with runners in its
-//! thread, and with many of both in threads.
+//! thread, and with many of both in threads; and parts whose calls are made again where memory is refused.
 //!
 //! - `-- TEXT`: is printed as it stands, and begins with a fresh book.
 //! - `old`: begins with a fresh book of version 1.
@@ -9,6 +9,7 @@
 //!   or of the replies written.
 //! - `serve`: serves the input, which is empty then, and prints the replies as hexadecimal digits, how it ended, the
 //!   calls of the reader and of the writer that failed, and how many messages the book gave.
+//! - `part NAME`: runs a part of `src/refusals.rt`, which prints its own lines.
 //!
 //! Any other line is a step, and is printed with what it comes to:
 //!
@@ -34,8 +35,7 @@
 //! seat or a book is proved in its crate, for every schedule. Here threads run: that jobs get done at all is said by no
 //! proof. What is printed is the same under every schedule.
 //!
-//! Before the first line it is tried whether requests are answered where memory is refused: with any one of its
-//! allocations refused, the same is printed.
+//! Where the program has a word, it runs the part of that name alone and reads no input, as `./refuse` has it do.
 #![tactic(auto)]
 
 mod asker;
@@ -44,6 +44,7 @@ mod founder;
 mod gate;
 mod many;
 mod muster;
+mod refusals;
 mod requests;
 mod runner;
 mod step;
@@ -51,40 +52,56 @@ mod stream;
 mod trial;
 
 use crate::cases::{Cases, seated};
-use crate::requests::want_of_memory_is_answered;
+use crate::refusals::{named_part, run_part};
 use q_board::Board;
-use std::alloc::Global;
 use std::io;
 use std::sync::Wait;
 use std::thread::Threads;
 use std::time::Clock;
 
+/// Takes a line.
+fn take<T: Wait + Threads + Clock + Sync>(
+    rt: &HostRuntime,
+    threads: &T,
+    cases: &mut Cases<'_>,
+    line: &str,
+) -> io::Result<()> {
+    match line.strip_prefix("part ") {
+        Some(part) => run_part(rt, threads, part),
+        None => cases.take(threads, line, &mut io::writer(rt)),
+    }
+}
+
 /// Takes each line of the input.
-fn take_all<R: Wait + Threads + Clock + Sync + Input + Print + Alloc<A = Global>>(
-    rt: &R,
+fn take_all<T: Wait + Threads + Clock + Sync>(
+    rt: &HostRuntime,
+    threads: &T,
     cases: &mut Cases<'_>,
 ) -> io::Result<()> {
     for line in rt.lines(rt.alloc()) {
         let line = line?;
-        cases.take(rt, line.as_str(), &mut io::writer(rt))?;
+        take(rt, threads, cases, line.as_str())?;
     }
     Ok(())
 }
 
-fn main(rt: HostRuntime) -> io::Result<()> {
-    if want_of_memory_is_answered(&rt, rt.alloc()) {
-        println!(rt; "want of memory is answered")?;
-    } else {
-        println!(rt; "want of memory is not answered")?;
-    }
+/// Takes each line of the input, at a board of its own.
+fn run_cases<T: Wait + Threads + Clock + Sync>(rt: &HostRuntime, threads: &T) -> io::Result<()> {
     match Board::open(rt.alloc(), 1, 2) {
         Ok((board, askers, runners)) => {
             let mut made = seated(rt.alloc(), &board, askers, runners);
             match &mut made {
-                Some(cases) => take_all(&rt, cases),
+                Some(cases) => take_all(rt, threads, cases),
                 None => Err(io::Error::from(io::ErrorKind::OutOfMemory)),
             }
         }
         Err(_) => Err(io::Error::from(io::ErrorKind::OutOfMemory)),
+    }
+}
+
+fn main(rt: HostRuntime) -> io::Result<()> {
+    match named_part(&rt)? {
+        Some(part) => run_part(&rt, &rt, part.as_str()),
+        None => run_cases(&rt, &rt),
     }
 }

@@ -16,12 +16,12 @@ use std::thread;
 use std::thread::{Scope, Threads};
 
 /// How often an asker pumps at most.
-const PUMPS: u32 = 10_000_000;
+pub const PUMPS: u32 = 10_000_000;
 
 /// Asks so many queries, each from its own number. Whether all were asked.
 fn ask_each(founder: &mut Founder, queries: u64) -> bool {
     for query in 0..queries {
-        if !founder.ask(query) {
+        if !founder.collect(query) {
             return false;
         }
     }
@@ -33,8 +33,8 @@ fn pump_all(asker: &mut Asker<'_>, founder: &mut Founder, queries: u64) -> bool 
     let mut posted: u64 = 0;
     for _ in 0..PUMPS {
         match asker.pump(&mut founder.book) {
-            StepOutcome::Count(more) => posted = posted.saturating_add(more),
-            _ => return false,
+            Ok(more) => posted = posted.saturating_add(more.into()),
+            Err(_) => return false,
         }
         if posted >= queries {
             return posted == queries;

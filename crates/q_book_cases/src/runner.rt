@@ -21,7 +21,7 @@ pub struct Runner<'b> {
 }
 
 /// A seat of the board, with a block.
-fn at(board: &Board, seat: RunnerSeat, block: Block) -> Runner<'_>
+pub fn runner_at(board: &Board, seat: RunnerSeat, block: Block) -> Runner<'_>
     requires { seat.table ≡ board_id board.now }
 {
     Runner { board, seat, block }
@@ -36,7 +36,7 @@ pub fn runners(alloc: Global, board: &Board, seats: Vec<RunnerSeat>) -> Option<V
         let Ok(block) = Block::new(alloc) else {
             return None;
         };
-        if runners.push(at(board, seat, block)).is_err() {
+        if runners.push(runner_at(board, seat, block)).is_err() {
             return None;
         }
     }

@@ -30,11 +30,6 @@ impl StepOutcome {
             StepOutcome::Failed
         }
     }
-
-    /// Whether it is a number of jobs or results.
-    pub fn is_count(self) -> bool {
-        matches!(self, StepOutcome::Count(_))
-    }
 }
 
 impl fmt::Display for StepOutcome {

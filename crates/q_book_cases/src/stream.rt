@@ -2,7 +2,7 @@
 
 ghost use Rattle.std.specs.Prelude.{None};
 
-use std::alloc::Global;
+use std::alloc::{AllocError, Global};
 use std::io;
 use std::io::{ErrorKind, Read, Write};
 
@@ -44,13 +44,10 @@ impl<'a> Input<'a> {
 }
 
 impl Output {
-    /// An empty output with room for some replies; tried twice, as memory may be refused.
-    pub fn new(alloc: Global, passing: Option<usize>) -> Option<Output> {
-        let bytes = match Vec::with_capacity(alloc, ROOM) {
-            Ok(bytes) => bytes,
-            Err(_) => Vec::with_capacity(alloc, ROOM).ok()?,
-        };
-        Some(Output { bytes, passing })
+    /// An empty output with room for some replies.
+    pub fn new(alloc: Global, passing: Option<usize>) -> Result<Output, AllocError> {
+        let bytes = Vec::with_capacity(alloc, ROOM)?;
+        Ok(Output { bytes, passing })
     }
 }
 

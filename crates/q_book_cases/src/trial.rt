@@ -3,9 +3,9 @@
 ghost use Rattle.std.specs.Prelude.{◌≡◌, All};
 ghost use Rattle.q_board.specs.BoardId.{board_id};
 
-use crate::asker::{Asker, askers};
+use crate::asker::{Asker, last_asker};
 use crate::step::StepOutcome;
-use q_board::{Board, Gate, RunnerSeat, with_runners};
+use q_board::{AskerSeat, Board, Gate, RunnerSeat, with_runners};
 use std::alloc::Global;
 use std::sync::Wait;
 use std::thread::Threads;
@@ -24,16 +24,17 @@ fn passes<R: Wait + Threads + Sync, T: Trial>(
     rt: &R,
     alloc: Global,
     board: &Board,
-    mut askers: Vec<Asker<'_>>,
-    seats: Vec<RunnerSeat>,
+    askers: Vec<AskerSeat>,
+    runners: Vec<RunnerSeat>,
     trial: &T,
 ) -> bool
-    requires { All (λ s. s.table ≡ board_id board.now) seats.items }
+    requires askers { All (λ s. s.table ≡ board_id board.now) askers.items }
+    requires runners { All (λ s. s.table ≡ board_id board.now) runners.items }
 {
-    let Some(mut asker) = askers.pop() else {
+    let Some(mut asker) = last_asker(board, askers) else {
         return false;
     };
-    let answered = with_runners(rt, alloc, board, seats, trial, move || -> bool {
+    let answered = with_runners(rt, alloc, board, runners, trial, move || -> bool {
         trial.ask(alloc, &mut asker)
     });
     match answered {
@@ -50,10 +51,9 @@ pub fn passes_with<R: Wait + Threads + Sync, T: Trial>(
     trial: &T,
 ) -> StepOutcome {
     match Board::open(alloc, 1, runners) {
-        Ok((board, seats, runners)) => match askers(alloc, &board, seats) {
-            Some(askers) => StepOutcome::of(passes(rt, alloc, &board, askers, runners, trial)),
-            None => StepOutcome::Nothing,
-        },
+        Ok((board, askers, runners)) => {
+            StepOutcome::of(passes(rt, alloc, &board, askers, runners, trial))
+        }
         Err(fault) => StepOutcome::Refused(fault.reason().number()),
     }
 }

@@ -1,12 +1,11 @@
 //! A node that is alone, each call of which is made again where memory is refused.
 
-use crate::again::again;
-use bq_frame::Block;
-use q_book::{Asked, Book, BookFault, Delivery};
-use q_session::{Done, Ran};
-use q_table::{Program, ProgramId};
+use crate::founder::Founder;
+use crate::refusals::again::again;
+use q_book::BookFault;
+use q_session::Ran;
+use q_table::Program;
 use q_told::{Refusal, certified_code};
-use sc_members::Config;
 use sc_msg::Message;
 use sc_node::Begun;
 use sc_view::VALUE_LENGTH;
@@ -21,24 +20,9 @@ const COUNT: [u8; 24] = [
 /// How many deliveries the node is given to settle.
 const DELIVERIES: u32 = 100;
 
-/// A founder that is alone, and the messages that it gave and has not heard yet.
-#[derive(Drop)]
-pub struct Founder {
-    pub book: Book,
-    pub waiting: Vec<Message>,
-}
-
-/// A founder that is alone, with room for two messages that it gives.
-fn found_once(alloc: Global) -> Result<Founder, BookFault> {
-    let mut waiting = Vec::new(alloc);
-    waiting.reserve(2)?;
-    let book = Book::founder(alloc, Config::default(), 1, &[1])?;
-    Ok(Founder { book, waiting })
-}
-
 /// A founder that is alone; none where memory was refused twice.
-pub fn found(rt: &HostRuntime) -> Option<Founder> {
-    again!(rt, found_once(rt.alloc())).ok()
+pub fn found(rt: &HostRuntime) -> Option<Box<Founder>> {
+    again!(rt, Founder::new(rt.alloc())).ok()
 }
 
 /// A program from its bytes.
@@ -59,49 +43,18 @@ fn print_refusal(rt: &HostRuntime, reason: BookFault) -> io::Result<()> {
     println!(rt; "refused {} {}", reason.number(), reason.name())
 }
 
-impl Founder {
-    /// Registers a program: its number.
-    fn register(&mut self, program: &Program) -> Result<u64, BookFault> {
-        let id = self.book.register(program)?;
-        Ok(u64::from(id.number()))
-    }
+/// Registers a program: its number.
+fn register_once(founder: &mut Founder, program: &Program) -> Result<u64, BookFault> {
+    let id = founder.book.register(program)?;
+    Ok(u64::from(id.number()))
+}
 
-    /// Begins a store: its tag. What it sends waits.
-    fn store(&mut self) -> Result<u64, BookFault> {
-        self.waiting.reserve(2)?;
-        let Begun { tag, outs, .. } = self.book.store(&[5; VALUE_LENGTH])?;
-        outs.append_to(&mut self.waiting);
-        Ok(tag)
-    }
-
-    /// Begins a query: its number. What it sends waits.
-    fn ask(&mut self, start: u64) -> Result<u64, BookFault> {
-        self.waiting.reserve(2)?;
-        let Asked { query, begun } = self.book.ask(ProgramId::new(0), start)?;
-        begun.outs.append_to(&mut self.waiting);
-        Ok(query as u64)
-    }
-
-    /// Hears a message. What it gives waits.
-    fn hear(&mut self, message: &Message) -> Result<(), BookFault> {
-        self.waiting.reserve(2)?;
-        let Delivery { outs, .. } = self.book.deliver(message)?;
-        outs.append_to(&mut self.waiting);
-        Ok(())
-    }
-
-    /// Runs the job of the ready query, and posts its result.
-    fn run_job(&mut self, block: &mut Block) -> Result<(), BookFault> {
-        match self.book.hand_out()? {
-            Some(job) => self.book.post(&Done::run(job, block)),
-            None => Ok(()),
-        }
-    }
-
-    /// Whether the answer of a query is recorded.
-    pub fn is_answered(&self, query: usize) -> bool {
-        matches!(self.book.answer(query), Ok(Some(_)))
-    }
+/// Begins a store: its tag. What it sends waits.
+fn store_once(founder: &mut Founder) -> Result<u64, BookFault> {
+    founder.sent.reserve(2)?;
+    let Begun { tag, outs, .. } = founder.book.store(&[5; VALUE_LENGTH])?;
+    outs.append_to(&mut founder.sent);
+    Ok(tag)
 }
 
 /// Registers the program that counts.
@@ -109,20 +62,20 @@ fn register(rt: &HostRuntime, founder: &mut Founder) -> io::Result<()> {
     let Ok(program) = again!(rt, counting(rt.alloc())) else {
         return rt.println("no program");
     };
-    let number = again!(rt, founder.register(&program));
+    let number = again!(rt, register_once(founder, &program));
     print_number(rt, "program", number)
 }
 
 /// Begins to store a value.
 fn store(rt: &HostRuntime, founder: &mut Founder) -> io::Result<()> {
-    let tag = again!(rt, founder.store());
+    let tag = again!(rt, store_once(founder));
     print_number(rt, "store", tag)
 }
 
 /// Asks from a start value.
 fn ask(rt: &HostRuntime, founder: &mut Founder, start: u64) -> io::Result<()> {
     let query = again!(rt, founder.ask(start));
-    print_number(rt, "query", query)
+    print_number(rt, "query", query.map(|query| query as u64))
 }
 
 /// Hears a message.
@@ -135,7 +88,7 @@ fn hear(rt: &HostRuntime, founder: &mut Founder, message: &Message) -> io::Resul
 
 /// Hears the message that waits last: whether there is one.
 fn hear_last(rt: &HostRuntime, founder: &mut Founder) -> io::Result<bool> {
-    match founder.waiting.pop() {
+    match founder.sent.pop() {
         Some(message) => {
             hear(rt, founder, &message)?;
             Ok(true)
@@ -154,13 +107,11 @@ pub fn settle(rt: &HostRuntime, founder: &mut Founder) -> io::Result<()> {
     Ok(())
 }
 
-/// Runs the job of the ready query over a block of its own.
+/// Runs the job of the ready query.
 pub fn run_job(rt: &HostRuntime, founder: &mut Founder) -> io::Result<()> {
-    let Ok(mut block) = again!(rt, Block::new(rt.alloc())) else {
-        return rt.println("no block");
-    };
-    match again!(rt, founder.run_job(&mut block)) {
-        Ok(()) => Ok(()),
+    match again!(rt, founder.run_job()) {
+        Ok(true) => Ok(()),
+        Ok(false) => rt.println("no job"),
         Err(reason) => print_refusal(rt, reason),
     }
 }
@@ -177,9 +128,9 @@ pub fn begin(rt: &HostRuntime, founder: &mut Founder) -> io::Result<()> {
 
 /// Prints the answer of a query.
 fn print_answer(rt: &HostRuntime, founder: &Founder, query: usize) -> io::Result<()> {
-    match founder.book.answer(query) {
-        Ok(Some(Ran { acc, steps })) => println!(rt; "answer {query} {acc} {steps}"),
-        Ok(None) | Err(_) => println!(rt; "no answer {query}"),
+    match founder.answer_of(query) {
+        Some(Ran { acc, steps }) => println!(rt; "answer {query} {acc} {steps}"),
+        None => println!(rt; "no answer {query}"),
     }
 }
 

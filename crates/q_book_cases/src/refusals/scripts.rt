@@ -1,6 +1,6 @@
 //! Scripts as a whole, over files in memory.
 
-use crate::rows::{ROWS, Row};
+use crate::refusals::rows::{ROWS, Row};
 use q_outside::MemoryFiles;
 use q_script::Script;
 use q_sim::{Printed, simulate};

@@ -1,32 +1,12 @@
 //! Client requests, each of which is made once more where it is answered 99.
 
-use crate::again::{again, tell};
-use crate::alone::{Founder, found, run_job, settle};
-use q_net::serve;
-use q_outside::Counted;
+use crate::founder::{Founder, Served};
+use crate::refusals::again::{again, tell};
+use crate::refusals::alone::{found, run_job, settle};
+use crate::requests::{REGISTER, STORE};
 use std::alloc::{AllocError, Global};
 use std::io;
 use std::sync::Wait;
-
-/// Registers `mov64 r0, r3 / add64 r0, 1 / exit`, with the notes of its three units; asks for query 9.
-const REGISTER: &str = "\
-    0118000000bf3000000000000007000000010000009500000000000000\
-    ae0000000300000001108000\
-    030000000000000000040100000000000000\
-    00ffffffffffffffff000000000000020002000000020000\
-    011080010000000000000000ffffffffffffffff\
-    030000000000000000040100000000000000\
-    00ffffffffffffffff000000000000020002000000020000\
-    011080010000000000000000ffffffffffffffff\
-    030000000000000000040100000000000000\
-    00ffffffffffffffff000000000000020002000000020000\
-    040900000000000000";
-
-/// Stores a value of which the first byte is 5; asks for query 9.
-const STORE: &str = "\
-    03050000000000000000000000000000000000000000000000\
-    000000000000000000000000000000000000000000000000\
-    040900000000000000";
 
 /// Stores a value of one byte, whose length is told; asks for query 9.
 const SHORT: &str = "\
@@ -43,11 +23,8 @@ const ANSWER: &str = "\
     040000000000000000\
     040900000000000000";
 
-/// The reply where memory was refused.
-const WANT: u8 = 99;
-
-/// Room for the replies to a stream.
-const ROOM: usize = 64;
+/// The replies where memory was refused for the first request: the question behind it is answered all the same.
+const NO_MEMORY: [u8; 2] = [99, 54];
 
 /// The bytes of a stream.
 fn stream(alloc: Global, digits: &str) -> Result<Vec<u8>, AllocError> {
@@ -57,45 +34,24 @@ fn stream(alloc: Global, digits: &str) -> Result<Vec<u8>, AllocError> {
     }
 }
 
-/// Serves a stream: the replies, for which there is room before.
-fn replies<W: Wait>(
-    rt: &HostRuntime,
-    wait: &W,
-    founder: &mut Founder,
-    bytes: &[u8],
-) -> Result<Vec<u8>, AllocError> {
-    let mut out = Counted::new(Vec::with_capacity(rt.alloc(), ROOM)?);
-    let mut input = Counted::new(bytes);
-    let Founder { book, waiting } = founder;
-    match serve(wait, rt.alloc(), book, &mut input, &mut out, waiting) {
-        Ok(()) => Ok(out.inner),
-        Err(_) => Ok(Vec::new(rt.alloc())),
-    }
-}
-
-/// What a founder has done: its events, and the messages that it gave.
-fn count(founder: &Founder) -> (usize, usize) {
-    (founder.book.events(), founder.waiting.len())
-}
-
 /// Serves a stream, and once more where its first request is answered 99; prints `changed` where that did anything.
-fn replies_again<W: Wait>(
+fn serve_again<W: Wait>(
     rt: &HostRuntime,
     wait: &W,
     founder: &mut Founder,
-    bytes: &[u8],
-) -> io::Result<Result<Vec<u8>, AllocError>> {
-    let before = count(founder);
-    let first = again!(rt, replies(rt, wait, founder, bytes));
-    match &first {
-        Ok(replies) if replies.first() == Some(&WANT) => {}
+    stream: &[u8],
+) -> io::Result<Result<Served, AllocError>> {
+    let events = founder.book.events();
+    let first = again!(rt, founder.serve(wait, stream, None, None));
+    let messages = match &first {
+        Ok(served) if served.replies.as_slice() == NO_MEMORY.as_slice() => served.messages,
         _ => return Ok(first),
-    }
+    };
     tell(rt);
-    if count(founder) != before {
+    if founder.book.events() != events || messages != 0 {
         rt.println("changed")?;
     }
-    Ok(again!(rt, replies(rt, wait, founder, bytes)))
+    Ok(again!(rt, founder.serve(wait, stream, None, None)))
 }
 
 /// Prints the replies to a stream.
@@ -118,9 +74,15 @@ fn request<W: Wait>(
     let Ok(bytes) = again!(rt, stream(rt.alloc(), digits)) else {
         return rt.println("no stream");
     };
-    match replies_again(rt, wait, founder, bytes.as_slice())? {
-        Ok(replies) => print(rt, name, replies.as_slice()),
-        Err(_) => rt.println("no replies"),
+    match serve_again(rt, wait, founder, bytes.as_slice())? {
+        Ok(
+            Served {
+                replies,
+                has_ended: true,
+                ..
+            },
+        ) => print(rt, name, replies.as_slice()),
+        Ok(_) | Err(_) => rt.println("no replies"),
     }
 }
 

@@ -1,8 +1,8 @@
 //! Scripts over a cluster, each event of which is issued again where memory is refused.
 
-use crate::again::{again, is_told, tell_change};
-use crate::digest::{Journal, NODES, see};
-use crate::rows::{ROWS, Row};
+use crate::refusals::again::{again, is_told, tell_change};
+use crate::refusals::digest::{Journal, NODES, see};
+use crate::refusals::rows::{ROWS, Row};
 use q_cluster::Cluster;
 use q_desk::Call;
 use q_history::{ClusterEvent, ClusterFault, ClusterStep, EventAnswer};

@@ -8,9 +8,9 @@
 //! | `pump` | two queries of such a node, whose jobs go over a board to a runner in the same thread |
 //! | `runners` | the same while two runners run in threads of their own |
 //!
-//! The program runs all of them, or the one that its first word names. Nothing here refuses memory: `./refuse` at the
-//! top runs each part under a C library that refuses one request for memory, each in turn, and compares what each
-//! prints.
+//! A line of the input runs a part; so does the program's first word, and then nothing else runs. Nothing here refuses
+//! memory: `./refuse` at the top runs each part by its word under a C library that refuses one request for memory, each
+//! in turn, and compares what each prints.
 //!
 //! Each call that is refused with 99 is made once more, which must do what it does elsewhere; so the standard output is
 //! the same whichever one request is refused. That a call was refused is told on the standard error, by a line `refused
@@ -32,11 +32,9 @@
 //!
 //! The numbers that are printed are what the rules of a node give by hand: one record is counted, in three steps, from
 //! 0 or from 7; a journal has an event for each call that its node took.
-#![tactic(auto)]
 
 mod again;
 mod alone;
-mod asker;
 mod digest;
 mod pump;
 mod requests;
@@ -45,21 +43,22 @@ mod scripts;
 mod steps;
 mod threads;
 
-use crate::again::again;
-use crate::pump::run_pump;
-use crate::requests::run_requests;
-use crate::scripts::run_scripts;
-use crate::steps::run_steps;
-use crate::threads::run_threads;
+use crate::refusals::again::again;
+use crate::refusals::pump::run_pump;
+use crate::refusals::requests::run_requests;
+use crate::refusals::scripts::run_scripts;
+use crate::refusals::steps::run_steps;
+use crate::refusals::threads::run_threads;
 use std::sync::Wait;
 use std::thread::Threads;
 use std::{env, io};
 
-/// The parts in turn.
-const PARTS: [&str; 5] = ["steps", "scripts", "requests", "pump", "runners"];
-
 /// Runs a part.
-fn run<T: Wait + Threads + Sync>(rt: &HostRuntime, threads: &T, part: &str) -> io::Result<()> {
+pub fn run_part<T: Wait + Threads + Sync>(
+    rt: &HostRuntime,
+    threads: &T,
+    part: &str,
+) -> io::Result<()> {
     match part {
         "steps" => run_steps(rt),
         "scripts" => run_scripts(rt),
@@ -70,14 +69,6 @@ fn run<T: Wait + Threads + Sync>(rt: &HostRuntime, threads: &T, part: &str) -> i
     }
 }
 
-/// Runs all parts.
-fn run_all<T: Wait + Threads + Sync>(rt: &HostRuntime, threads: &T) -> io::Result<()> {
-    for part in PARTS {
-        run(rt, threads, part)?;
-    }
-    Ok(())
-}
-
 /// The first word behind the program's name.
 fn first_word(rt: &HostRuntime) -> io::Result<Option<String>> {
     let mut words = env::args(rt)?;
@@ -85,9 +76,7 @@ fn first_word(rt: &HostRuntime) -> io::Result<Option<String>> {
     Ok(words.next())
 }
 
-fn main(rt: HostRuntime) -> io::Result<()> {
-    match again!(&rt, first_word(&rt))? {
-        Some(part) => run(&rt, &rt, part.as_str()),
-        None => run_all(&rt, &rt),
-    }
+/// The part that the program's first word names.
+pub fn named_part(rt: &HostRuntime) -> io::Result<Option<String>> {
+    again!(rt, first_word(rt))
 }

@@ -19,7 +19,7 @@ macro_rules! again {
     ($rt:expr, $call:expr) => {
         match $call {
             Err(fault) => {
-                if $crate::again::is_told($rt, &fault) {
+                if $crate::refusals::again::is_told($rt, &fault) {
                     $call
                 } else {
                     Err(fault)

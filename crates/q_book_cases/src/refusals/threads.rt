@@ -3,10 +3,12 @@
 ghost use Rattle.std.specs.Prelude.{◌≡◌, All};
 ghost use Rattle.q_board.specs.BoardId.{board_id};
 
-use crate::again::again;
-use crate::alone::{Founder, begin, end, found};
-use crate::asker::{Asker, seated};
-use crate::pump::pump;
+use crate::asker::{Asker, last_asker};
+use crate::founder::Founder;
+use crate::many::PUMPS;
+use crate::refusals::again::again;
+use crate::refusals::alone::{begin, end, found};
+use crate::refusals::pump::pump;
 use q_board::{AskerSeat, Board, Open, OpenFault, RunnerSeat, with_runners};
 use std::sync::Wait;
 use std::thread::Threads;
@@ -15,14 +17,11 @@ use std::{io, thread};
 /// How many runners there are.
 const RUNNERS: usize = 2;
 
-/// How often the asker pumps at most.
-const PUMPS: u32 = 10_000_000;
-
 /// Pumps until both queries are answered.
 fn pump_all(rt: &HostRuntime, asker: &mut Asker<'_>, founder: &mut Founder) -> io::Result<()> {
     for _ in 0..PUMPS {
         pump(rt, asker, founder)?;
-        if founder.is_answered(0) && founder.is_answered(1) {
+        if founder.answer_of(0).is_some() && founder.answer_of(1).is_some() {
             return Ok(());
         }
         thread::yield_now();
@@ -56,7 +55,7 @@ fn among_runners<T: Wait + Threads + Sync>(
     requires askers { All (λ s. s.table ≡ board_id board.now) askers.items }
     requires runners { All (λ s. s.table ≡ board_id board.now) runners.items }
 {
-    let Some(asker) = seated(board, askers) else {
+    let Some(asker) = last_asker(board, askers) else {
         return Ok(rt.println("no seat"));
     };
     let done = with_runners(

@@ -3,15 +3,15 @@
 ghost use Rattle.std.specs.Prelude.{◌≡◌, All};
 ghost use Rattle.q_board.specs.BoardId.{board_id};
 
-use crate::again::again;
-use crate::alone::{Founder, begin, end, found};
-use crate::asker::{Asker, seated};
+use crate::asker::{Asker, last_asker};
+use crate::founder::Founder;
+use crate::refusals::again::again;
+use crate::refusals::alone::{begin, end, found};
+use crate::runner::runner_at;
+use crate::step::StepOutcome;
 use bq_frame::Block;
-use q_board::{Board, Open, OpenFault, RunnerSeat, run_some};
+use q_board::{Board, OpenFault, RunnerSeat};
 use std::io;
-
-/// At how many slots a runner looks: the row of one asker.
-const LOOKS: u32 = 8;
 
 /// Pumps, and once more where memory is refused: what was posted and handed out before stands.
 pub fn pump(rt: &HostRuntime, asker: &mut Asker<'_>, founder: &mut Founder) -> io::Result<()> {
@@ -22,12 +22,12 @@ pub fn pump(rt: &HostRuntime, asker: &mut Asker<'_>, founder: &mut Founder) -> i
 }
 
 /// The last of these runners looks at eight slots, and runs each job that it claims: how many.
-fn run_round(rt: &HostRuntime, board: &Board, mut seats: Vec<RunnerSeat>) -> Option<u32>
+fn run_round(rt: &HostRuntime, board: &Board, mut seats: Vec<RunnerSeat>) -> Option<StepOutcome>
     requires { All (λ s. s.table ≡ board_id board.now) seats.items }
 {
-    let mut block = again!(rt, Block::new(rt.alloc())).ok()?;
+    let block = again!(rt, Block::new(rt.alloc())).ok()?;
     match seats.pop() {
-        Some(mut seat) => Some(run_some(board, &mut seat, &mut block, &Open, LOOKS)),
+        Some(seat) => Some(runner_at(board, seat, block).run()),
         None => None,
     }
 }
@@ -53,7 +53,7 @@ fn pump_twice(
 /// The same over a board of its own. Refused where there is none, before anything is done.
 fn over_board(rt: &HostRuntime, founder: &mut Founder) -> Result<io::Result<()>, OpenFault> {
     match Board::open(rt.alloc(), 1, 1) {
-        Ok((board, askers, runners)) => match seated(&board, askers) {
+        Ok((board, askers, runners)) => match last_asker(&board, askers) {
             Some(mut asker) => Ok(pump_twice(rt, founder, &board, &mut asker, runners)),
             None => Ok(rt.println("no seat")),
         },
