@@ -16,7 +16,8 @@ use Rattle.q_asker.proofs.Moves.{same_given, same_part}
 use Rattle.q_asker.proofs.Running.{stops_first}
 
 -- a run that stopped, and how it ended then
-pub halted : (ls : List ClientLine) (h : Halt) (e : ClientEnding) (a b : Streams) (q : Option (List ℕ)) → Stops ls h a b → Halts h e b.printed q → RunsTo ls a (record { sent = b.sent; heard = b.heard; printed = q }) e
+pub halted : (ls : List ClientLine) (h : Halt) (e : ClientEnding) (a b : Streams) (q : Option (List ℕ)) → Stops ls h a b → Halts h e b.printed q
+    → RunsTo ls a (record { sent = b.sent; heard = b.heard; printed = q }) e
 halted ls (Lost fault) ending.Lost a b q s prints =
     let printed = subst (λ (x : Option (List ℕ)). Appends x q (line_of reasons.TransportFailed Untold)) s.stops.2 prints in
     (s.steps, s.begin, (s.between, s.moves, s.stops.0, s.stops.1, printed))
@@ -31,7 +32,8 @@ halted ls Unwritten e a b q s prints =
     (s.steps, s.begin, (s.between, s.moves, record { sends = s.stops.sends; hears = s.stops.hears; prints = printed }))
 
 -- how many calls of the output failed then
-pub halted_count : (A : Type 0) (h : Halt) (e : ClientEnding) (p q : Option (List ℕ)) (a b c : ℕ) → b ≡ count_after {A = A} (Err h) a → Halts h e p q → c ≡ failures_halted h e b → c ≡ failures_after e a
+pub halted_count : (A : Type 0) (h : Halt) (e : ClientEnding) (p q : Option (List ℕ)) (a b c : ℕ) → b ≡ count_after {A = A} (Err h) a → Halts h e p q
+    → c ≡ failures_halted h e b → c ≡ failures_after e a
 halted_count A (Lost fault) e p q a b c first ends second = second ∙ ap (failures_after e) first
 halted_count A Unwritten e p q a b c first ends second = second ∙ first ∙ sym (ap (λ (x : ClientEnding). failures_after x a) ends.0)
 

@@ -43,7 +43,9 @@ front_read (Some x) None part bytes p is = absurd p
 front_read (Some x) (Some y) part bytes p is = (y, refl, cc)
 
 -- an input whose bytes are not known
-pub none_begins : (kind : ReplyKind) (front : List ℕ) (a : Option (List ℕ)) → ((bytes : List ℕ) → a ≡ Some bytes → (said : Reply) (rest : List ℕ) → CanBe kind said → front ++ bytes ≡ reply_bytes said ++ rest → ⊥) → BeginsNone kind front a
+pub none_begins : (kind : ReplyKind) (front : List ℕ) (a : Option (List ℕ))
+    → ((bytes : List ℕ) → a ≡ Some bytes → (said : Reply) (rest : List ℕ) → CanBe kind said → front ++ bytes ≡ reply_bytes said ++ rest → ⊥)
+    → BeginsNone kind front a
 none_begins kind front None h = tt
 none_begins kind front (Some bytes) h = h bytes refl
 
@@ -53,13 +55,15 @@ none_behind kind front more (Some x) None p h = absurd p
 none_behind kind front more (Some x) (Some y) p h = λ said rest can e. h said rest can (append_assoc front more y ∙ ap (λ (l : List ℕ). front ++ l) (sym p) ∙ e)
 
 -- what is heard behind more bytes
-pub heard_behind : {E : Type 0} (kind : ReplyKind) (front more : List ℕ) (a b c : Option (List ℕ)) (r : Result (Option Reply) E) → Consumes a b more → HearsBehind kind (front ++ more) b c r → HearsBehind kind front a c r
+pub heard_behind : {E : Type 0} (kind : ReplyKind) (front more : List ℕ) (a b c : Option (List ℕ)) (r : Result (Option Reply) E) → Consumes a b more
+    → HearsBehind kind (front ++ more) b c r → HearsBehind kind front a c r
 heard_behind kind front more a b c (Ok (Some said)) p h = (h.0, (more ++ h.1.0, Consumes-trans a b c more h.1.0 p h.1.1, h.1.2 ∙ append_assoc front more h.1.0))
 heard_behind kind front more a b c (Ok None) p h = (none_behind kind front more a b p h.0, (more ++ h.1.0, Consumes-trans a b c more h.1.0 p h.1.1))
 heard_behind kind front more a b c (Err e) p h = (more ++ h.0, Consumes-trans a b c more h.0 p h.1)
 
 -- a read failed
-pub heard_failed : {E : Type 0} (P : E → Type 0) (kind : ReplyKind) (front : List ℕ) (a b : Option (List ℕ)) (r : Result (Option Reply) E) → IsErrAnd r P → (part : List ℕ) × Consumes a b part → HearsBehind kind front a b r
+pub heard_failed : {E : Type 0} (P : E → Type 0) (kind : ReplyKind) (front : List ℕ) (a b : Option (List ℕ)) (r : Result (Option Reply) E)
+    → IsErrAnd r P → (part : List ℕ) × Consumes a b part → HearsBehind kind front a b r
 heard_failed P kind front a b (Ok o) h part = absurd h
 heard_failed P kind front a b (Err e) h part = part
 
@@ -73,7 +77,8 @@ cut kind front few long a b part p less end = none_begins kind front a (λ bytes
 number_long : (width n : ℕ) (bytes rest : List ℕ) → bytes ≡ number_bytes width n ++ rest → width ≤ length bytes
 number_long width n bytes rest is = omega (arith, ap length is, length-append (number_bytes width n) rest, length-number_bytes width n)
 
-answer_long : (said : Reply) (bytes rest : List ℕ) → CanBe kind.Answer said → 0 ∷ bytes ≡ reply_bytes said ++ rest → (bytes ≡ 0 ∷ rest) ⊎ ((more : List ℕ) × (bytes ≡ 1 ∷ more) × (16 ≤ length more))
+answer_long : (said : Reply) (bytes rest : List ℕ) → CanBe kind.Answer said → 0 ∷ bytes ≡ reply_bytes said ++ rest
+    → (bytes ≡ 0 ∷ rest) ⊎ ((more : List ℕ) × (bytes ≡ 1 ∷ more) × (16 ≤ length more))
 answer_long (Refused n) bytes rest can e = absurd (not_zero n can cc)
 answer_long Open bytes rest can e = inl cc
 answer_long (Answer acc steps) bytes rest can e =
@@ -98,7 +103,8 @@ accepted_long kind.Answer said bytes rest can e = elim (answer_long said bytes r
 accepted_long kind said bytes rest can e = absurd can
 
 -- the input ended before so many
-pub none_accepted : {A : Type 0} (kind : ReplyKind) (bytes_of : A → List ℕ) (a b : Option (List ℕ)) (o : Option A) → o ≡ None → Got bytes_of (fewest kind) a b o → BeginsNone kind (0 ∷ []) a × ((part : List ℕ) × Consumes a b part)
+pub none_accepted : {A : Type 0} (kind : ReplyKind) (bytes_of : A → List ℕ) (a b : Option (List ℕ)) (o : Option A) → o ≡ None
+    → Got bytes_of (fewest kind) a b o → BeginsNone kind (0 ∷ []) a × ((part : List ℕ) × Consumes a b part)
 none_accepted kind bytes_of a b o is got =
     let (part, consumed, less, end) = got_none bytes_of (fewest kind) a b o is got in
     (cut kind (0 ∷ []) (fewest kind) (accepted_long kind) a b part consumed less end, (part, consumed))
@@ -139,13 +145,15 @@ first_byte Open n bytes rest other e = absurd (other cc)
 first_byte (Answer acc steps) n bytes rest other e = absurd (other cc)
 
 -- the first byte is the number of a refusal, or that of no reply
-pub first_heard : (E : Type 0) (kind : ReplyKind) (n : ℕ) (a b : Option (List ℕ)) (o : Option Reply) → (n ≡ 0 → ⊥) → Consumes a b (n ∷ []) → MatchOption o (IsRefusal n → ⊥) (λ said. IsRefusal n × (said ≡ Refused n)) → HearsBehind {E = E} kind [] a b (Ok o)
+pub first_heard : (E : Type 0) (kind : ReplyKind) (n : ℕ) (a b : Option (List ℕ)) (o : Option Reply) → (n ≡ 0 → ⊥) → Consumes a b (n ∷ [])
+    → MatchOption o (IsRefusal n → ⊥) (λ said. IsRefusal n × (said ≡ Refused n)) → HearsBehind {E = E} kind [] a b (Ok o)
 first_heard E kind n a b None other p none = (none_begins kind [] a (λ bytes is said rest can e. let there = front_read a b (n ∷ []) bytes p is in none (subst (CanBe kind) (first_byte said n there.0 rest other (sym there.2 ∙ e)) can)), (n ∷ [], p))
 first_heard E kind n a b (Some said) other p h = (subst (CanBe kind) (sym h.1) h.0, (n ∷ [], p, ap reply_bytes h.1))
 
 -- ---- one reply stands there
 
-two_longs : (a b c d : ℕ) (r s : List ℕ) → a < 2 ^ 64 → b < 2 ^ 64 → c < 2 ^ 64 → d < 2 ^ 64 → (number_bytes 8 a ++ number_bytes 8 b) ++ r ≡ (number_bytes 8 c ++ number_bytes 8 d) ++ s → (a ≡ c) × (b ≡ d)
+two_longs : (a b c d : ℕ) (r s : List ℕ) → a < 2 ^ 64 → b < 2 ^ 64 → c < 2 ^ 64 → d < 2 ^ 64
+    → (number_bytes 8 a ++ number_bytes 8 b) ++ r ≡ (number_bytes 8 c ++ number_bytes 8 d) ++ s → (a ≡ c) × (b ≡ d)
 two_longs a b c d r s fa fb fc fd e =
     let first = number_front 8 a c (number_bytes 8 b ++ r) (number_bytes 8 d ++ s) fa fc (sym (append_assoc (number_bytes 8 a) (number_bytes 8 b) r) ∙ e ∙ append_assoc (number_bytes 8 c) (number_bytes 8 d) s) in
     (first.0, (number_front 8 b d r s fb fd first.1).0)
@@ -174,7 +182,8 @@ heard kind a b (Ok (Some said)) h = (h.0, subst (Consumes a b) (sym h.1.2) h.1.1
 heard kind a b (Ok None) h = h.1
 heard kind a b (Err e) h = h
 
-pub heard_there : {E : Type 0} (kind : ReplyKind) (a b : Option (List ℕ)) (r : Result (Option Reply) E) → HearsBehind kind [] a b r → (said : Reply) (rest : List ℕ) → CanBe kind said → a ≡ Some (reply_bytes said ++ rest) → IfOk r (λ o. o ≡ Some said)
+pub heard_there : {E : Type 0} (kind : ReplyKind) (a b : Option (List ℕ)) (r : Result (Option Reply) E) → HearsBehind kind [] a b r
+    → (said : Reply) (rest : List ℕ) → CanBe kind said → a ≡ Some (reply_bytes said ++ rest) → IfOk r (λ o. o ≡ Some said)
 heard_there kind a b (Ok (Some x)) h said rest can is =
     let there = front_read a b (reply_bytes x) (reply_bytes said ++ rest) (subst (Consumes a b) (sym h.1.2) h.1.1) is in
     ap Some (one_reply kind x said there.0 rest h.0 can (sym there.2))

@@ -33,7 +33,8 @@ pub looks_stop : (query n : ℕ) (h : Halt) (a b c : Streams) → n ≤ most_loo
     → (steps : List Step) × ((more : List Step) × AreLooks query (steps ++ more)) × ((between : Streams) × Moves steps a between × StopsAt h between c)
 looks_stop query n h a b c few m s = (replicate n (open_look query), (lacking ∷ [], (n, lacking, few, (refl, refl), refl)), (b, m, s))
 
-pub looks_stopped : (query n : ℕ) (h : Halt) (a b c : Streams) (r : Result LineEnd Halt) → IsErrAnd r (λ e. e ≡ h) → n ≤ most_looks → Moves (replicate n (open_look query)) a b → StopsAt h b c → Looks query a c r
+pub looks_stopped : (query n : ℕ) (h : Halt) (a b c : Streams) (r : Result LineEnd Halt) → IsErrAnd r (λ e. e ≡ h) → n ≤ most_looks
+    → Moves (replicate n (open_look query)) a b → StopsAt h b c → Looks query a c r
 looks_stopped query n h a b c (Ok x) is few m s = absurd is
 looks_stopped query n h a b c (Err e) is few m s = looks_stop query n e a b c few m (subst (λ (x : Halt). StopsAt x b c) (sym is) s)
 
@@ -45,7 +46,8 @@ looks_given_up query n a b c (Err Unwritten) few some m sent heard prints ends =
 looks_given_up query n a b c (Err (Lost fault)) few some m sent heard prints ends = absurd prints
 
 -- one look more found no answer
-pub open_said : (query n : ℕ) (said : Reply) (a b c : Streams) → said ≡ reply.Open → Moves (replicate n (open_look query)) a b → Moves (Exchanged (request.Answer query) said ∷ []) b c → Moves (replicate (n + 1) (open_look query)) a c
+pub open_said : (query n : ℕ) (said : Reply) (a b c : Streams) → said ≡ reply.Open → Moves (replicate n (open_look query)) a b
+    → Moves (Exchanged (request.Answer query) said ∷ []) b c → Moves (replicate (n + 1) (open_look query)) a c
 open_said query n said a b c is h k =
     let steps : replicate n (open_look query) ++ Exchanged (request.Answer query) said ∷ [] ≡ replicate (n + 1) (open_look query) = rw is (replicate_more n (open_look query)) in
     subst (λ (x : List Step). Moves x a c) steps (moves_behind (replicate n (open_look query)) (Exchanged (request.Answer query) said ∷ []) a b c h k)

@@ -28,7 +28,8 @@ pub same_given : (a b : Option (List ℕ)) → b ≡ a → GivesPart a b
 same_given a b e = ([], same_heard a b e)
 
 -- what a fault leaves behind it
-pub fault_parts : (r : Request) (sent sending heard hearing : Option (List ℕ)) (fault : ExchangeFault) → Exchanges r sent sending heard hearing (Err fault) → TakesPart sent sending × GivesPart heard hearing
+pub fault_parts : (r : Request) (sent sending heard hearing : Option (List ℕ)) (fault : ExchangeFault)
+    → Exchanges r sent sending heard hearing (Err fault) → TakesPart sent sending × GivesPart heard hearing
 fault_parts r sent sending heard hearing OutOfMemory h = (same_part sent sending h.0, same_given heard hearing h.1)
 fault_parts r sent sending heard hearing fault h = h
 
@@ -51,7 +52,8 @@ moves_behind ss ts a b c h k = record {
 }
 
 -- one step
-pub moves_one : (step : Step) (a b : Streams) (text : List ℕ) → Appends a.sent b.sent (sent_by step) → Consumes a.heard b.heard (heard_by step) → StepTells step text → Appends a.printed b.printed text → Moves (step ∷ []) a b
+pub moves_one : (step : Step) (a b : Streams) (text : List ℕ) → Appends a.sent b.sent (sent_by step) → Consumes a.heard b.heard (heard_by step)
+    → StepTells step text → Appends a.printed b.printed text → Moves (step ∷ []) a b
 moves_one step a b text sends hears tells prints = record {
   sends = subst (Appends a.sent b.sent) (sym (append-nil (sent_by step))) sends;
   hears = subst (Consumes a.heard b.heard) (sym (append-nil (heard_by step))) hears;
@@ -61,7 +63,8 @@ moves_one step a b text sends hears tells prints = record {
 }
 
 -- no request was made
-pub moves_unmade : (why : Reason) (at : RefusalPlace) (a b : Streams) → b.sent ≡ a.sent → b.heard ≡ a.heard → Appends a.printed b.printed (line_of why at) → Moves (Unmade why at ∷ []) a b
+pub moves_unmade : (why : Reason) (at : RefusalPlace) (a b : Streams) → b.sent ≡ a.sent → b.heard ≡ a.heard
+    → Appends a.printed b.printed (line_of why at) → Moves (Unmade why at ∷ []) a b
 moves_unmade why at a b sent heard prints = moves_one (Unmade why at) a b (line_of why at) (same_sent a.sent b.sent sent) (same_heard a.heard b.heard heard) refl prints
 
 -- a query was given up

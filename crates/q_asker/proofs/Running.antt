@@ -39,7 +39,8 @@ request_stop q h a b (Err e) is s = same_halt h e a b is s
 pub unwritten_at : (a b : Streams) → b.sent ≡ a.sent → b.heard ≡ a.heard → TakesPart a.printed b.printed → StopsAt Unwritten a b
 unwritten_at a b sent heard prints = record { sends = same_part a.sent b.sent sent; hears = same_given a.heard b.heard heard; prints = prints }
 
-pub printed_stop : {A : Type 0} (text : List ℕ) (h : Halt) (a b : Streams) (r : Result A Halt) → r ≡ Err h → b.sent ≡ a.sent → b.heard ≡ a.heard → Prints text a.printed b.printed r → StopsAt h a b
+pub printed_stop : {A : Type 0} (text : List ℕ) (h : Halt) (a b : Streams) (r : Result A Halt) → r ≡ Err h → b.sent ≡ a.sent → b.heard ≡ a.heard
+    → Prints text a.printed b.printed r → StopsAt h a b
 printed_stop {A} text h a b r is sent heard prints = at h (subst (Prints text a.printed b.printed) is prints)
   where
     at : (x : Halt) → Prints {A = A} text a.printed b.printed (Err x) → StopsAt x a b
@@ -47,7 +48,8 @@ printed_stop {A} text h a b r is sent heard prints = at h (subst (Prints text a.
     at (Lost fault) p = absurd p
 
 -- what came of a request
-pub takes_some : (q : Request) (a b : Streams) (o : Option Reply) (said : Reply) → o ≡ Some said → Takes q a b (Ok o) → MayReply q said × Moves (Exchanged q said ∷ []) a b
+pub takes_some : (q : Request) (a b : Streams) (o : Option Reply) (said : Reply) → o ≡ Some said → Takes q a b (Ok o)
+    → MayReply q said × Moves (Exchanged q said ∷ []) a b
 takes_some q a b o said is h = subst (λ (x : Option Reply). Takes q a b (Ok x)) is h
 
 pub takes_none : (q : Request) (a b : Streams) (o : Option Reply) → o ≡ None → Takes q a b (Ok o) → Moves (lacking ∷ []) a b
@@ -60,7 +62,8 @@ pub stops_first : (ls : List ClientLine) (h : Halt) (a b : Streams) → StopsAt 
 stops_first ls h a b s = record { steps = []; begin = begin_none ls; between = a; moves = moves_none a; stops = s }
 
 -- a line stopped behind some steps of it
-pub stops_behind : (l : ClientLine) (h : Halt) (steps more : List Step) (a b c : Streams) → AreOf l (steps ++ more) → Moves steps a b → StopsAt h b c → Stops (l ∷ []) h a c
+pub stops_behind : (l : ClientLine) (h : Halt) (steps more : List Step) (a b c : Streams) → AreOf l (steps ++ more) → Moves steps a b → StopsAt h b c
+    → Stops (l ∷ []) h a c
 stops_behind l h steps more a b c of m s = record { steps = steps; begin = begin_first l steps more of; between = b; moves = m; stops = s }
 
 -- no request was made of a line, which was told
@@ -76,11 +79,13 @@ follows_none (line.Ask program start) (reply.Number n) none = absurd (none n ref
 follows_none l said none = refl
 
 -- the request of a line was replied to
-pub requested : (q : Request) (said : Reply) (e : LineEnd) (a b : Streams) → MayReply q said → Moves (Exchanged q said ∷ []) a b → is_done_end e ≡ is_done_reply said → RunsRequest q a b (Ok e)
+pub requested : (q : Request) (said : Reply) (e : LineEnd) (a b : Streams) → MayReply q said → Moves (Exchanged q said ∷ []) a b
+    → is_done_end e ≡ is_done_reply said → RunsRequest q a b (Ok e)
 requested q said e a b may m is = inl (said, may, m, is ∙ sym (and-true (is_done_reply said)))
 
 -- the only request of a line was made
-pub line_requested : (l : ClientLine) (q : Request) (a b : Streams) (r : Result LineEnd Halt) → Makes l q → ((said : Reply) → Follows l said []) → RunsRequest q a b r → RunsLine l a b r
+pub line_requested : (l : ClientLine) (q : Request) (a b : Streams) (r : Result LineEnd Halt) → Makes l q → ((said : Reply) → Follows l said [])
+    → RunsRequest q a b r → RunsLine l a b r
 line_requested l q a b (Ok e) makes follows (inl h) = (Exchanged q h.0 ∷ [], (makes, h.1, follows h.0), h.2, h.3)
 line_requested l q a b (Ok e) makes follows (inr h) = (lacking ∷ [], lacking_of l, h.0, h.1)
 line_requested l q a b (Err h) makes follows s = stops_first (l ∷ []) h a b s
@@ -116,7 +121,8 @@ lines_more ls more l clean done now a b c is both h k =
     (steps, subst (λ (x : List ClientLine). AreOfAll x steps) (sym is) (of_behind ls (l ∷ []) h.0 k.0 h.1 (k.0, [], k.1, refl, sym (append-nil k.0))), moves_behind h.0 k.0 a b c h.2 k.2, all)
 
 -- lines were run, and then the run stopped at one
-pub lines_stop : (ls all rest : List ClientLine) (l : ClientLine) (h : Halt) (steps : List Step) (a b c : Streams) → all ≡ ls ++ (l ∷ rest) → AreOfAll ls steps → Moves steps a b → Stops (l ∷ []) h b c → Stops all h a c
+pub lines_stop : (ls all rest : List ClientLine) (l : ClientLine) (h : Halt) (steps : List Step) (a b c : Streams) → all ≡ ls ++ (l ∷ rest)
+    → AreOfAll ls steps → Moves steps a b → Stops (l ∷ []) h b c → Stops all h a c
 lines_stop ls all rest l h steps a b c is of m s = record {
   steps = steps ++ s.steps;
   begin = subst (λ (x : List ClientLine). BeginAll x (steps ++ s.steps)) (sym is) (begin_behind ls l rest steps s.steps of s.begin);

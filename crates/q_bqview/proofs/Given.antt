@@ -2,7 +2,8 @@
 use Rattle.std.proofs.Common.{◌≡◌, List, Result, Ok, Err, IfOk, IfErr, subst}
 
 -- what is so of the words that were taken is so of those that were given
-pub of_given : {A E X : Type 0} (P : List X → Type 0) (items : A → List X) (given : Result A E) (taken : List X) → IfOk given (λ a. taken ≡ items a) → P taken → IfOk given (λ a. P (items a))
+pub of_given : {A E X : Type 0} (P : List X → Type 0) (items : A → List X) (given : Result A E) (taken : List X) → IfOk given (λ a. taken ≡ items a)
+    → P taken → IfOk given (λ a. P (items a))
 of_given P items (Ok a) taken h p = subst P h p
 of_given P items (Err e) taken h p = tt
 

@@ -7,10 +7,9 @@ use Rattle.std.proofs.lemmas.Fmt.{decimal_injective}
 use Rattle.bq_range.specs.Interval.{Interval, between}
 use Rattle.bq_state.specs.Kinds.{AreLengths}
 use Rattle.q_script.specs.Words as words
-use Rattle.clap.specs.Words.{App, HasKind, HasMatchesOf, IsAmong, kind_of, fault_of, subcommand_name_of, subcommand_of, Row, Shape, Text, is_simple, is_simple_and_free, subcommand_rows, subcommand_rows_of}
+use Rattle.clap.specs.Words.{App, HasKind, HasMatchesOf, IsAmong, kind_of, fault_of, subcommand_name_of, subcommand_of, Row, Shape, Text, is_simple, is_simple_and_free, subcommand_rows, subcommand_rows_of, Rule, app_of, rule_of, with_rule, with_subcommand}
 use Rattle.clap.specs.Simple.{argument_words, built, entered, label_of, names_of, rows_at}
 use Rattle.clap.specs.Walk.{answers_to, stop_after}
-use Rattle.clap.specs.Words.{Rule, app_of, rule_of, with_rule, with_subcommand}
 use Rattle.clap.specs.Built.{AddsArg, AddsSubcommand}
 use Rattle.clap.specs.declared.builder.arg.Arg.{Arg}
 use Rattle.clap.specs.declared.builder.command.Command.{Command}
@@ -88,7 +87,8 @@ found_in : (b : Bool) (s : Shape) (rest : Option Shape) (words : List Text) (ss 
 found_in true s rest words ss p f e = inl (same_name (rows_at s words) p e)
 found_in false s rest words ss p f e = inr (f e)
 
-find_in : (test : Shape → Bool) (ss : List Shape) (words : List Text) (p : Text × List Row) → option_map (λ t. rows_at t words) (find test ss) ≡ Some p → IsOneOf p.0 (names ss)
+find_in : (test : Shape → Bool) (ss : List Shape) (words : List Text) (p : Text × List Row)
+    → option_map (λ t. rows_at t words) (find test ss) ≡ Some p → IsOneOf p.0 (names ss)
 find_in test [] words p e = not_some p e
 find_in test (s ∷ ss) words p e = found_in (test s) s (find test ss) words ss p (find_in test ss words p) e
 
@@ -162,7 +162,8 @@ pub no_fault : {a : App} (words : List Text) → a ≡ bqview → (is_simple_and
 no_fault words is kinds = subst (λ (x : App). fault_of x words ≡ []) is (kinds (ap is_simple_and_free is ∙ free))
 
 -- the parser fails
-pub failed_so : {a : App} (words : List Text) (error : Error) (r : Result Invocation WordsFault) → a ≡ bqview → (is_simple_and_free a ≡ true → HasKind (fault_of a words) error) → IsErrAnd r (Tells error) → Reads words r
+pub failed_so : {a : App} (words : List Text) (error : Error) (r : Result Invocation WordsFault) → a ≡ bqview
+    → (is_simple_and_free a ≡ true → HasKind (fault_of a words) error) → IsErrAnd r (Tells error) → Reads words r
 failed_so words error (Ok asked) is kinds h = absurd h
 failed_so words error (Err e) is kinds h =
     faulty_so words error e (subst (λ (x : App). HasKind (fault_of x words) error) is (kinds (ap is_simple_and_free is ∙ free))) h
@@ -188,7 +189,8 @@ were_given rows least most a b n m is_least is_most h k e f = (
 )
 
 -- the lengths that were read of two numbers, if they are some
-pub lengths_read : (rows : List Row) (n m : ℕ) (o : Option Interval) → AreGivenFor rows n m → SomeIff o (AreLengths (between n m)) (between n m) → MatchOption o (AreBad rows) (AreGiven rows)
+pub lengths_read : (rows : List Row) (n m : ℕ) (o : Option Interval) → AreGivenFor rows n m → SomeIff o (AreLengths (between n m)) (between n m)
+    → MatchOption o (AreBad rows) (AreGiven rows)
 lengths_read rows n m (Some l) g h = subst (AreGiven rows) (sym h.1) (h.0, g)
 lengths_read rows n m None g h = λ l k.
     h (subst AreLengths (ap₂ between (same_number (operand_of (codes "least") rows) l.lo n k.1.0 g.0) (same_number (operand_of (codes "most") rows) l.hi m k.1.1 g.1)) k.0)

@@ -83,7 +83,8 @@ cut_begins one_head one_event bytes event count rest book is_next is_fault after
 -- ---- none
 
 -- bytes with a journal at their beginning begin with its head
-headed : (bytes kept : List ℕ) (b : BookState) (i : IsBeginning bytes kept b) → bytes ≡ head_bytes (head_of b) ++ (entries_bytes b.version b.desk.journal ++ i.left)
+headed : (bytes kept : List ℕ) (b : BookState) (i : IsBeginning bytes kept b)
+    → bytes ≡ head_bytes (head_of b) ++ (entries_bytes b.version b.desk.journal ++ i.left)
 headed bytes kept b i =
     i.parts ∙ ap (λ (x : List ℕ). x ++ i.left) i.journal ∙ append_assoc (head_bytes (head_of b)) (entries_bytes b.version b.desk.journal) i.left
 
@@ -162,7 +163,8 @@ module _ (one_head : OneHead) (one_event : OneEvent) (no_fault : NoFault) where
       version =
           sym (alike bytes kept b u.book n u.rest u.leads i).version_is ∙ sym (leads-version bytes n u.book u.rest u.leads)
 
-      go : (ws : List RawEntry) → AllByRecursion (IsWritten b.version) ws → u.rest ≡ flat_map (event_bytes b.version) ws ++ i.left → Leads (journal_of b) n u.book (flat_map (event_bytes b.version) ws) → ⊥
+      go : (ws : List RawEntry) → AllByRecursion (IsWritten b.version) ws → u.rest ≡ flat_map (event_bytes b.version) ws ++ i.left
+          → Leads (journal_of b) n u.book (flat_map (event_bytes b.version) ws) → ⊥
       go [] p is l = (cut_none u.book.version i.left i.cut).none u.event u.more u.legal (sym is ∙ u.parts)
       go (w ∷ ws) p is l =
           let after : List ℕ = flat_map (event_bytes b.version) ws in

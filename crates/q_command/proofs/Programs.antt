@@ -25,7 +25,8 @@ unspelled held lengths source (Program f) h = absurd (not_checked held source f 
 unspelled held lengths source r h = h
 
 -- the program that is spelled gets no certificate
-pub uncertified : (held : ProgramForm) (lengths : Interval) (source : List ℕ) (text : List Insn) (r : Refusal) → Spells held source text → IsUncertified lengths text r → IsUnaccepted held lengths source r
+pub uncertified : (held : ProgramForm) (lengths : Interval) (source : List ℕ) (text : List Insn) (r : Refusal) → Spells held source text
+    → IsUncertified lengths text r → IsUnaccepted held lengths source r
 uncertified held lengths source text (Program f) s h = (text, s, h)
 uncertified held lengths source text OutOfMemory s h = out_of_memory held source text s
 uncertified held lengths source text r s h = absurd h

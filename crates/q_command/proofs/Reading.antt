@@ -16,7 +16,8 @@ use Rattle.q_command.specs.GatheredLines.{journal_line}
 use Rattle.q_command.specs.JournalFiles.{Source, source_line, IsRead, AreRead, AreSources, TellsFiles, IsUnread, RefusesFile, Refuses}
 
 -- the names up to the next one, and all of them around it
-pub one_name : (names : List (Bor (List ℕ))) (i : ℕ) (d : Bor (List ℕ)) → i < length names → map (λ (n : Bor (List ℕ)). n.now) (take (i + 1) names) ≡ map (λ (n : Bor (List ℕ)). n.now) (take i names) ++ (get_or names i d).now ∷ []
+pub one_name : (names : List (Bor (List ℕ))) (i : ℕ) (d : Bor (List ℕ)) → i < length names
+    → map (λ (n : Bor (List ℕ)). n.now) (take (i + 1) names) ≡ map (λ (n : Bor (List ℕ)). n.now) (take i names) ++ (get_or names i d).now ∷ []
 one_name names i d lt =
     ap (map (λ (n : Bor (List ℕ)). n.now)) (take_more names i d lt) ∙ map-append (λ (n : Bor (List ℕ)). n.now) (take i names) (get_or names i d ∷ [])
 
@@ -43,7 +44,8 @@ module _ {F : Type 0} (reads : F → List ℕ → Result (List ℕ) FileFault �
   pub no_sources : (old : F) (lines : List ℕ) (books : List BookState) → lines ≡ [] → books ≡ [] → AreSources reads [] old lines books old
   no_sources old lines books p q = record { sources = []; named = refl; read = refl; told = p; are = q }
 
-  one_more : (ss : List Source) (s : Source) (old between new : F) → AreRead reads old ss between → IsRead reads between s new → AreRead reads old (ss ++ s ∷ []) new
+  one_more : (ss : List Source) (s : Source) (old between new : F) → AreRead reads old ss between → IsRead reads between s new
+      → AreRead reads old (ss ++ s ∷ []) new
   one_more [] s old between new r is = (new, subst (λ (f : F). IsRead reads f s new) r is, refl)
   one_more (t ∷ ss) s old between new r is = (r.0, r.1, one_more ss s r.0 between new r.2 is)
 
@@ -67,7 +69,8 @@ module _ {F : Type 0} (reads : F → List ℕ → Result (List ℕ) FileFault �
   file_refused names before name later old between new lines books r a is (inr none) = inr none
 
   -- one file
-  pub one_read : (old new : F) (name bytes : List ℕ) (s : Source) → s.name ≡ name → s.bytes ≡ bytes → reads old name (Ok bytes) new → IsBeginning s.bytes s.kept s.book → IsRead reads old s new
+  pub one_read : (old new : F) (name bytes : List ℕ) (s : Source) → s.name ≡ name → s.bytes ≡ bytes → reads old name (Ok bytes) new
+      → IsBeginning s.bytes s.kept s.book → IsRead reads old s new
   one_read old new name bytes s named are r begins = record {
     read = subst (λ (x : List ℕ). reads old x (Ok s.bytes) new) (sym named) (subst (λ (x : List ℕ). reads old name (Ok x) new) (sym are) r);
     begins = begins;
@@ -103,7 +106,8 @@ module _ {F : Type 0} (reads : F → List ℕ → Result (List ℕ) FileFault �
     says = is ∙ ap (λ (x : List ℕ). x ++ told) a.told;
   }
 
-  pub file_refuses : (names : List (List ℕ)) (old new : F) (r : Refusal) → RefusesFile reads names old r new ⊎ (r ≡ refusal.OutOfMemory) → Refuses reads names old r new
+  pub file_refuses : (names : List (List ℕ)) (old new : F) (r : Refusal) → RefusesFile reads names old r new ⊎ (r ≡ refusal.OutOfMemory)
+      → Refuses reads names old r new
   file_refuses names old new r (inl why) = inl why
   file_refuses names old new r (inr none) = inr (inr none)
 

@@ -86,7 +86,9 @@ pub record AreWithin (version other : Version) (bytes : List ℕ) (n m : ℕ) (r
   pub version_is : version ≡ other
   pub within : IsWithin other a.events b.events r s
 
-pub both : OneHead → OneEvent → (version other : Version) (bytes : List ℕ) (n m : ℕ) (r s : List ℕ) (a : IsAfter version bytes n r) (b : IsAfter other bytes m s) → NoEvent other s → AreWithin version other bytes n m r s a b
+pub both : OneHead → OneEvent
+    → (version other : Version) (bytes : List ℕ) (n m : ℕ) (r s : List ℕ) (a : IsAfter version bytes n r) (b : IsAfter other bytes m s)
+    → NoEvent other s → AreWithin version other bytes n m r s a b
 both one_head one_event version other bytes n m r s a b none =
     let heads = one_head a.head b.head (flat_map (event_bytes version) a.events ++ r) (flat_map (event_bytes other) b.events ++ s) a.legal b.legal (sym a.parts ∙ b.parts) in
     let same : version ≡ other = sym a.is_version ∙ ap (λ (h : Head). h.version) heads.0 ∙ b.is_version in
@@ -110,7 +112,8 @@ as_many law version (u ∷ us) (v ∷ vs) r s n p q h =
     as_many law version us vs r s (omega (arith, n)) p.1 q.1 e.1
 
 -- after so many events stands one rest
-pub after_one : OneHead → OneEvent → (version other : Version) (bytes : List ℕ) (n : ℕ) (r s : List ℕ) → IsAfter version bytes n r → IsAfter other bytes n s → r ≡ s
+pub after_one : OneHead → OneEvent → (version other : Version) (bytes : List ℕ) (n : ℕ) (r s : List ℕ) → IsAfter version bytes n r
+    → IsAfter other bytes n s → r ≡ s
 after_one one_head one_event version other bytes n r s a b =
     let heads = one_head a.head b.head (flat_map (event_bytes version) a.events ++ r) (flat_map (event_bytes other) b.events ++ s) a.legal b.legal (sym a.parts ∙ b.parts) in
     let same : version ≡ other = sym a.is_version ∙ ap (λ (h : Head). h.version) heads.0 ∙ b.is_version in
@@ -118,7 +121,8 @@ after_one one_head one_event version other bytes n r s a b =
     (ap (λ (v : Version). flat_map (event_bytes v) a.events ++ r) (sym same) ∙ heads.1)
 
 -- one event more
-pub after_more : (version : Version) (bytes : List ℕ) (n : ℕ) (rest : List ℕ) (w : RawEntry) (more : List ℕ) → IsAfter version bytes n rest → IsWritten version w → rest ≡ event_bytes version w ++ more → IsAfter version bytes (n + 1) more
+pub after_more : (version : Version) (bytes : List ℕ) (n : ℕ) (rest : List ℕ) (w : RawEntry) (more : List ℕ) → IsAfter version bytes n rest
+    → IsWritten version w → rest ≡ event_bytes version w ++ more → IsAfter version bytes (n + 1) more
 after_more version bytes n rest w more b legal is = record {
   head = b.head;
   legal = b.legal;

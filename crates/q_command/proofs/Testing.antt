@@ -14,7 +14,8 @@ tails : (x y : ℕ) (xs ys : List ℕ) → x ∷ xs ≡ y ∷ ys → xs ≡ ys
 tails x y xs ys h = cc
 
 -- a body that is as long as is told, or longer
-pub whole : (bytes rest body : List ℕ) (kind told : ℕ) → bytes ≡ kind ∷ rest → rest ≡ number_bytes 4 told ++ body → told < 2 ^ 32 → (length body < told → ⊥) → IsCut bytes → ⊥
+pub whole : (bytes rest body : List ℕ) (kind told : ℕ) → bytes ≡ kind ∷ rest → rest ≡ number_bytes 4 told ++ body → told < 2 ^ 32
+    → (length body < told → ⊥) → IsCut bytes → ⊥
 whole bytes rest body kind told first second fits long (inl short) =
     omega (arith, short, ap length first, ap length second, length-append (number_bytes 4 told) body, length-number_bytes 4 told)
 whole bytes rest body kind told first second fits long (inr c) =
@@ -22,7 +23,8 @@ whole bytes rest body kind told first second fits long (inr c) =
     let same = number_front 4 told n body left fits few (sym second ∙ tails kind other rest (number_bytes 4 n ++ left) (sym first ∙ parts)) in
     long (omega (arith, short, same.0, ap length same.1))
 
-pub cut_told : (bytes rest body : List ℕ) (kind told : ℕ) → bytes ≡ kind ∷ rest → rest ≡ number_bytes 4 told ++ body → told < 2 ^ 32 → MatchBool (nat_lt (length body) told) (IsCut bytes) (IsCut bytes → ⊥)
+pub cut_told : (bytes rest body : List ℕ) (kind told : ℕ) → bytes ≡ kind ∷ rest → rest ≡ number_bytes 4 told ++ body → told < 2 ^ 32
+    → MatchBool (nat_lt (length body) told) (IsCut bytes) (IsCut bytes → ⊥)
 cut_told bytes rest body kind told first second fits =
     told_by (nat_lt (length body) told) (IsCut bytes) (IsCut bytes → ⊥)
     (λ is. inr (kind, told, body, first ∙ ap (λ (x : List ℕ). kind ∷ x) second, fits, ltb-true (length body) told is))

@@ -31,10 +31,12 @@ said_more node gives (q ∷ rs) [] r a h p = absurd h
 said_more node gives (q ∷ rs) (b ∷ bs) r a h p = (h.0, said_more node gives rs bs r a h.1 p)
 
 -- what was read and written of the requests alone
-consumed_of : (version : Version) (node : ℕ) (gives : Giving) (input left before after : Option (List ℕ)) (e : Exchanges version node gives input left before after [] []) → Consumes input left (spellings e.requests)
+consumed_of : (version : Version) (node : ℕ) (gives : Giving) (input left before after : Option (List ℕ))
+    (e : Exchanges version node gives input left before after [] []) → Consumes input left (spellings e.requests)
 consumed_of version node gives input left before after e = subst (Consumes input left) (append-nil (spellings e.requests)) e.consumed
 
-written_of : (version : Version) (node : ℕ) (gives : Giving) (input left before after : Option (List ℕ)) (e : Exchanges version node gives input left before after [] []) → Appends before after (replies_bytes e.replies)
+written_of : (version : Version) (node : ℕ) (gives : Giving) (input left before after : Option (List ℕ))
+    (e : Exchanges version node gives input left before after [] []) → Appends before after (replies_bytes e.replies)
 written_of version node gives input left before after e = subst (Appends before after) (append-nil (replies_bytes e.replies)) e.written
 
 -- a request that was read, and replied to in full

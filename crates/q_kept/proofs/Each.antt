@@ -21,11 +21,13 @@ all_append : {X : Type 0} (P : X → Type 0) (xs ys : List X) → AllByRecursion
 all_append P [] ys h k = k
 all_append P (x ∷ xs) ys h k = (h.0, all_append P xs ys h.1 k)
 
-all_map : {X Y : Type 0} (P : X → Type 0) (Q : Y → Type 0) (f : X → Y) → ((x : X) → P x → Q (f x)) → (xs : List X) → AllByRecursion P xs → AllByRecursion Q (map f xs)
+all_map : {X Y : Type 0} (P : X → Type 0) (Q : Y → Type 0) (f : X → Y) → ((x : X) → P x → Q (f x)) → (xs : List X) → AllByRecursion P xs
+    → AllByRecursion Q (map f xs)
 all_map P Q f g [] h = tt
 all_map P Q f g (x ∷ xs) h = (g x h.0, all_map P Q f g xs h.1)
 
-all_flat_map : {X Y : Type 0} (P : X → Type 0) (Q : Y → Type 0) (f : X → List Y) → ((x : X) → P x → AllByRecursion Q (f x)) → (xs : List X) → AllByRecursion P xs → AllByRecursion Q (flat_map f xs)
+all_flat_map : {X Y : Type 0} (P : X → Type 0) (Q : Y → Type 0) (f : X → List Y) → ((x : X) → P x → AllByRecursion Q (f x)) → (xs : List X)
+    → AllByRecursion P xs → AllByRecursion Q (flat_map f xs)
 all_flat_map P Q f g [] h = tt
 all_flat_map P Q f g (x ∷ xs) h = all_append Q (f x) (flat_map f xs) (g x h.0) (all_flat_map P Q f g xs h.1)
 
@@ -90,7 +92,8 @@ module _ (n : NodeState) (nodes : List ℕ) where
       spelled = subst (λ (x : Addressed). Spells v x l) (λ i. message_to (h.message i) (sym s.to i)) s;
     }
 
-    goes_all : (sent unsent : List Addressed) (ls : List Letter) → AllByRecursion Asked (sent ++ unsent) → AllZip (Spells v) sent ls → AllByRecursion (GoesAgain v n nodes questions) ls
+    goes_all : (sent unsent : List Addressed) (ls : List Letter) → AllByRecursion Asked (sent ++ unsent) → AllZip (Spells v) sent ls
+        → AllByRecursion (GoesAgain v n nodes questions) ls
     goes_all [] unsent [] h s = tt
     goes_all [] unsent (l ∷ ls) h s = absurd s
     goes_all (a ∷ sent) unsent [] h s = absurd s

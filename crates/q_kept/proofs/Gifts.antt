@@ -112,7 +112,8 @@ module _ (v : Version) where
       (adds_fitting m (drop 1 ws) qs u ls ks (sym e) (subst (λ (x : Option ℕ). AddsAll v (message_to m x ∷ []) ls ks) a l))
 
   -- all is as it was, but for the room
-  pub next_none : (ws : List Message) (qs asks : List Question) (u : Unsent) (ls ks : List Letter) → asks ≡ qs → ks ≡ ls → Adds v (outbox ws qs u) ls (outbox ws asks u) ks
+  pub next_none : (ws : List Message) (qs asks : List Question) (u : Unsent) (ls ks : List Letter) → asks ≡ qs → ks ≡ ls
+      → Adds v (outbox ws qs u) ls (outbox ws asks u) ks
   next_none ws qs asks u ls ks e k = subst (λ (x : List Question). Adds v (outbox ws qs u) ls (outbox ws x u) ks) (sym e) (adds_none (outbox ws qs u) ls ks k)
 
   -- letters behind none are all

@@ -26,13 +26,15 @@ module _ (same : (b : BookState) → Grows b b) (grow : (b c : BookState) (e : E
   delivers_grow m b c had has (Err (lost.Bytes f)) h = absurd h
   delivers_grow m b c had has (Err lost.OutOfMemory) h = absurd h
 
-  pub hears_grow : (bytes : List ℕ) (b c : BookState) (had has : List Message) (r : Result (Option Completed) LossReason) → Hears bytes b had r c has → Grows b c
+  pub hears_grow : (bytes : List ℕ) (b c : BookState) (had has : List Message) (r : Result (Option Completed) LossReason) → Hears bytes b had r c has
+      → Grows b c
   hears_grow bytes b c had has (Ok ended) h = delivers_grow h.0 b c had has (Ok ended) h.3
   hears_grow bytes b c had has (Err (lost.Book f)) h = delivers_grow h.0 b c had has (Err (lost.Book f)) h.3
   hears_grow bytes b c had has (Err (lost.Bytes f)) h = grows_same b c h.0.0
   hears_grow bytes b c had has (Err lost.OutOfMemory) h = grows_same b c h.0
 
-  pub receives_grow : (bytes : List ℕ) (b c : BookState) (had has : List Message) (l k : LossCounts) (ended : Option Completed) → Receives bytes b had l ended c has k → Grows b c
+  pub receives_grow : (bytes : List ℕ) (b c : BookState) (had has : List Message) (l k : LossCounts) (ended : Option Completed)
+      → Receives bytes b had l ended c has k → Grows b c
   receives_grow [] b c had has l k ended h = grows_same b c h.0.0
   receives_grow (byte ∷ bytes) b c had has l k ended h = hears_grow (byte ∷ bytes) b c had has h.0 h.1
 

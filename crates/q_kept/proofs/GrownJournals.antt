@@ -39,7 +39,8 @@ grows_calls b c (e ∷ es) r = grows_again b r.0 c (grows_call b r.0 e r.1) (gro
 
 module _ (b c : BookState) (g : Grows b c) where
   -- what is made of the head, the version and the entries of a book that grew
-  as_grown : (f : List ℕ → Version → List Entry → List ℕ) → f (head_bytes (head_of c)) c.version c.desk.journal ≡ f (head_bytes (head_of b)) b.version (b.desk.journal ++ g.more)
+  as_grown : (f : List ℕ → Version → List Entry → List ℕ)
+      → f (head_bytes (head_of c)) c.version c.desk.journal ≡ f (head_bytes (head_of b)) b.version (b.desk.journal ++ g.more)
   as_grown f =
       ap (λ (h : Head). f (head_bytes h) c.version c.desk.journal) g.head
       ∙ ap (λ (h : Head). f (head_bytes (head_of b)) h.version c.desk.journal) g.head

@@ -17,7 +17,8 @@ pub part_all : (old new : Option (List ℕ)) (bytes : List ℕ) → Appends old 
 part_all old new bytes h = record { part = bytes; rest = []; parts = append-nil bytes; appended = h }
 
 -- a beginning behind all of what came before
-pub part_behind : (first old new : Option (List ℕ)) (before bytes : List ℕ) → Appends first old before → AppendsPart old new bytes → AppendsPart first new (before ++ bytes)
+pub part_behind : (first old new : Option (List ℕ)) (before bytes : List ℕ) → Appends first old before → AppendsPart old new bytes
+    → AppendsPart first new (before ++ bytes)
 part_behind first old new before bytes h p = record {
   part = before ++ p.part;
   rest = p.rest;

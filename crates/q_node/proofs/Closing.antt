@@ -15,15 +15,18 @@ use Rattle.q_node.specs.declared.talk_end.Talk.TheVariants as talk
 -- ---- what is printed
 
 -- what was printed before is a front, or nothing
-told : (node : ℕ) (greeting : List ℕ) (a b c : Option (List ℕ)) (events : Result ℕ Unrecorded) (front : List ℕ) → IsFront node greeting front → Appends a b front → Appends b c (last_line events) → IsWritten node greeting (ending_of events) a c
+told : (node : ℕ) (greeting : List ℕ) (a b c : Option (List ℕ)) (events : Result ℕ Unrecorded) (front : List ℕ) → IsFront node greeting front
+    → Appends a b front → Appends b c (last_line events) → IsWritten node greeting (ending_of events) a c
 told node greeting a b c (Ok n) front is first last = (front, is, Appends-trans a b c front _ first last)
 told node greeting a b c (Err f) front is first last = (front, inl is, Appends-trans a b c front _ first last)
 
-pub written_ended : (node : ℕ) (greeting : List ℕ) (a b c : Option (List ℕ)) (events : Result ℕ Unrecorded) (e : NodeEnding) → Talks node greeting a talk.Ended b → Closes events b e c → IsWritten node greeting e a c
+pub written_ended : (node : ℕ) (greeting : List ℕ) (a b c : Option (List ℕ)) (events : Result ℕ Unrecorded) (e : NodeEnding)
+    → Talks node greeting a talk.Ended b → Closes events b e c → IsWritten node greeting e a c
 written_ended node greeting a b c events e t (inl h) = subst (λ (x : NodeEnding). IsWritten node greeting x a c) (sym h.0) (told node greeting a b c events t.0 t.1 t.2 h.1)
 written_ended node greeting a b c events e t (inr h) = subst (λ (x : NodeEnding). IsWritten node greeting x a c) (sym h.0) (t.0 ++ h.1.0, Appends-trans a b c t.0 h.1.0 t.2 h.1.1)
 
-pub written_unstarted : (node : ℕ) (greeting : List ℕ) (b c : Option (List ℕ)) (f : Unrecorded) (e : NodeEnding) → Closes (Err f) b e c → IsWritten node greeting e b c
+pub written_unstarted : (node : ℕ) (greeting : List ℕ) (b c : Option (List ℕ)) (f : Unrecorded) (e : NodeEnding) → Closes (Err f) b e c
+    → IsWritten node greeting e b c
 written_unstarted node greeting b c f e (inl h) = subst (λ (x : NodeEnding). IsWritten node greeting x b c) (sym h.0) ([], inr refl, h.1)
 written_unstarted node greeting b c f e (inr h) = subst (λ (x : NodeEnding). IsWritten node greeting x b c) (sym h.0) h.1
 
@@ -40,11 +43,13 @@ pub kept_beginning : (node : ℕ) (first file : Option (List ℕ)) (events : Res
 kept_beginning node first file (Ok n) h = beginning_of node first file n h
 kept_beginning node first file (Err f) h = h
 
-journal_of_ending : (node : ℕ) (first file : Option (List ℕ)) (events : Result ℕ Unrecorded) → IsKept node first file events → IsJournal node first file (ending_of events)
+journal_of_ending : (node : ℕ) (first file : Option (List ℕ)) (events : Result ℕ Unrecorded) → IsKept node first file events
+    → IsJournal node first file (ending_of events)
 journal_of_ending node first file (Ok n) h = h
 journal_of_ending node first file (Err f) h = h
 
-pub journal_ended : (node : ℕ) (first file b c : Option (List ℕ)) (events : Result ℕ Unrecorded) (e : NodeEnding) → Closes events b e c → IsKept node first file events → IsJournal node first file e
+pub journal_ended : (node : ℕ) (first file b c : Option (List ℕ)) (events : Result ℕ Unrecorded) (e : NodeEnding) → Closes events b e c
+    → IsKept node first file events → IsJournal node first file e
 journal_ended node first file b c events e (inl h) k = subst (IsJournal node first file) (sym h.0) (journal_of_ending node first file events k)
 journal_ended node first file b c events e (inr h) k = subst (IsJournal node first file) (sym h.0) (inl (kept_beginning node first file events k))
 

@@ -17,12 +17,14 @@ said_more node a b c s h is more =
     (all ++ s ∷ [], all_push (IsSaid node) all s said is, one_more_written said_line a b c all (all ++ s ∷ []) s refl written more)
 
 -- what was said behind the line that tells where the node hears
-pub greeted : (node : ℕ) (greeting : List ℕ) (a b c : Option (List ℕ)) → Appends a b (greeting ++ 10 ∷ []) → Converses node b c → (front : List ℕ) × IsFront node greeting front × Appends a c front
+pub greeted : (node : ℕ) (greeting : List ℕ) (a b c : Option (List ℕ)) → Appends a b (greeting ++ 10 ∷ []) → Converses node b c
+    → (front : List ℕ) × IsFront node greeting front × Appends a c front
 greeted node greeting a b c first h =
     let (all, said, written) = h in
     ((greeting ++ 10 ∷ []) ++ flat_map said_line all, record { all = all; said = said; spelled = refl }, Appends-trans a b c (greeting ++ 10 ∷ []) (flat_map said_line all) first written)
 
 -- the same where a write may fail
-pub greets : {E : Type 0} (node : ℕ) (greeting : List ℕ) (a b c : Option (List ℕ)) (r : Result (Unit {0}) E) → Appends a b (greeting ++ 10 ∷ []) → Tells node b r c → Greets node greeting a r c
+pub greets : {E : Type 0} (node : ℕ) (greeting : List ℕ) (a b c : Option (List ℕ)) (r : Result (Unit {0}) E) → Appends a b (greeting ++ 10 ∷ [])
+    → Tells node b r c → Greets node greeting a r c
 greets node greeting a b c (Ok u) first h = greeted node greeting a b c first h
 greets node greeting a b c (Err e) first h = behind a b c (greeting ++ 10 ∷ []) first h

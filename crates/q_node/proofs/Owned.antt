@@ -10,11 +10,9 @@ use Rattle.q_kept.specs.Recording.{Grows, IsRecorded}
 use Rattle.q_node.specs.Own.{IsOwn}
 
 -- of a book that grew, with what was recorded of it
-pub own_stays : (node : ℕ) (first : Option (List ℕ)) (b c : BookState) (r s : RecorderState) → Grows b c → IsOwn node first b r → (IsRecorded first b r → IsRecorded first c s) → IsOwn node first c s
-own_stays node first b c r s g own stays = record {
-  id = ap (λ (h : Head). h.id) g.head ∙ own.id;
-  recorded = ∥∥₁_map own.recorded stays;
-}
+pub own_stays : (node : ℕ) (first : Option (List ℕ)) (b c : BookState) (r s : RecorderState) → Grows b c → IsOwn node first b r
+    → (IsRecorded first b r → IsRecorded first c s) → IsOwn node first c s
+own_stays node first b c r s g own stays = record { id = ap (λ (h : Head). h.id) g.head ∙ own.id; recorded = ∥∥₁_map own.recorded stays }
 
 -- of a book and a recorder that are as they were
 pub own_same : (node : ℕ) (first : Option (List ℕ)) (b c : BookState) (r s : RecorderState) → c ≡ b → s ≡ r → IsOwn node first b r → IsOwn node first c s

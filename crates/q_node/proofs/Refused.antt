@@ -9,7 +9,8 @@ use Rattle.q_node.proofs.Refusing as refusing
 use Rattle.q_node.specs.Files.{RunsText}
 
 -- a line that is faulty is not told as a file that is not read
-pub not_unread : (source : List ℕ) (id line : ℕ) (before after : Option (List ℕ)) → IsFault source (Syntax line) → RunsText source id (ending.Refused FileFailed) before after → ⊥
+pub not_unread : (source : List ℕ) (id line : ℕ) (before after : Option (List ℕ)) → IsFault source (Syntax line)
+    → RunsText source id (ending.Refused FileFailed) before after → ⊥
 not_unread source id line before after is (inl h) =
     let same : Syntax line ≡ OutOfMemory = not_refused source h.0 (Syntax line) h.1 is in
     absurd cc

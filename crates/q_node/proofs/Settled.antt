@@ -52,7 +52,8 @@ pub replies_at : (r : Request) (said : Reply) (x y : OwnState) (letters : Option
     → SettlesAfter (RepliedSo r said y) y letters new
 replies_at r said x y letters new e = subst (λ (o : OwnState). SettlesAfter (RepliedSo r said o) o letters new) e
 
-pub leaves_at : (x y : OwnState) (told : Said) (letters : Option (List Letter)) (new : OwnState) → x ≡ y → LeavesAndSettles x told letters new → LeavesAndSettles y told letters new
+pub leaves_at : (x y : OwnState) (told : Said) (letters : Option (List Letter)) (new : OwnState) → x ≡ y → LeavesAndSettles x told letters new
+    → LeavesAndSettles y told letters new
 leaves_at x y told letters new e = subst (λ (o : OwnState). LeavesAndSettles o told letters new) e
 
 -- ---- what was not sent is counted
@@ -62,5 +63,6 @@ pub counts : (x : OwnState) (book : BookState) (waiting : List Message) (lost : 
     → record x { book = book; waiting = waiting; lost = lost; unsent = unsent; asker = asker } ≡ record x { unsent = both_unsent x.unsent more }
 counts x book waiting lost unsent more asker books waits losses counted seat = λ i. record x { book = books i; waiting = waits i; lost = losses i; unsent = counted i; asker = seat i }
 
-pub counts_at : (x y new : OwnState) (more : Unsent) → x ≡ y → new ≡ record x { unsent = both_unsent x.unsent more } → new ≡ record y { unsent = both_unsent y.unsent more }
+pub counts_at : (x y new : OwnState) (more : Unsent) → x ≡ y → new ≡ record x { unsent = both_unsent x.unsent more }
+    → new ≡ record y { unsent = both_unsent y.unsent more }
 counts_at x y new more e = subst (λ (o : OwnState). new ≡ record o { unsent = both_unsent o.unsent more }) e

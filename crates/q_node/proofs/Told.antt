@@ -20,7 +20,8 @@ use Rattle.q_node.specs.Calls.{Finishes, HasEndedWritten, LeavesAndSettles, is_t
 
 -- ---- a leave
 
-why_by : (b : Bool) → ((if b then reasons.FileFailed else reasons.OutOfMemory) ≡ reasons.FileFailed) ⊎ ((if b then reasons.FileFailed else reasons.OutOfMemory) ≡ reasons.OutOfMemory)
+why_by : (b : Bool)
+    → ((if b then reasons.FileFailed else reasons.OutOfMemory) ≡ reasons.FileFailed) ⊎ ((if b then reasons.FileFailed else reasons.OutOfMemory) ≡ reasons.OutOfMemory)
 why_by true = inl refl
 why_by false = inr refl
 
@@ -43,7 +44,8 @@ undone_by b c had has (Ok u) written recorder f refused h s = let x = sym refuse
 undone_by b c had has (Err g) written recorder f refused h s = absurd cc
 
 -- what the book refuses is not done
-pub undone : (old : OwnState) (letters : Option (List Letter)) (new : OwnState) (f : Reason) → left old.book ≡ Err f → LeavesAndSettles old said.Done letters new → ⊥
+pub undone : (old : OwnState) (letters : Option (List Letter)) (new : OwnState) (f : Reason) → left old.book ≡ Err f
+    → LeavesAndSettles old said.Done letters new → ⊥
 undone old letters new f refused l =
     undone_by old.book l.settled.book old.waiting l.settled.waiting l.left (is_some letters) new.recorder f refused l.settled.happened.0 l.says
 
@@ -54,18 +56,17 @@ pub untold : (o : OwnState) (tag : ℕ) (b : Bool) → b ≡ false → b ≡ is_
 untold o tag b fails is = (λ so. absurd cc, λ h. let x = sym fails ∙ is ∙ h.told in absurd cc)
 
 -- it is as the book has it where that is written
-pub told : (o : OwnState) (b : BookState) (tag : ℕ) (t r : Bool) → t ≡ true → t ≡ is_told o → b ≡ o.book → IsTrue r ↔ HasEndedIn b tag → IsTrue r ↔ HasEndedWritten o tag
+pub told : (o : OwnState) (b : BookState) (tag : ℕ) (t r : Bool) → t ≡ true → t ≡ is_told o → b ≡ o.book → IsTrue r ↔ HasEndedIn b tag
+    → IsTrue r ↔ HasEndedWritten o tag
 told o b tag t r holds is same h = (
-  λ so. record {
-    told = sym is ∙ holds;
-    ended = subst (λ (x : BookState). HasEndedIn x tag) same (h.0 so);
-  },
+  λ so. record { told = sym is ∙ holds; ended = subst (λ (x : BookState). HasEndedIn x tag) same (h.0 so) },
   λ has. h.1 (subst (λ (x : BookState). HasEndedIn x tag) (sym same) has.ended),
 )
 
 -- ---- the end
 
-pub finishes_at : (r s : RecorderState) (b c : BookState) (events : Result ℕ Unrecorded) (new : RecorderState) → r ≡ s → b ≡ c → Finishes r b events new → Finishes s c events new
+pub finishes_at : (r s : RecorderState) (b c : BookState) (events : Result ℕ Unrecorded) (new : RecorderState) → r ≡ s → b ≡ c
+    → Finishes r b events new → Finishes s c events new
 finishes_at r s b c events new recorders books h =
     subst (λ (x : BookState). Finishes s x events new) books (subst (λ (x : RecorderState). Finishes x b events new) recorders h)
 

@@ -13,7 +13,8 @@ use Rattle.q_nodes.specs.declared.report.Tally.{Tally}
 use Rattle.q_nodes.specs.declared.script.ClusterScript.{ClusterScript}
 
 -- what the lines tell, and then the refusal of nodes whose books make no cluster of the script
-behind_told : (script : ClusterScript) (books : List BookState) (f : ClusterRunFault) (told : List ℕ) (e : ClusterEnding) (a b c : Option (List ℕ)) → AreBooksOf script.nodes books → TellsApart script books f told → Appends a b told → IsRefusedAlone f e b c → IsWritten script e a c
+behind_told : (script : ClusterScript) (books : List BookState) (f : ClusterRunFault) (told : List ℕ) (e : ClusterEnding) (a b c : Option (List ℕ))
+    → AreBooksOf script.nodes books → TellsApart script books f told → Appends a b told → IsRefusedAlone f e b c → IsWritten script e a c
 behind_told script books f told (ending.Gathered t) a b c are apart p q = absurd q
 behind_told script books f told (ending.Refused g) a b c are apart p q =
     inr (told ++ refused_line g, record { books = books; are_books = are; told = told; apart = subst (λ (h : ClusterRunFault). TellsApart script books h told) (sym q.0) apart; says = refl }, Appends-trans a b c told (refused_line g) p (subst (λ (h : ClusterRunFault). Appends b c (refused_line h)) (sym q.0) q.1))

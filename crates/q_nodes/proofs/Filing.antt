@@ -28,7 +28,8 @@ AreFiledBelow ops i find = (k : ℕ) (o : Op) → k < i → slice_get ops k ≡ 
 
 module _ (ops : List Op) (i : ℕ) (op : Op) (old new : Key → Option ℕ) (distinct : AreDistinct ops) (at : slice_get ops i ≡ Some op) (below : AreFiledBelow ops i old)
     (put : (q : Key) → new q ≡ cond (same_key (op.node, op.tag) q) (Some i) (old q)) where
-  filed_one : (k : ℕ) (o : Op) → k < i + 1 → slice_get ops k ≡ Some o → (b : Bool) → same_key (op.node, op.tag) (o.node, o.tag) ≡ b → new (o.node, o.tag) ≡ Some k
+  filed_one : (k : ℕ) (o : Op) → k < i + 1 → slice_get ops k ≡ Some o → (b : Bool) → same_key (op.node, op.tag) (o.node, o.tag) ≡ b
+      → new (o.node, o.tag) ≡ Some k
   filed_one k o less there true same =
       let parts = both_true (nat_eq op.node o.node) (nat_eq op.tag o.tag) same in
       let place : i ≡ k = distinct i k op o at there (eqb-true op.node o.node parts.0) (eqb-true op.tag o.tag parts.1) in
@@ -61,19 +62,22 @@ at_place ops find node tag o filed among by tagged =
     let found = filed there.0 o there.1 in
     (there.0, there.1, subst (λ (n : ℕ). find (n, tag) ≡ Some there.0) by (subst (λ (t : ℕ). find (o.node, t) ≡ Some there.0) tagged found))
 
-pub not_filed : (ops : List Op) (find : Key → Option ℕ) (node tag : ℕ) → AreFiled ops find → None ≡ find (node, tag) → (o : Op) → Among o ops → o.node ≡ node → o.tag ≡ tag → ⊥
+pub not_filed : (ops : List Op) (find : Key → Option ℕ) (node tag : ℕ) → AreFiled ops find → None ≡ find (node, tag) → (o : Op) → Among o ops
+    → o.node ≡ node → o.tag ≡ tag → ⊥
 not_filed ops find node tag filed none o among by tagged =
     let there = at_place ops find node tag o filed among by tagged in
     no_some there.0 (none ∙ there.2)
 
-pub past_all : (ops : List Op) (find : Key → Option ℕ) (node tag place : ℕ) → AreFiled ops find → Some place ≡ find (node, tag) → None ≡ slice_get ops place → (o : Op) → Among o ops → o.node ≡ node → o.tag ≡ tag → ⊥
+pub past_all : (ops : List Op) (find : Key → Option ℕ) (node tag place : ℕ) → AreFiled ops find → Some place ≡ find (node, tag)
+    → None ≡ slice_get ops place → (o : Op) → Among o ops → o.node ≡ node → o.tag ≡ tag → ⊥
 past_all ops find node tag place filed is none o among by tagged =
     let there = at_place ops find node tag o filed among by tagged in
     let same : place ≡ there.0 = same_some place there.0 (is ∙ there.2) in
     no_some o (none ∙ ap (slice_get ops) same ∙ there.1)
 
 -- the operation at the place is each of this node and tag
-pub is_that : (ops : List Op) (find : Key → Option ℕ) (node tag place : ℕ) (op : Op) → AreFiled ops find → Some place ≡ find (node, tag) → Some op ≡ slice_get ops place → (o : Op) → Among o ops → o.node ≡ node → o.tag ≡ tag → o ≡ op
+pub is_that : (ops : List Op) (find : Key → Option ℕ) (node tag place : ℕ) (op : Op) → AreFiled ops find → Some place ≡ find (node, tag)
+    → Some op ≡ slice_get ops place → (o : Op) → Among o ops → o.node ≡ node → o.tag ≡ tag → o ≡ op
 is_that ops find node tag place op filed is at o among by tagged =
     let there = at_place ops find node tag o filed among by tagged in
     let same : place ≡ there.0 = same_some place there.0 (is ∙ there.2) in

@@ -33,7 +33,8 @@ program_is c node id code b p false at has other = λ h.
 
 -- ---- stores
 
-pub no_store : (c : ClusterState) (node tag : ℕ) (bytes : List ℕ) → ((o : Op) → Among o c.past.ops → o.node ≡ node → o.tag ≡ tag → ⊥) → (o : Op) → IsStoreOf c node tag bytes o → ⊥
+pub no_store : (c : ClusterState) (node tag : ℕ) (bytes : List ℕ) → ((o : Op) → Among o c.past.ops → o.node ≡ node → o.tag ≡ tag → ⊥) → (o : Op)
+    → IsStoreOf c node tag bytes o → ⊥
 no_store c node tag bytes none o h = none o h.among h.by h.tagged
 
 pub other_store : (c : ClusterState) (node tag : ℕ) (bytes : List ℕ) (op : Op) → IsOnly c.past.ops node tag op → ((e : Entry) → kind_of op.session ≡ kind.Store e → e.value ≡ bytes → ⊥)
@@ -47,7 +48,8 @@ pub stored_there : (nodes node tag : ℕ) (calls : Outcome → Type 0) → Calls
 stored_there nodes node tag calls (inl h) = h.0
 stored_there nodes node tag calls (inr h) = let e : outcome.Stored tag ≡ outcome.Refused no_such_node = h.1 in absurd (cc)
 
-pub store_lost : (c : ClusterState) (node tag : ℕ) (value : Vec ℕ Global) → ((o : Op) → IsStoreOf c node tag value.items o → ⊥) → Has c (line.Store node value) (outcome.Stored tag) → ⊥
+pub store_lost : (c : ClusterState) (node tag : ℕ) (value : Vec ℕ Global) → ((o : Op) → IsStoreOf c node tag value.items o → ⊥)
+    → Has c (line.Store node value) (outcome.Stored tag) → ⊥
 store_lost c node tag value none h = none h.0 h.1
 
 -- ---- queries
@@ -57,7 +59,8 @@ pub query_is : (c : ClusterState) (node query program start : ℕ) (b : BookStat
 query_is c node query program start b q at there names begins = record { book = b; at = sym at; numbered = sym there; names = names; begins = begins }
 
 -- the query that stands there is the one that is looked for
-that_query : (c : ClusterState) (node query program start : ℕ) (b : BookState) (x q : Query) → Some b ≡ book_at c node → Some x ≡ slice_get b.desk.queries query → IsQueryOf c node query program start q → x ≡ q
+that_query : (c : ClusterState) (node query program start : ℕ) (b : BookState) (x q : Query) → Some b ≡ book_at c node
+    → Some x ≡ slice_get b.desk.queries query → IsQueryOf c node query program start q → x ≡ q
 that_query c node query program start b x q at there h =
     let same : b ≡ h.book = same_some b h.book (at ∙ h.at) in
     same_some x q (there ∙ ap (λ (y : BookState). slice_get y.desk.queries query) same ∙ h.numbered)
@@ -72,7 +75,8 @@ pub other_start : (c : ClusterState) (node query program start : ℕ) (b : BookS
 other_start c node query program start b x at there other q h =
     other (ap (λ (y : Query). y.start) (that_query c node query program start b x q at there h) ∙ h.begins)
 
-pub query_lost : (c : ClusterState) (node program start query : ℕ) → ((q : Query) → IsQueryOf c node query (program_id program) start q → ⊥) → Has c (line.Ask node program start) (outcome.Asked query) → ⊥
+pub query_lost : (c : ClusterState) (node program start query : ℕ) → ((q : Query) → IsQueryOf c node query (program_id program) start q → ⊥)
+    → Has c (line.Ask node program start) (outcome.Asked query) → ⊥
 query_lost c node program start query none h = none h.0 h.1
 
 -- what is tested of the bytes is so of the program that the node has

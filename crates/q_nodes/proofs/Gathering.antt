@@ -22,10 +22,12 @@ told_whole script books c reports tally refusal text of told says counts none =
 
 -- ---- why there is no cluster of the script
 
-pub not_founded : (script : ClusterScript) (books : List BookState) (c : ClusterState) (f : ClusterRunFault) → GathersBooks books c → f ≡ bad_founders → (IsFoundedBy script c → ⊥) → IsUngathered script books f
+pub not_founded : (script : ClusterScript) (books : List BookState) (c : ClusterState) (f : ClusterRunFault) → GathersBooks books c → f ≡ bad_founders
+    → (IsFoundedBy script c → ⊥) → IsUngathered script books f
 not_founded script books c f gathers is other = inr (c, gathers, is, inl other)
 
-pub not_there : (script : ClusterScript) (books : List BookState) (c : ClusterState) (f : ClusterRunFault) → GathersBooks books c → f ≡ bad_founders → Lacks script.nodes c script.lines.items → IsUngathered script books f
+pub not_there : (script : ClusterScript) (books : List BookState) (c : ClusterState) (f : ClusterRunFault) → GathersBooks books c → f ≡ bad_founders
+    → Lacks script.nodes c script.lines.items → IsUngathered script books f
 not_there script books c f gathers is lacks = inr (c, gathers, is, inr lacks)
 
 -- ---- what a cluster lacks

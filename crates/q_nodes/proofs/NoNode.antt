@@ -28,7 +28,8 @@ not_tested e [] r others rest h = rest h
 not_tested e (t ∷ ts) r others rest h = by_test e t.1 (tested ts r) t.0 others.0 (not_tested e ts r others.1 rest) h
 
 -- nor do parts that do not
-not_then : {S A B E : Type 0} (e : E) (r : Result (A × S) E) (rest : A → S → Result B E) → (r ≡ Err e → ⊥) → ((a : A) (s : S) → rest a s ≡ Err e → ⊥) → and_then r rest ≡ Err e → ⊥
+not_then : {S A B E : Type 0} (e : E) (r : Result (A × S) E) (rest : A → S → Result B E) → (r ≡ Err e → ⊥) → ((a : A) (s : S) → rest a s ≡ Err e → ⊥)
+    → and_then r rest ≡ Err e → ⊥
 not_then e (Ok a) rest first later h = later a.0 a.1 h
 not_then {S} {A} e (Err f) rest first later h = first (ap (λ x. let r : Result (A × S) _ = Err x in r) (same_fault f e h))
 

@@ -10,7 +10,8 @@ use Rattle.q_nodes.specs.Books.{AreBooksOf, IsBookOf}
 abbrev pub AreBooksBelow : List BookState → ℕ → Type 0
 AreBooksBelow books n = (k : ℕ) (b : BookState) → k < n → slice_get books k ≡ Some b → IsBookOf (k + 1) b
 
-pub book_next : (books : List BookState) (n : ℕ) (b : BookState) → AreBooksBelow books n → slice_get books n ≡ Some b → IsBookOf (n + 1) b → AreBooksBelow books (n + 1)
+pub book_next : (books : List BookState) (n : ℕ) (b : BookState) → AreBooksBelow books n → slice_get books n ≡ Some b → IsBookOf (n + 1) b
+    → AreBooksBelow books (n + 1)
 book_next books n b below at is k x lt at_k =
     elim (cases_lt k n) [
       | inl before ↦ below k x before at_k

@@ -31,7 +31,8 @@ use Rattle.q_nodes.proofs.Turns.{turn_at, turn_length}
 -- ---- the cluster
 
 -- books that gather into a cluster of the script's founders gather into a history
-pub cluster_of_books : (script : ClusterScript) (c : ClusterState) (books : List BookState) → GathersBooks books c → IsFoundedBy script c → IsClusterOf script books c
+pub cluster_of_books : (script : ClusterScript) (c : ClusterState) (books : List BookState) → GathersBooks books c → IsFoundedBy script c
+    → IsClusterOf script books c
 cluster_of_books script c books gathers founded = record { history = gathers.gathered.history; founded = founded; gathers = gathers }
 
 -- ---- its answers
@@ -46,7 +47,8 @@ answered_by (Answered view r) ran e = (view, ap (Answered view) (same_some r ran
 abbrev pub EveryAnswer : Type 0
 EveryAnswer = (version : Version) (config : Config) (founders : List ℕ) (events : List ClusterEvent) (c : ClusterState) → Reaches (start version config founders) events c → headline.AnswersAreTrue c
 
-true_answer : EveryAnswer → (c : ClusterState) (node query program start : ℕ) (q : Query) (ran : Ran) → IsHistory c → IsQueryOf c node query program start q → Some ran ≡ answer_in q.phase → IsTrueAnswer c node query program start ran
+true_answer : EveryAnswer → (c : ClusterState) (node query program start : ℕ) (q : Query) (ran : Ran) → IsHistory c
+    → IsQueryOf c node query program start q → Some ran ≡ answer_in q.phase → IsTrueAnswer c node query program start ran
 true_answer law c node query program start q ran history is e =
     let (view, recorded) = answered_by q.phase ran e in
     record {
@@ -69,7 +71,8 @@ told_answer law nodes c node program start by query ran history told =
     let (there, same, found) = told in
     (same, true_answer law c node query (program_id program) start found.0 ran history found.1 found.2)
 
-pub all_true : EveryAnswer → (script : ClusterScript) (tally : Tally) (before after : Option (List ℕ)) → IsWritten script (ending.Gathered tally) before after → AnswersAreTrue script before after
+pub all_true : EveryAnswer → (script : ClusterScript) (tally : Tally) (before after : Option (List ℕ))
+    → IsWritten script (ending.Gathered tally) before after → AnswersAreTrue script before after
 all_true law script tally before after written =
     let (text, gathered, appends) = written in
     let told = gathered.tells in

@@ -4,13 +4,15 @@ use Rattle.sc_world.specs.Records.{Among}
 use Rattle.q_history.proofs.Lists.{same_some, no_some}
 use Rattle.q_nodes.specs.Lines.{InTurn}
 
-pub turn_behind : {A B : Type 0} (P : A → B → Type 0) (xs : List A) (ys : List B) (x : A) (y : B) → InTurn P xs ys → P x y → InTurn P (xs ++ x ∷ []) (ys ++ y ∷ [])
+pub turn_behind : {A B : Type 0} (P : A → B → Type 0) (xs : List A) (ys : List B) (x : A) (y : B) → InTurn P xs ys → P x y
+    → InTurn P (xs ++ x ∷ []) (ys ++ y ∷ [])
 turn_behind P [] [] x y h p = (p, tt)
 turn_behind P [] (b ∷ ys) x y h p = absurd h
 turn_behind P (a ∷ xs) [] x y h p = absurd h
 turn_behind P (a ∷ xs) (b ∷ ys) x y h p = (h.0, turn_behind P xs ys x y h.1 p)
 
-pub turn_at : {A B : Type 0} (P : A → B → Type 0) (xs : List A) (ys : List B) (k : ℕ) (x : A) (y : B) → InTurn P xs ys → slice_get xs k ≡ Some x → slice_get ys k ≡ Some y → P x y
+pub turn_at : {A B : Type 0} (P : A → B → Type 0) (xs : List A) (ys : List B) (k : ℕ) (x : A) (y : B) → InTurn P xs ys → slice_get xs k ≡ Some x
+    → slice_get ys k ≡ Some y → P x y
 turn_at P [] ys k x y h at_x at_y = absurd (no_some x at_x)
 turn_at P (a ∷ xs) [] k x y h at_x at_y = absurd h
 turn_at {A} {B} P (a ∷ xs) (b ∷ ys) zero x y h at_x at_y =

@@ -31,7 +31,8 @@ saves_line writes (Some b) name s before text t after h = elim h [
 ]
 
 -- what a line does leaves its number
-pub same_line : {F : Type 0} (writes : Writing F) (l : ScriptLine) (s : SimState) (before : F) (text : List ℕ) (t : SimState) (after : F) → Does writes l s before text t after → t.line ≡ s.line
+pub same_line : {F : Type 0} (writes : Writing F) (l : ScriptLine) (s : SimState) (before : F) (text : List ℕ) (t : SimState) (after : F)
+    → Does writes l s before text t after → t.line ≡ s.line
 same_line writes (Call (Program node code)) s before text t after h = elim h.0 [ inl a ↦ a.2.line | inr r ↦ ap (λ (x : SimState). x.line) r.2 ]
 same_line writes (All limit) s before text t after h = delivers_line limit s text t h.0
 same_line writes Pairs s before text t after h = line_of s t h.0.1

@@ -39,7 +39,8 @@ is_some None x h = absurd (cc)
 
 -- the book of a live node is put in anew, and no node stops
 module _ (c : ClusterState) (id : ℕ) (x : BookState) (at : live_at c id ≡ Some x) (b : BookState) where
-  live_here : (n : ℕ) (here : Bool) → (n == id) ≡ here → IsSome (live (set.contains c.past.crashed n) (cond here (Some b) (fin.get c.books n))) → IsSome (live_at c n)
+  live_here : (n : ℕ) (here : Bool) → (n == id) ≡ here → IsSome (live (set.contains c.past.crashed n) (cond here (Some b) (fin.get c.books n)))
+      → IsSome (live_at c n)
   live_here n true is h = is_some (live_at c n) x (ap (live_at c) (eqb-true n id is) ∙ at)
   live_here n false is h = h
 

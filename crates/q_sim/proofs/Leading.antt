@@ -95,14 +95,16 @@ saves_led writes (Some b) name s before text t after h = elim h [
 
 -- ---- lines
 
-pub does_led : {F : Type 0} (writes : Writing F) (l : ScriptLine) (s : SimState) (before : F) (text : List ℕ) (t : SimState) (after : F) → Does writes l s before text t after → IsLed s t
+pub does_led : {F : Type 0} (writes : Writing F) (l : ScriptLine) (s : SimState) (before : F) (text : List ℕ) (t : SimState) (after : F)
+    → Does writes l s before text t after → IsLed s t
 does_led writes (Call (Program node code)) s before text t after h = registers_led node code.items s text t h.0
 does_led writes (All limit) s before text t after h = delivers_led limit s text t h.0
 does_led writes Pairs s before text t after h = led_itself s t h.0.1
 does_led writes (Journal node file) s before text t after h = saves_led writes (book_at s.cluster node) (string_bytes file) s before text t after h
 does_led writes event s before text t after h = acts_led _ s text t h.0
 
-pub plays_led : {F : Type 0} (writes : Writing F) (ls : List ScriptLine) (s : SimState) (before : F) (text : List ℕ) (t : SimState) (after : F) → Plays writes ls s before text t after → IsLed s t
+pub plays_led : {F : Type 0} (writes : Writing F) (ls : List ScriptLine) (s : SimState) (before : F) (text : List ℕ) (t : SimState) (after : F)
+    → Plays writes ls s before text t after → IsLed s t
 plays_led writes [] s before text t after p = led_itself s t p.0
 plays_led writes (l ∷ ls) s before text t after p = led_on s p.0 t (led_on s (at_next_line s) p.0 (led_next s) (does_led writes l (at_next_line s) before p.2 p.0 p.1 p.4)) (plays_led writes ls p.0 p.1 p.3 t after p.5)
 

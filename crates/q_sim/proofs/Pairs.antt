@@ -28,7 +28,8 @@ or_cond true b = refl
 or_cond false b = refl
 
 -- keys that differ at one make a set that has that one too
-pub one_more : (ks ls : List (ℕ × ℕ)) (k : ℕ × ℕ) (s : Deliveries) → set.from_list ks ≡ s → ((q : ℕ × ℕ) → has ls q ≡ cond (eq_by_cmp pair_cmp k q) true (has ks q)) → set.from_list ls ≡ set.insert s k
+pub one_more : (ks ls : List (ℕ × ℕ)) (k : ℕ × ℕ) (s : Deliveries) → set.from_list ks ≡ s
+    → ((q : ℕ × ℕ) → has ls q ≡ cond (eq_by_cmp pair_cmp k q) true (has ks q)) → set.from_list ls ≡ set.insert s k
 one_more ks ls k s is h =
     set.same_set pair_cmp_total exact (set.from_list ls) (set.insert s k) (λ q.
     found ls q ∙ h q ∙ or_cond (eq_by_cmp pair_cmp k q) (has ks q)

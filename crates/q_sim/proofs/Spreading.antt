@@ -26,7 +26,8 @@ more_or : (m n : ℕ) → m ≤ n → (m < n) ⊎ (m ≡ n)
 more_or m n h = elim (cases_lt m n) [ inl less ↦ inl less | inr more ↦ inr (omega (arith, h, more)) ]
 
 -- the message and the node that are next
-is_next : (s : SimState) (message place : ℕ) → Rises s.nodes → Ahead s message place → Awaits s message (slice_index s.nodes place) → IsNext s message (slice_index s.nodes place)
+is_next : (s : SimState) (message place : ℕ) → Rises s.nodes → Ahead s message place → Awaits s message (slice_index s.nodes place)
+    → IsNext s message (slice_index s.nodes place)
 is_next s message place rises h a = record { awaits = a; least = λ m n b. least m n (h m n b) }
   where
     not_less : (k n : ℕ) → place ≤ k → k < length s.nodes → slice_index s.nodes k ≡ n → slice_index s.nodes place ≤ n
@@ -35,7 +36,8 @@ is_next s message place rises h a = record { awaits = a; least = λ m n b. least
       | inr same ↦ let e = ap (λ i. slice_index s.nodes i) same in omega (arith, e, is)
     ]
 
-    least : (m n : ℕ) → (message < m) ⊎ ((message ≡ m) × ((k : ℕ) × (place ≤ k) × (k < length s.nodes) × (slice_index s.nodes k ≡ n))) → (message < m) ⊎ ((message ≡ m) × (slice_index s.nodes place ≤ n))
+    least : (m n : ℕ) → (message < m) ⊎ ((message ≡ m) × ((k : ℕ) × (place ≤ k) × (k < length s.nodes) × (slice_index s.nodes k ≡ n)))
+        → (message < m) ⊎ ((message ≡ m) × (slice_index s.nodes place ≤ n))
     least m n (inl more) = inl more
     least m n (inr is) = inr (is.0, not_less is.1.0 n is.1.1 is.1.2 is.1.3)
 
@@ -43,7 +45,8 @@ is_next s message place rises h a = record { awaits = a; least = λ m n b. least
 passed_over : (s : SimState) (message place : ℕ) → (Awaits s message (slice_index s.nodes place) → ⊥) → Ahead s message place → Ahead s message (place + 1)
 passed_over s message place none h m n a = past (h m n a)
   where
-    past : (message < m) ⊎ ((message ≡ m) × ((k : ℕ) × (place ≤ k) × (k < length s.nodes) × (slice_index s.nodes k ≡ n))) → (message < m) ⊎ ((message ≡ m) × ((k : ℕ) × (place + 1 ≤ k) × (k < length s.nodes) × (slice_index s.nodes k ≡ n)))
+    past : (message < m) ⊎ ((message ≡ m) × ((k : ℕ) × (place ≤ k) × (k < length s.nodes) × (slice_index s.nodes k ≡ n)))
+        → (message < m) ⊎ ((message ≡ m) × ((k : ℕ) × (place + 1 ≤ k) × (k < length s.nodes) × (slice_index s.nodes k ≡ n)))
     past (inl more) = inl more
     past (inr is) = elim (more_or place is.1.0 is.1.1) [
       | inl more ↦ inr (is.0, (is.1.0, omega (arith, more), is.1.2, is.1.3))
@@ -68,7 +71,8 @@ module _ (s t : SimState) (message node : ℕ) (sent : message < length s.cluste
   ]
 
 -- a place that was tried is passed
-tried_over : (s t : SimState) (message place : ℕ) → message < length s.cluster.past.sent → Tries s message (slice_index s.nodes place) t → Ahead s message place → Ahead t message (place + 1)
+tried_over : (s t : SimState) (message place : ℕ) → message < length s.cluster.past.sent → Tries s message (slice_index s.nodes place) t
+    → Ahead s message place → Ahead t message (place + 1)
 tried_over s t message place sent tries h =
     passed_over t message place
     (λ a. not_again s t message (slice_index s.nodes place) sent tries (subst (λ (ns : List ℕ). Awaits t message (slice_index ns place)) tries.nodes a))
@@ -77,7 +81,8 @@ tried_over s t message place sent tries h =
 -- ---- how many are left
 
 -- one more
-one_more : (limit : ℕ) (s : SimState) (left : ℕ) (t v : SimState) (message node : ℕ) → IsOnward limit s left t → 0 < left → IsNext t message node → Tries t message node v → IsOnward limit s (left - 1) v
+one_more : (limit : ℕ) (s : SimState) (left : ℕ) (t v : SimState) (message node : ℕ) → IsOnward limit s left t → 0 < left → IsNext t message node
+    → Tries t message node v → IsOnward limit s (left - 1) v
 one_more limit s left t v message node o some next tries =
     let count : suc (left - 1) ≡ left = omega arith in
     record {
@@ -91,7 +96,8 @@ all_made zero t none = (refl, refl)
 all_made (suc n) t none = inl (none, refl, refl)
 
 -- no message is left
-pub nothing_awaited : (limit : ℕ) (s : SimState) (left : ℕ) (t : SimState) (message : ℕ) → IsOnward limit s left t → AwaitsFrom message t → length t.cluster.past.sent ≤ message → DeliversAll limit s [] t
+pub nothing_awaited : (limit : ℕ) (s : SimState) (left : ℕ) (t : SimState) (message : ℕ) → IsOnward limit s left t → AwaitsFrom message t
+    → length t.cluster.past.sent ≤ message → DeliversAll limit s [] t
 nothing_awaited limit s left t message o from over = o.rest [] t (all_made left t (λ m n a. let low = from m n a in let high = a.sent in absurd (omega (arith, low, high, over))))
 
 -- ---- one place of the nodes

@@ -29,7 +29,8 @@ use Rattle.q_sim.specs.Simulates.{SimState, refusing, Acts}
 use Rattle.q_sim.specs.Longer.{RefusesLonger}
 
 -- bytes of which no value is made are more
-pub longer : (bytes : List ℕ) (r : Result (List ℕ) ValueFault) (f : ValueFault) → r ≡ Err f → (IsErrOf r value_fault.BadValue ↔ (most_bytes < length bytes)) → most_bytes < length bytes
+pub longer : (bytes : List ℕ) (r : Result (List ℕ) ValueFault) (f : ValueFault) → r ≡ Err f
+    → (IsErrOf r value_fault.BadValue ↔ (most_bytes < length bytes)) → most_bytes < length bytes
 longer bytes (Ok v) f is bad = absurd cc
 longer bytes (Err value_fault.BadValue) f is bad = bad.0 refl
 
@@ -70,7 +71,8 @@ module _ (c : ClusterState) (id : ℕ) where
   at_no_book is = at_no_node (sym (live_none (set.contains c.past.crashed id) (book_at c id) is))
 
   module _ (b : BookState) (is : Some b ≡ book_at c id) (lives : is_some (live_at c id) ≡ true) where
-    by_its_book : (value : List ℕ) (e : Reason) → (b.node.gone ≡ false → book.stored b value ≡ Err e) → by_book (live_at c id) (called c id (call.Store value)) ≡ Err e
+    by_its_book : (value : List ℕ) (e : Reason) → (b.node.gone ≡ false → book.stored b value ≡ Err e)
+        → by_book (live_at c id) (called c id (call.Store value)) ≡ Err e
     by_its_book value e says =
         let crashed = set.contains c.past.crashed id in
         let there = is_there crashed b (ap (λ (o : Option BookState). is_some (live crashed o)) is ∙ lives) in

@@ -1,6 +1,6 @@
 -- What each `run` line prints is recorded in the last cluster, and true.
 use Rattle.std.proofs.Common.{◌≡◌, inl, inr, ℕ, Bool, true, List, [], ◌∷◌, ◌++◌, refl, sym, ap, ◌∙◌, subst, append-nil, slice_get, Result, Ok, Err}
-use Rattle.sc_members.specs.Members.{Config}
+use Rattle.sc_members.specs.Members.{Config, config_of}
 use Rattle.sc_msg.specs.declared.version.Version.{Version}
 use Rattle.sc_msg.specs.declared.version.Version.TheVariants.{Second}
 use Rattle.sc_node.specs.Nodes.{are_founders}
@@ -18,7 +18,6 @@ use Rattle.q_history.specs.Calls.{Reaches, Takes}
 use Rattle.q_history.specs.Clusters.{start}
 use Rattle.q_told.specs.declared.refusal.Refusal.TheVariants.{Cluster}
 use Rattle.q_told.specs.Printing.{told_lines, message_lines, printed}
-use Rattle.sc_members.specs.Members.{config_of}
 use Rattle.q_sim.specs.Simulates.{SimState, Writing, at_next_line, is_any, or_refused, Does, Plays, Simulates, founders_of}
 use Rattle.q_sim.specs.Truths.{IsTrueAnswer, IsTrueLine, AreTrueLines}
 use Rattle.q_sim.proofs.Leading.{Leads, any_with, leads_itself, leads_on, IsLed, acts_led, does_led, plays_led, founded_is}
@@ -32,7 +31,8 @@ only_line c stepped t tells silent =
     ∙ ap told_lines tells
 
 module _ (last : ClusterState) (answers : AnswersAreTrue last) where
-  recorded_true : (c : ClusterState) (stepped : ClusterStep) (text : List ℕ) → IsRecorded stepped c → AnswersStay c last → text ≡ printed c (Ok stepped) → IsTrueAnswer last text
+  recorded_true : (c : ClusterState) (stepped : ClusterStep) (text : List ℕ) → IsRecorded stepped c → AnswersStay c last
+      → text ≡ printed c (Ok stepped) → IsTrueAnswer last text
   recorded_true c stepped text r stays is =
       let kept = stays r.node r.query r.book r.asked r.view r.ran r.at r.number r.answered in
       record {

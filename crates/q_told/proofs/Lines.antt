@@ -31,7 +31,8 @@ all_lines sent first (suc n) zero h k = absurd (omega arith)
 all_lines sent first (suc n) (suc count) h k = ap (λ x. message_line sent first ++ x) (all_lines sent (suc first) n count (omega arith) (omega arith))
 
 -- as many lines as are asked for, or as there are
-pub enough_lines : (sent : List Message) (first count there n : ℕ) → there ≡ length sent - first → n ≡ min count there → message_lines sent first n ≡ message_lines sent first count
+pub enough_lines : (sent : List Message) (first count there n : ℕ) → there ≡ length sent - first → n ≡ min count there
+    → message_lines sent first n ≡ message_lines sent first count
 enough_lines sent first count there n is all = elim (cases_lt count there) [
   | inl less ↦ ap (message_lines sent first) (let e : n ≡ count = omega (arith, all, less) in e)
   | inr more ↦ all_lines sent first n count (omega (arith, all, more)) (omega (arith, is, all, more))

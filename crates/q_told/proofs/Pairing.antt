@@ -16,7 +16,8 @@ pub no_pairs : (a : List ℕ) → AddsPairs [] a a
 no_pairs a = ([], refl, sym (append-nil a))
 
 -- a pair that was told with the least node where the two meet
-pub one_pair : {X E : Type 0} (r : Result X E) (s c : Op) (least : Option ℕ) (a b : List ℕ) → IsMeeting s c least → OnOk r (b ≡ a ++ pair_line s c least) → OnOk r (AddsPairs ((s, c) ∷ []) a b)
+pub one_pair : {X E : Type 0} (r : Result X E) (s c : Op) (least : Option ℕ) (a b : List ℕ) → IsMeeting s c least
+    → OnOk r (b ≡ a ++ pair_line s c least) → OnOk r (AddsPairs ((s, c) ∷ []) a b)
 one_pair (Err x) s c least a b m e = tt
 one_pair (Ok x) s c least a b m e =
     let line = pair_line s c least in
@@ -38,7 +39,8 @@ paired is s ops more c x y z e told p q =
     (sym (ap (pairs_with is s) e ∙ with_one_more is s ops c ∙ ap (λ b. pairs_with is s ops ++ map (λ d. (s, d)) (cond b (c ∷ []) [])) told))
     (more_pairs (pairs_with is s ops) ((s, c) ∷ []) x y z p q)
 
-pub unpaired : (is : Op → Op → Bool) (s : Op) (ops more : List Op) (c : Op) (x y : List ℕ) → more ≡ ops ++ c ∷ [] → is s c ≡ false → AddsPairs (pairs_with is s ops) x y → AddsPairs (pairs_with is s more) x y
+pub unpaired : (is : Op → Op → Bool) (s : Op) (ops more : List Op) (c : Op) (x y : List ℕ) → more ≡ ops ++ c ∷ [] → is s c ≡ false
+    → AddsPairs (pairs_with is s ops) x y → AddsPairs (pairs_with is s more) x y
 unpaired is s ops more c x y e untold p =
     subst (λ ps. AddsPairs ps x y)
     (sym (ap (pairs_with is s) e ∙ with_one_more is s ops c ∙ ap (λ b. pairs_with is s ops ++ map (λ d. (s, d)) (cond b (c ∷ []) [])) untold ∙ append-nil (pairs_with is s ops))) p

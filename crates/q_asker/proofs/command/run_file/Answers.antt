@@ -1,5 +1,4 @@
--- run_file: the command `client PLACE SCRIPT`: runs the script in the file of this name over a connection with the
--- node at this place.
+-- run_file: runs the script in the file of this name over a connection with the node at this place.
 use Rattle.std.proofs.Common.{ℕ, List, inl, subst}
 use Rattle.q_asker.specs.Runs.{RunsBytes}
 use Rattle.q_asker.proofs.command.run_file.Goals as goal

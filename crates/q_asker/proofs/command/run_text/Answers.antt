@@ -1,5 +1,4 @@
--- run_text: runs the script that a text spells over a connection with the node at this place: a host and a port, or
--- the path of a Unix socket, which has a slash.
+-- run_text: runs the script that a text spells over a connection with the node at this place.
 use Rattle.std.proofs.Common.{List, inl, inr, subst}
 use Rattle.q_asker.specs.Runs.{RunsOver}
 use Rattle.q_asker.specs.declared.script.ClientLine.{ClientLine}

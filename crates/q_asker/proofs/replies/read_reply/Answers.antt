@@ -1,5 +1,4 @@
--- read_reply: the reply that stands at the front of an input, one of this kind or a refusal; none where the bytes
--- there begin with none, or end within one.
+-- read_reply: the reply that stands at the front of an input, one of this kind or a refusal; or none.
 use Rattle.q_asker.proofs.Heard.{heard, heard_there}
 use Rattle.q_asker.proofs.replies.read_reply.Goals as goal
 

@@ -1,5 +1,4 @@
--- run_client: runs the script that a text spells over a connection: makes the requests of its lines in turn, and
--- prints what the replies tell, each line as it is done.
+-- run_client: makes the requests of a script's lines in turn, and prints what the replies tell.
 use Rattle.std.proofs.Common.{List, inl, inr, refl, subst}
 use Rattle.q_asker.specs.Runs.{RunsTo}
 use Rattle.q_asker.specs.Steps.{streams}

@@ -1,5 +1,4 @@
--- run_client: runs a client's script over a connection with the node at a place, and explains its refusal: the exit
--- status.
+-- run_client: runs a client's script over a connection, and explains its refusal: the exit status.
 use Rattle.q_bqview.proofs.program.run_client.Goals as goal
 
 pub returns : goal.returns

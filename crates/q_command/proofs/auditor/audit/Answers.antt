@@ -7,7 +7,8 @@ use Rattle.q_told.specs.declared.refusal.Refusal.TheVariants.{OutOfMemory}
 use Rattle.q_command.specs.Audit.{Audits, IsUnaudited, answer_lines}
 use Rattle.q_command.proofs.auditor.audit.Goals as goal
 
-audited : {A : Type 0} (f : A → List ℕ) (bytes : List ℕ) (b : BookState) (r : Result A Refusal) → bytes ≡ journal_of b → IsJournalled b → IfOk r (λ x. f x ≡ answer_lines 0 b.desk.queries ++ codes "journal ok\n") → IfOk r (λ x. Audits bytes (f x))
+audited : {A : Type 0} (f : A → List ℕ) (bytes : List ℕ) (b : BookState) (r : Result A Refusal) → bytes ≡ journal_of b → IsJournalled b
+    → IfOk r (λ x. f x ≡ answer_lines 0 b.desk.queries ++ codes "journal ok\n") → IfOk r (λ x. Audits bytes (f x))
 audited f bytes b (Ok x) spelled journalled told = record { book = b; journal = spelled; journalled = journalled; told = told }
 audited f bytes b (Err e) spelled journalled told = tt
 

@@ -1,5 +1,4 @@
--- read_one: reads a file, prints its line, and answers the book of the longest beginning of its bytes that is a
--- journal.
+-- read_one: reads a file, prints its line, and answers the book of the longest journal that it begins with.
 use Rattle.std.proofs.Common.{ℕ, List, Ok, inl, sym, subst, string_bytes}
 use Rattle.q_command.proofs.Reading.{read_on, unread_on}
 use Rattle.q_command.specs.JournalFiles.{longest_journal}

@@ -1,5 +1,4 @@
--- disassembled_and_listed: what `asm` lists of the assembler text that `dis` prints is the units of the bytes that
--- `dis` was given.
+-- disassembled_and_listed: what `asm` lists of the text that `dis` prints is the units of its bytes.
 use Rattle.std.proofs.Common.{◌∙◌, ℕ, List, ap, subst, sym}
 use Rattle.bq_asm.specs.Source.{IsSource}
 use Rattle.bq_insn.specs.Slots.{spelling}

@@ -1,5 +1,4 @@
--- take_turn: reads the next request, for a book of that version, and writes the node's reply to it: how requests
--- end, if they do.
+-- take_turn: reads the next request, and writes the node's reply to it: how requests end, if they do.
 use Rattle.std.proofs.Common.{inl}
 use Rattle.q_doors.proofs.Turns.{stops, loses, lost_fails, reply_fails, whole_read}
 use Rattle.q_doors.proofs.serve.take_turn.Goals as goal

@@ -1,5 +1,4 @@
--- push_uncounted: puts letters of a message behind others: one to each of these nodes that the phase has not
--- counted.
+-- push_uncounted: puts one letter behind others to each of these nodes that the phase has not counted.
 use Rattle.std.proofs.Common.{◌≡◌, ◌∙◌, List, [], ◌∷◌, get_or, sym, ap, subst}
 use Rattle.std.proofs.lemmas.List.{get_or_default}
 use Rattle.q_kept.specs.Letters.{Addressed, AddsAll}

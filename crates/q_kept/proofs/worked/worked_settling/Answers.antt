@@ -1,5 +1,4 @@
--- worked_settling: what settling says: no message leaves before the journal that gave it is written, nor from a node
--- that is mute.
+-- worked_settling: what settling says: no message leaves before the journal that gave it is written.
 use Rattle.std.proofs.Common.{◌≡◌, ℕ, ◌∙◌, true, false, List, [], ◌∷◌, ◌++◌, length, map, arith, sym, refl, ap, Option, Some, None}
 use Rattle.std.specs.Io.KnownBytes.{Appends}
 use Rattle.std.proofs.lemmas.List.{append_cancel_left}
@@ -76,7 +75,8 @@ pub returns-clause-stays_mute : goal.returns-clause-stays_mute
 returns-clause-stays_mute _ = λ r c old r' new t g.
     (ap (λ (x : RecorderState). x.broken) (stays_broken r r' c g.why g.unwritten t) ∙ t, g.same)
 
-none_given : (v : Version) (done has : List Message) (ls : List Letter) → [] ≡ done ++ has → SpellsAll v (map addressed (fitting v done)) ls → (length ls ≡ 0) × (has ≡ [])
+none_given : (v : Version) (done has : List Message) (ls : List Letter) → [] ≡ done ++ has → SpellsAll v (map addressed (fitting v done)) ls
+    → (length ls ≡ 0) × (has ≡ [])
 none_given v [] has [] e s = (refl, sym e)
 none_given v [] has (l ∷ ls) e s = absurd s
 none_given v (m ∷ done) has ls e s = absurd (cc)

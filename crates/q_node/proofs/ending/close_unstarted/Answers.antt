@@ -1,5 +1,4 @@
--- close_unstarted: prints the last line of a node whose threads were not started, or whose journal could not be
--- begun.
+-- close_unstarted: prints the last line of a node whose threads or journal could not be begun.
 use Rattle.std.proofs.Common.{Err}
 use Rattle.q_node.proofs.Closing.{journal_ended, kept_beginning, not_refused, written_unstarted}
 use Rattle.q_node.proofs.ending.close_unstarted.Goals as goal

@@ -1,5 +1,4 @@
--- run_node: runs a node until its console, or the console's input, ends it, and gives what its journal's file holds
--- then.
+-- run_node: runs a node until its console ends it, and gives what its journal's file holds then.
 use Rattle.std.proofs.Common.{subst, sym}
 use Rattle.q_kept.specs.State.{RecorderState}
 use Rattle.q_node.specs.Faults.{IsUnbegun}

@@ -1,5 +1,4 @@
--- converse: obeys the lines of the console until one of them, or their end, ends the node, and writes what is said
--- to each.
+-- converse: obeys the lines of the console until the node ends, and writes what is said to each.
 use Rattle.std.proofs.Common.{[], refl, rules}
 use Rattle.std.proofs.KnownBytes.{Appends-nil}
 use Rattle.q_outside.proofs.Writing.{behind}

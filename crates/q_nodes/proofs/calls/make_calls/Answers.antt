@@ -1,5 +1,4 @@
--- make_calls: founds the nodes of a script, each with a thread and one of these transports, and makes the calls of
--- its lines in turn, while four runners run the jobs; then ends all threads.
+-- make_calls: founds the nodes of a script, and makes the calls of its lines while runners run the jobs.
 use Rattle.std.proofs.Common.{◌∙◌, length, ap}
 use Rattle.q_board.specs.AskerModel.{AskerModel}
 use Rattle.q_nodes.proofs.Counts.{askers_many}

@@ -1,5 +1,4 @@
--- print_telling: prints what the lines of a script tell, and then the refusal of nodes that make no cluster of the
--- script.
+-- print_telling: prints what the lines of a script tell, and then the refusal of nodes that make no cluster.
 use Rattle.std.proofs.Common.{List, ℕ, subst}
 use Rattle.std.specs.Io.KnownBytes.{Appends}
 use Rattle.q_nodes.proofs.Endings.{behind}

@@ -9,8 +9,7 @@ use Rattle.sc_world.specs.declared.op.Op.{Op}
 use Rattle.sc_world.proofs.Runs.{among_get}
 use Rattle.q_script.specs.declared.call_line.CallLine.{CallLine}
 use Rattle.q_nodes.specs.Found.{AreFiled, Finds}
-use Rattle.q_nodes.specs.Lines.{ComesTo, IsTold}
-use Rattle.q_nodes.specs.Lines.{InTurn}
+use Rattle.q_nodes.specs.Lines.{ComesTo, IsTold, InTurn}
 use Rattle.q_nodes.specs.declared.report.Report.{Report}
 use Rattle.q_nodes.proofs.Turns.{turn_at, turn_behind}
 use Rattle.q_nodes.proofs.found.find_all.Goals as goal

@@ -1,6 +1,5 @@
 use Rattle.std.proofs.Common.{take}
-use Rattle.q_nodes.specs.Lines.{InTurn}
-use Rattle.q_nodes.specs.Lines.{IsTold}
+use Rattle.q_nodes.specs.Lines.{InTurn, IsTold}
 use Rattle.q_nodes.proofs.found.find_all.Given as goal
 
 abbrev pub invariant-loop-place : goal.invariant-loop-place

@@ -1,5 +1,4 @@
--- every_printed_answer_is_true: a law: of a run that ended with a gathered cluster, whatever the threads did and
--- the network lost, repeated and reordered, each printed answer is right.
+-- every_printed_answer_is_true: a law: each printed answer of a run that ended with a gathered cluster is right.
 use Rattle.q_nodes.proofs.Truth.{all_true}
 use Rattle.q_nodes.proofs.laws.every_printed_answer_is_true.Goals as goal
 

@@ -1,5 +1,4 @@
--- are_of_nodes: whether these are the books of as many nodes, in the order of their ids, which are 1 to their
--- number.
+-- are_of_nodes: whether these are the books of as many nodes, in the order of their ids.
 use Rattle.std.proofs.Common.{refl, ◌+◌, arith}
 use Rattle.std.proofs.lemmas.Option.{slice_get_read}
 use Rattle.q_nodes.proofs.Nodes.{all_books, book_next}

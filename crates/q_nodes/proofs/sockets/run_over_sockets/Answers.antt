@@ -1,5 +1,4 @@
--- run_over_sockets: runs the script that a text spells by a thread and a socket for each node, and prints what its
--- lines tell; what `run_cluster` notes goes to the notes, and why lines were refused.
+-- run_over_sockets: runs the script that a text spells by a thread and a socket for each node.
 use Rattle.std.proofs.Common.{inl, inr}
 use Rattle.q_nodes.proofs.sockets.run_over_sockets.Goals as goal
 

@@ -1,5 +1,4 @@
--- tell: what the lines tell of the cluster into which the books of the nodes gather, by what their calls came to;
--- or, where there is no such cluster, of each node's own book, and the refusal.
+-- tell: what the lines tell of the cluster into which the books gather, or of each node's own book.
 use Rattle.std.proofs.Common.{List, sym, subst}
 use Rattle.q_nodes.specs.Found.{IsSought}
 use Rattle.q_nodes.specs.Lines.{InTurn, IsTold}

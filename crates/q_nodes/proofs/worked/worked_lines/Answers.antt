@@ -24,7 +24,8 @@ not_memory e = absurd cc
 same_refusal : (f g : ClusterRunFault) → outcome.Refused f ≡ outcome.Refused g → f ≡ g
 same_refusal f g e = cc
 
-outside : (nodes node : ℕ) (value : Vec ℕ Global) (c : ClusterState) (r : Report) → (IsNode nodes node → ⊥) → IsTold nodes c (line.Store node value) r → r ≡ Refused no_such_node
+outside : (nodes node : ℕ) (value : Vec ℕ Global) (c : ClusterState) (r : Report) → (IsNode nodes node → ⊥) → IsTold nodes c (line.Store node value) r
+    → r ≡ Refused no_such_node
 outside nodes node value c (Refused f) none (inl h) = absurd (none h.0)
 outside nodes node value c (Refused f) none (inr h) = ap Refused (same_refusal f no_such_node h.1)
 outside nodes node value c (Registered id) none h = absurd h

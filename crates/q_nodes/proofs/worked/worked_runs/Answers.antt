@@ -7,7 +7,8 @@ use Rattle.q_nodes.specs.declared.report.Tally.{Tally}
 use Rattle.q_nodes.specs.declared.script.ClusterScript.{ClusterScript}
 use Rattle.q_nodes.proofs.worked.worked_runs.Goals as goal
 
-no_script : (source : List ℕ) (t : Tally) (before after : Option (List ℕ)) → ((s : ClusterScript) → IsClusterScript source s → ⊥) → IsWrittenOf source (ending.Gathered t) before after → ⊥
+no_script : (source : List ℕ) (t : Tally) (before after : Option (List ℕ)) → ((s : ClusterScript) → IsClusterScript source s → ⊥)
+    → IsWrittenOf source (ending.Gathered t) before after → ⊥
 no_script source t before after never (inl p) = never p.0 p.1
 no_script source t before after never (inr p) = p.2
 

@@ -1,6 +1,4 @@
--- every_printed_answer_is_true: a law: whatever script is run over whatever files, each `run` line prints an answer
--- that the last cluster has recorded for this node's query, and that is true; or its refusal, and then it is told
--- that a line was refused.
+-- every_printed_answer_is_true: a law: each `run` line of a script prints a recorded, true answer, or its refusal.
 use Rattle.q_sim.proofs.Truths.{printed_true}
 use Rattle.q_sim.proofs.laws.every_printed_answer_is_true.Goals as goal
 

@@ -1,5 +1,4 @@
--- founders: the ids of so many founders, counted from 1: 257 of them at most, which is one more than a cluster
--- takes.
+-- founders: the ids of so many founders, counted from 1, and 257 of them at most.
 use Rattle.std.proofs.Common.{◌∙◌}
 use Rattle.q_sim.proofs.Founders.{more_ids}
 use Rattle.q_sim.proofs.simulation.founders.Goals as goal

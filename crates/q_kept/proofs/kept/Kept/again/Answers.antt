@@ -1,6 +1,4 @@
--- Kept::again: what goes again at this look, since datagrams are lost: what open operations still wait for, each to
--- those of these nodes that it has not counted; an enter until the node has joined, and a join and a leave three
--- times, to all.
+-- Kept::again: what goes again at this look, since datagrams are lost.
 use Rattle.q_kept.proofs.Each.{goes_each}
 use Rattle.q_kept.proofs.kept.Kept.again.Goals as goal
 

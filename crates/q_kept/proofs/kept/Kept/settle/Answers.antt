@@ -1,5 +1,4 @@
--- Kept::settle: pumps, then writes what the file lacks of the book's journal, and only then gives the messages that
--- wait, as letters.
+-- Kept::settle: pumps, writes what the file lacks, and only then gives the messages that wait.
 use Rattle.std.proofs.Common.{◌∙◌, refl, sym, subst}
 use Rattle.q_book.specs.State.{BookState}
 use Rattle.q_kept.specs.Recording.{Grows, IsRecorded}

@@ -1,5 +1,4 @@
--- Recorder::record: appends what the file lacks of the book's journal: the head, if it is not there, and the
--- entries behind those that are.
+-- Recorder::record: appends what the file lacks of the book's journal: the head, and entries.
 use Rattle.std.proofs.Common.{rules}
 use Rattle.std.specs.Prelude.{Ok, Err}
 use Rattle.q_kept.specs.declared.fault.Unrecorded.TheVariants.{Failed, OutOfMemory}

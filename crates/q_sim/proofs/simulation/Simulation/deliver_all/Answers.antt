@@ -1,5 +1,4 @@
--- Simulation::deliver_all: delivers what was not delivered, the least message first and each to the least node
--- first, so many times at most.
+-- Simulation::deliver_all: delivers what was not delivered, so many times at most.
 use Rattle.std.proofs.Common.{◌≡◌, ◌∙◌, ◌≤◌, [], length, sym, ap, arith, append-nil, string_bytes}
 use Rattle.q_sim.specs.Seen.{seen}
 use Rattle.q_sim.proofs.Spreading.{nothing_awaited}

@@ -1,5 +1,4 @@
--- Simulation::spread: delivers a message to each live node that it was not delivered to, the least node first, so
--- many times at most.
+-- Simulation::spread: delivers a message to each live node that it was not delivered to.
 use Rattle.std.proofs.Common.{◌∙◌, ◌<◌, ◌+◌, length, sym, ap, subst, arith, true≢false}
 use Rattle.q_sim.specs.declared.simulation.Simulation.{Simulation}
 use Rattle.q_sim.specs.Awaited.{IsOnward}
