@@ -2,7 +2,7 @@
 
 ghost use Rattle.std.specs.Prelude.{◌≡◌, IfOk, IfErr, MatchBool, MatchResult};
 ghost use Rattle.q_nodes.specs.Lines.{IsNode};
-ghost use Rattle.q_nodes.specs.Scripts.{Fits, IsClusterScript, IsRefused, IsUnfit, bad_fraction};
+ghost use Rattle.q_nodes.specs.Scripts.{Fits, IsClusterScript, IsRefused, IsUnfit};
 
 use crate::fault::ClusterRunFault;
 use q_script::{CallLine, Founding, read_script};

@@ -4,6 +4,7 @@
 //! They are a store and a collect that meets it, a node that enters, one that leaves and one that crashes.
 
 use crate::worlds::founded;
+use sc_members::Fraction;
 use sc_view::{VALUE_LENGTH, Value};
 use sc_world::{Op, World, WorldEvent, WorldFault, meets};
 use std::alloc::Global;
