@@ -17,7 +17,7 @@
 //! which programs get a certificate, and why one is refused, is `specs/Programs`.
 //!
 //! Scripts that are run over a cluster in memory stand on it (`q_sim`), and so do nodes in threads, nodes apart, their
-//! clients and the command line of `bqview`, which need no script of a cluster in memory for what they print.
+//! clients and the command line of `bqview`.
 #![tactic(auto)]
 
 mod line;
@@ -25,7 +25,7 @@ mod meetings;
 mod printing;
 mod program;
 mod refusal;
-mod told;
+mod refused_line;
 pub mod worked;
 
 pub use line::{put_line, put_refusal};
@@ -33,4 +33,4 @@ pub use meetings::{print_ended_pairs, print_pairs};
 pub use printing::{print_messages, print_told};
 pub use program::{certified_code, certified_text};
 pub use refusal::{Refusal, RefusalPlace, RefusedLine};
-pub use told::write_refused_line;
+pub use refused_line::write_refused_line;
