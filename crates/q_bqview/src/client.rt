@@ -1,6 +1,6 @@
 //! What explains why `client` refuses a script. No contract speaks of these words.
 
-use q_explain::write_shown;
+use bq_explain::write_shown;
 use q_script::ScriptFault;
 use q_told::Refusal;
 use std::alloc::{AllocError, Global};

@@ -14,7 +14,7 @@ use Rattle.bq_range.specs.Interval.{Interval}
 use Rattle.bq_state.specs.Kinds.{StateKinds}
 use Rattle.bq_sound.specs.Passes.{Passes}
 use Rattle.bq_verify.specs.Least.{AreLeast}
-use Rattle.q_explain.specs.Known.{states_text}
+use Rattle.bq_explain.specs.Known.{states_text}
 use Rattle.bq_meaning.specs.Answers.{IsAnswer}
 use Rattle.sc_view.specs.Views.{ViewMap}
 use Rattle.q_session.specs.Records.{view_records}

@@ -9,12 +9,12 @@ use crate::sources::program;
 use crate::words::{FileCommand, ProgramForm};
 use bq_asm::AsmFault;
 use bq_check::CheckFault;
-use bq_insn::{DecodeFault, Text};
-use bq_state::Bounds;
-use q_explain::{
+use bq_explain::{
     OBJECT_FILE, assembler_line, explain, explain_bytes, is_object_file, line_of_unit, of_label,
     script_line,
 };
+use bq_insn::{DecodeFault, Text};
+use bq_state::Bounds;
 use q_replay::ReplayFault;
 use q_script::{RecordFault, RecordsFault, ScriptFault};
 use q_told::Refusal;

@@ -1,14 +1,14 @@
 //! What `check` prints, and the notes that it writes.
 
 ghost use Rattle.std.specs.Prelude.{◌≡◌, ◌≢◌, ◌++◌, [], false, IfOk, IfErr, OnOk, string_bytes, if◌then◌else◌};
-ghost use Rattle.q_explain.specs.Known.{states_text};
+ghost use Rattle.bq_explain.specs.Known.{states_text};
 ghost use Rattle.q_command.specs.Perform.{Accepts, IsUnaccepted, SavesNotes, acceptance};
 
 use crate::sources::certified;
 use crate::words::ProgramForm;
 use bq_check::{Certified, Notes};
+use bq_explain::states;
 use bq_state::Bounds;
-use q_explain::states;
 use q_outside::{FileFault, Files};
 use q_sim::Printed;
 use q_told::Refusal;

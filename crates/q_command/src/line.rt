@@ -1,6 +1,6 @@
 //! Lines of a file that is refused.
 
-use q_explain::write_shown;
+use bq_explain::write_shown;
 use std::alloc::AllocError;
 use std::str;
 

@@ -1,8 +1,8 @@
 //! A line of a script that was refused, in words for a person.
 
 use crate::refusal::{Refusal, RefusedLine};
+use bq_explain::{explain_bytes, explain_code, of_event, write_shown};
 use bq_state::Bounds;
-use q_explain::{explain_bytes, explain_code, of_event, write_shown};
 use q_script::{CallLine, Line, LineFault as Unread, ScriptLine};
 use std::alloc::{AllocError, Global};
 

@@ -74,11 +74,11 @@ pub record IsConfig (c : Config) : Type 0 where
   pub beta : IsFraction c.beta_num c.beta_den
   pub gamma : IsFraction c.gamma_num c.gamma_den
 
--- both are such fractions
+-- both are fractions num / den with 1 ≤ num ≤ den ≤ 1000
 abbrev pub AreFractions : Fraction → Fraction → Type 0
 AreFractions beta gamma = IsFraction beta.numerator beta.denominator × IsFraction gamma.numerator gamma.denominator
 
--- beta and gamma
+-- the fractions of a cluster with this beta and this gamma
 abbrev pub config_of : Fraction → Fraction → Config
 config_of beta gamma = record {
   beta_num = beta.numerator;

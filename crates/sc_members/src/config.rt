@@ -1,3 +1,5 @@
+//! The two fractions of a cluster, and how many nodes a phase waits for by them.
+
 ghost use Rattle.std.specs.Prelude.{◌≡◌, ◌≤◌, ◌↔◌, IsTrue, IsOk, IfOk};
 ghost use Rattle.sc_members.specs.Members.{AreFractions, IsFraction, IsConfig, config_of, threshold};
 
@@ -57,6 +59,7 @@ pub fn threshold(num: u64, den: u64, count: usize) -> u64
     ceiling.max(1) as u64
 }
 
+/// Whether it is num / den with 1 <= num <= den <= 1,000.
 fn is_taken(fraction: Fraction) -> bool
     ensures { IsTrue result ↔ IsFraction fraction.numerator fraction.denominator }
 {

@@ -1,8 +1,8 @@
 -- write_pointer: writes what is known of a pointer.
 use Rattle.std.proofs.Common.{codes, string_bytes}
-use Rattle.q_explain.specs.Known.{place_text}
-use Rattle.q_explain.proofs.Writing.{both}
-use Rattle.q_explain.proofs.listing.write_pointer.Goals as goal
+use Rattle.bq_explain.specs.Known.{place_text}
+use Rattle.bq_explain.proofs.Writing.{both}
+use Rattle.bq_explain.proofs.listing.write_pointer.Goals as goal
 
 pub returns : goal.returns
 returns c =

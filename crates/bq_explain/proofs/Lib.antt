@@ -1,2 +1,3 @@
 -- Texts that are written in parts.
 mod Writing
+mod OnLiterals

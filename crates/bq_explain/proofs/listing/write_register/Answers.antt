@@ -1,8 +1,8 @@
 -- write_register: the line of a register; nothing is written where nothing is known of it.
 use Rattle.std.proofs.Common.{ap, string_bytes}
-use Rattle.q_explain.specs.Known.{label_text, length_text, pointer_text, register_line}
-use Rattle.q_explain.proofs.Writing.{lined}
-use Rattle.q_explain.proofs.listing.write_register.Goals as goal
+use Rattle.bq_explain.specs.Known.{label_text, length_text, pointer_text, register_line}
+use Rattle.bq_explain.proofs.Writing.{lined}
+use Rattle.bq_explain.proofs.listing.write_register.Goals as goal
 
 pub returns-in_ok-write_pointer-in-Pointer : goal.returns-in_ok-write_pointer-in-Pointer
 returns-in_ok-write_pointer-in-Pointer c =

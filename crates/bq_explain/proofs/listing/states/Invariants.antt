@@ -1,6 +1,6 @@
 use Rattle.std.proofs.Common.{◌≡◌, string_bytes}
-use Rattle.q_explain.specs.Known.{unit_texts}
-use Rattle.q_explain.proofs.listing.states.Given as goal
+use Rattle.bq_explain.specs.Known.{unit_texts}
+use Rattle.bq_explain.proofs.listing.states.Given as goal
 
 -- the lines of the units so far were written
 abbrev pub invariant-loop-unit : goal.invariant-loop-unit

@@ -1,7 +1,7 @@
 //! The explanation of a refusal.
 
 ghost use Rattle.std.specs.Prelude.{IfOk};
-ghost use Rattle.q_explain.specs.Told.{IsKnown, IsTold, IsToldOfCode};
+ghost use Rattle.bq_explain.specs.Told.{IsKnown, IsTold, IsToldOfCode};
 
 use crate::advice::{of_flow, of_rule, of_rule_at};
 use crate::listing::{write_state, write_unit};

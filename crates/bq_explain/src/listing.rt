@@ -2,7 +2,7 @@
 
 ghost use Rattle.std.specs.Prelude.{◌≡◌, ◌++◌, IfOk, OnOk, codes, string_bytes};
 ghost use Rattle.bq_asm.specs.Source.{insn_line};
-ghost use Rattle.q_explain.specs.Known.{bounds_text, label_text, length_text, note_text, offsets_text, place_text, pointer_text, range_text, register_line, state_text, states_text, unit_line, unit_text};
+ghost use Rattle.bq_explain.specs.Known.{bounds_text, label_text, length_text, note_text, offsets_text, place_text, pointer_text, range_text, register_line, state_text, states_text, unit_line, unit_text};
 
 use bq_asm::disassemble;
 use bq_check::Notes;

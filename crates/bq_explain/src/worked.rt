@@ -8,11 +8,12 @@ ghost use Rattle.bq_state.specs.declared.region.Region.TheVariants as region;
 ghost use Rattle.bq_flow.specs.declared.fault.FlowRule.TheVariants.{FallsOff};
 ghost use Rattle.bq_state.specs.declared.rule.Rule.TheVariants.{AnswerKind};
 ghost use Rattle.bq_check.specs.declared.fault.CheckFault.TheVariants as fault;
-ghost use Rattle.q_explain.specs.Known.{register_line, states_text};
-ghost use Rattle.q_explain.specs.Told.{IsTold, IsToldOfCode};
+ghost use Rattle.bq_explain.specs.Known.{register_line, states_text};
+ghost use Rattle.bq_explain.specs.Told.{IsTold, IsToldOfCode};
 
 /// A fault of an instruction is told, and no other. Of a register the line says its kind; of one of which nothing is
 /// known there is none, nor of any where no run comes.
+#[tactic(auto, unfolding(crate::proofs::OnLiterals::digits_on_literals))]
 pub fn worked()
     ensures number { register_line (between 16 128) 4 (kind.Number (single 7)) ≡ codes "  r4: the number 7\n" }
     ensures range { register_line (between 16 128) 4 (kind.Number (between 0 255)) ≡ codes "  r4: a number from 0 to 255\n" }

@@ -1,9 +1,9 @@
 -- write_place: writes a region of memory, and the offsets from its start.
 use Rattle.std.proofs.Common.{◌∙◌, ◌++◌, ap, codes, string_bytes}
 use Rattle.bq_state.specs.Regions.{region_name}
-use Rattle.q_explain.specs.Known.{offsets_text}
-use Rattle.q_explain.proofs.Writing.{both}
-use Rattle.q_explain.proofs.listing.write_place.Goals as goal
+use Rattle.bq_explain.specs.Known.{offsets_text}
+use Rattle.bq_explain.proofs.Writing.{both}
+use Rattle.bq_explain.proofs.listing.write_place.Goals as goal
 
 pub returns : goal.returns
 returns c =

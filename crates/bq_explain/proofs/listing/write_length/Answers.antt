@@ -1,8 +1,8 @@
 -- write_length: writes the bounds of the length of the record.
 use Rattle.std.proofs.Common.{codes, string_bytes}
-use Rattle.q_explain.specs.Known.{bounds_text}
-use Rattle.q_explain.proofs.Writing.{both}
-use Rattle.q_explain.proofs.listing.write_length.Goals as goal
+use Rattle.bq_explain.specs.Known.{bounds_text}
+use Rattle.bq_explain.proofs.Writing.{both}
+use Rattle.bq_explain.proofs.listing.write_length.Goals as goal
 
 pub returns : goal.returns
 returns c =

@@ -1,6 +1,6 @@
 use Rattle.std.proofs.Common.{◌≡◌, ◌++◌, string_bytes}
-use Rattle.q_explain.specs.Known.{register_lines}
-use Rattle.q_explain.proofs.listing.write_state.Given as goal
+use Rattle.bq_explain.specs.Known.{register_lines}
+use Rattle.bq_explain.proofs.listing.write_state.Given as goal
 
 -- the lines of the registers so far were written
 abbrev pub invariant-loop-register : goal.invariant-loop-register
