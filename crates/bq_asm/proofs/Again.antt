@@ -26,7 +26,9 @@ use Rattle.bq_asm.proofs.Clean.{Word, no_comma, clean_lacks, clean_ends, word_st
 -- ---- digits
 
 not_digit : (k : ℕ) (s : List ℕ) → is_ascii_digit k ≡ false → list_all is_ascii_digit s ≡ true → (rest : List ℕ) → s ≢ k ∷ rest
-not_digit k s n h rest e = let t : is_ascii_digit k ≡ true = (and_parts (is_ascii_digit k) (list_all is_ascii_digit rest) (subst (λ xs. list_all is_ascii_digit xs ≡ true) e h)).0 in false≢true (sym n ∙ t)
+not_digit k s n h rest e =
+    let all = subst (λ xs. list_all is_ascii_digit xs ≡ true) e h in
+    false≢true (sym n ∙ (and_parts (is_ascii_digit k) (list_all is_ascii_digit rest) all).0)
 
 no_digit : (k c : ℕ) → is_ascii_digit k ≡ false → is_ascii_digit c ≡ true → (eqb c k ≡ true) ⊎ (eqb c k ≡ false) → eqb c k ≡ false
 no_digit k c n h (inl e) = absurd (false≢true (sym n ∙ ap is_ascii_digit (sym (eqb-true c k e)) ∙ h))
@@ -88,6 +90,9 @@ number_else : (text : List ℕ) (z : ℤ) → register_at text ≡ None → sign
 unfolding operand_at
 number_else text z n e f = ap (operand_else text) n ∙ rw (e, f) refl
 
+number_again : (z : ℤ) → FitsSigned w32 z → register_at (signed_decimal z) ≡ None → operand_at (signed_decimal z) ≡ Some (operands.Number z)
+number_again z l n = number_else (signed_decimal z) z n (signed_again z l) (fits32 z l)
+
 no_register : (text : List ℕ) → strip 114 text ≡ None → register_at text ≡ None
 unfolding register_at
 no_register text e = rw e refl
@@ -95,8 +100,8 @@ no_register text e = rw e refl
 pub operand_again : (x : Operand) → IsOperand x → operand_at (operand x) ≡ Some x
 unfolding operand_at
 operand_again (operands.Register r) l = ap (operand_else (register r)) (register_again r l)
-operand_again (operands.Number (pos n)) l = number_else (decimal n) (pos n) (no_register (decimal n) (front 114 n (omega arith) refl)) (signed_again (pos n) l) (fits32 (pos n) l)
-operand_again (operands.Number (negsuc n)) l = number_else (signed_decimal (negsuc n)) (negsuc n) (no_register (signed_decimal (negsuc n)) refl) (signed_again (negsuc n) l) (fits32 (negsuc n) l)
+operand_again (operands.Number (pos n)) l = number_again (pos n) l (no_register (decimal n) (front 114 n (omega arith) refl))
+operand_again (operands.Number (negsuc n)) l = number_again (negsuc n) l (no_register (signed_decimal (negsuc n)) refl)
 
 place_is : (b : ℕ) (o : ℤ) (q : Option ℤ) → b < 11 → fits 16 o ≡ true → q ≡ Some o → place_of (register b) q ≡ Some (b, o)
 place_is b o q l f e = rw (register_again b l, e, f) refl
@@ -107,7 +112,9 @@ place_again b (pos n) l h =
     ap (place_else (register b ++ distance (pos n))) (cut_at 43 (register b) (decimal n) (register_lacks 43 b l refl refl))
     ∙ place_is b (pos n) (positive_at (decimal n)) l (fits16 (pos n) h) (positive_again n (omega arith))
 place_again b (negsuc n) l h =
-    ap (place_else (register b ++ distance (negsuc n))) (cut_none 43 (register b ++ distance (negsuc n)) (lacks_append 43 (register b) (distance (negsuc n)) (register_lacks 43 b l refl refl) (refl, digits_lack 43 (decimal (suc n)) refl (digits_decimal own (suc n) (omega arith)))))
+    let digits = digits_lack 43 (decimal (suc n)) refl (digits_decimal own (suc n) (omega arith)) in
+    let lacks = lacks_append 43 (register b) (distance (negsuc n)) (register_lacks 43 b l refl refl) (refl, digits) in
+    ap (place_else (register b ++ distance (negsuc n))) (cut_none 43 (register b ++ distance (negsuc n)) lacks)
     ∙ ap (λ o. o >>= λ p. place_of p.0 (negative_at p.1)) (cut_at 45 (register b) (decimal (suc n)) (register_lacks 45 b l refl refl))
     ∙ place_is b (negsuc n) (negative_at (decimal (suc n))) l (fits16 (negsuc n) h) (negative_again n (omega arith))
 
@@ -115,7 +122,8 @@ pub memory_again : (b : ℕ) (o : ℤ) → b < 11 → FitsSigned w16 o → memor
 unfolding memory_at
 memory_again b o l h =
     ap (λ q. q >>= λ p. cond (eqb (length p.1) 0) (place_at p.0) None)
-    (cut_at 93 (register b ++ distance o) [] (lacks_append 93 (register b) (distance o) (register_lacks 93 b l refl refl) (distance_lacks 93 o (wider o h) refl refl refl)))
+    (cut_at 93 (register b ++ distance o) []
+    (lacks_append 93 (register b) (distance o) (register_lacks 93 b l refl refl) (distance_lacks 93 o (wider o h) refl refl refl)))
     ∙ place_again b o l h
 
 -- ---- names
@@ -188,7 +196,8 @@ listed_lacks k f a b (x ∷ y ∷ xs) text w h =
     let c = h.2 in
     subst (Lacks k) (sym h.4) (lacks_append k x (h.0 ++ h.1) (f x w.0)
     (lacks_append k h.0 h.1
-    (subst (Lacks k) (sym c.parts) (lacks_append k c.before (44 ∷ c.after) (spaces_lack k c.before a c.spaces_before) (b, spaces_lack k c.after a c.spaces_after)))
+    (subst (Lacks k) (sym c.parts)
+    (lacks_append k c.before (44 ∷ c.after) (spaces_lack k c.before a c.spaces_before) (b, spaces_lack k c.after a c.spaces_after)))
     (listed_lacks k f a b (y ∷ xs) h.1 w.1 h.3)))
 
 -- the first operand, and the others
@@ -198,13 +207,17 @@ unfolding pair_at
 pair_listed x y ys text w h =
     let c = h.2 in
     let parts : text ≡ (x ++ c.before) ++ (44 ∷ (c.after ++ h.1)) =
-    h.4 ∙ ap (λ (s : List ℕ). x ++ (s ++ h.1)) c.parts ∙ ap (λ (s : List ℕ). x ++ s) (append_assoc c.before (44 ∷ c.after) h.1) ∙ sym (append_assoc x c.before (44 ∷ (c.after ++ h.1))) in
-    let lacks : Lacks 44 (x ++ c.before) = lacks_append 44 x c.before (clean_lacks 44 x no_comma w.0.clean) (spaces_lack 44 c.before refl c.spaces_before) in
+    h.4 ∙ ap (λ (s : List ℕ). x ++ (s ++ h.1)) c.parts
+    ∙ ap (λ (s : List ℕ). x ++ s) (append_assoc c.before (44 ∷ c.after) h.1) ∙ sym (append_assoc x c.before (44 ∷ (c.after ++ h.1))) in
+    let lacks : Lacks 44 (x ++ c.before) =
+    lacks_append 44 x c.before (clean_lacks 44 x no_comma w.0.clean) (spaces_lack 44 c.before refl c.spaces_before) in
     let first : trimmed (x ++ c.before) ≡ x = trimmed_between [] x c.before tt (word_starts x w.0) (clean_ends x w.0.clean) c.spaces_before in
     let second : trimmed (c.after ++ h.1) ≡ h.1 =
-    ap (λ (s : List ℕ). trimmed (c.after ++ s)) (sym (append-nil h.1)) ∙ trimmed_between c.after h.1 [] c.spaces_after (listed_starts (y ∷ ys) h.1 tt w.1 h.3) (listed_ends (y ∷ ys) h.1 w.1 h.3) tt in (
+    ap (λ (s : List ℕ). trimmed (c.after ++ s)) (sym (append-nil h.1))
+    ∙ trimmed_between c.after h.1 [] c.spaces_after (listed_starts (y ∷ ys) h.1 tt w.1 h.3) (listed_ends (y ∷ ys) h.1 w.1 h.3) tt in (
       h.1,
-      ap pair_at parts ∙ ap (λ o. o >>= λ p. Some (trimmed p.0, trimmed p.1)) (cut_at 44 (x ++ c.before) (c.after ++ h.1) lacks) ∙ rw (first, second) refl,
+      ap pair_at parts ∙ ap (λ o. o >>= λ p. Some (trimmed p.0, trimmed p.1)) (cut_at 44 (x ++ c.before) (c.after ++ h.1) lacks)
+          ∙ rw (first, second) refl,
       h.3,
     )
 
@@ -223,21 +236,32 @@ jump_again (jumps.Branch v r d x) target text s h w e l =
     let q : pair_at p.0 ≡ Some (operand x, target) = pair_two (operand x) target p.0 (operand_word x h.1) w p.2 in
     rw (p.1, q, register_again d h.0, operand_again x h.1) e
 
+jump_by_again : (j : Jump) (z : ℤ) (text : List ℕ) → IsJump j → IsInsn (jump_insn j z) → AreListed (jump_operands j (distance z)) text
+    → statement_at (jump_mnemonic j) text ≡ Some (Complete (jump_insn j z))
+jump_by_again j z text is h l =
+    jump_again j (distance z) text (Complete (jump_insn j z)) is (distance_word z (jump_fits j z h).0) (target_distance j z h) l
+
 pub statement_again : (s : Statement) (text : List ℕ) → IsStatement s → AreListed (statement_operands s) text
     → statement_at (statement_mnemonic s) text ≡ Some s
 unfolding statement_at
-statement_again (Complete (insns.Alu w op d x)) text h l = rw (pair_two (register d) (operand x) text (register_word d h.0) (operand_word x h.1) l, register_again d h.0, operand_again x h.1) refl
+statement_again (Complete (insns.Alu w op d x)) text h l =
+    rw (pair_two (register d) (operand x) text (register_word d h.0) (operand_word x h.1) l, register_again d h.0, operand_again x h.1) refl
 statement_again (Complete (insns.Negate w d)) text h l = rw (l, register_again d h) refl
-statement_again (Complete (insns.Extend e d s)) text h l = rw (pair_two (register d) (register s) text (register_word d h.0) (register_word s h.1) l, register_again d h.0, register_again s h.1) refl
+statement_again (Complete (insns.Extend e d s)) text h l =
+    rw (pair_two (register d) (register s) text (register_word d h.0) (register_word s h.1) l, register_again d h.0, register_again s h.1) refl
 statement_again (Complete (insns.Order o b d)) text h l = rw (l, register_again d h) refl
-statement_again (Complete (insns.Jump z)) text h l = jump_again jumps.Always (distance z) text (Complete (insns.Jump z)) tt (distance_word z (wider z h)) (target_distance jumps.Always z h) l
-statement_again (Complete (insns.JumpFar z)) text h l = jump_again jumps.Far (distance z) text (Complete (insns.JumpFar z)) tt (distance_word z h) (target_distance jumps.Far z h) l
-statement_again (Complete (insns.Branch w r d x z)) text h l = jump_again (jumps.Branch w r d x) (distance z) text (Complete (insns.Branch w r d x z)) (h.0, h.1) (distance_word z (wider z h.2)) (target_distance (jumps.Branch w r d x) z h) l
+statement_again (Complete (insns.Jump z)) text h l = jump_by_again jumps.Always z text tt h l
+statement_again (Complete (insns.JumpFar z)) text h l = jump_by_again jumps.Far z text tt h l
+statement_again (Complete (insns.Branch w r d x z)) text h l = jump_by_again (jumps.Branch w r d x) z text (h.0, h.1) h l
 statement_again (Complete insns.Exit) text h l = rw l refl
-statement_again (Complete (insns.Load z d b o)) text h l = rw (pair_two (register d) (memory b o) text (register_word d h.0) (memory_word b o h.1 h.2) l, register_again d h.0, memory_again b o h.1 h.2) refl
-statement_again (Complete (insns.LoadSigned z d b o)) text h l = rw (pair_two (register d) (memory b o) text (register_word d h.0) (memory_word b o h.1 h.2) l, register_again d h.0, memory_again b o h.1 h.2) refl
-statement_again (Complete (insns.Store z b o x)) text h l = rw (pair_two (memory b o) (operand x) text (memory_word b o h.0 h.1) (operand_word x h.2) l, memory_again b o h.0 h.1, operand_again x h.2) refl
-statement_again (Complete (insns.Wide d v)) text h l = rw (pair_two (register d) (decimal v) text (register_word d h.0) (decimal_word v h.1) l, register_again d h.0, natural_decimal v h.1) refl
+statement_again (Complete (insns.Load z d b o)) text h l =
+    rw (pair_two (register d) (memory b o) text (register_word d h.0) (memory_word b o h.1 h.2) l, register_again d h.0, memory_again b o h.1 h.2) refl
+statement_again (Complete (insns.LoadSigned z d b o)) text h l =
+    rw (pair_two (register d) (memory b o) text (register_word d h.0) (memory_word b o h.1 h.2) l, register_again d h.0, memory_again b o h.1 h.2) refl
+statement_again (Complete (insns.Store z b o x)) text h l =
+    rw (pair_two (memory b o) (operand x) text (memory_word b o h.0 h.1) (operand_word x h.2) l, memory_again b o h.0 h.1, operand_again x h.2) refl
+statement_again (Complete (insns.Wide d v)) text h l =
+    rw (pair_two (register d) (decimal v) text (register_word d h.0) (decimal_word v h.1) l, register_again d h.0, natural_decimal v h.1) refl
 statement_again (JumpTo j label) text h l = jump_again j label text (JumpTo j label) h.0 (name_word label h.1) (target_label j label h.1) l
 
 jump_words : (j : Jump) (target : List ℕ) → IsJump j → Word target → Words (jump_operands j target)

@@ -33,18 +33,8 @@ placed_more q total lines s (Some n) p =
 
 units_few : (s : Statement) → statement_units s ≤ 2
 units_few (JumpTo j label) = omega arith
-units_few (Complete (insns.Alu w op d x)) = omega arith
-units_few (Complete (insns.Negate w d)) = omega arith
-units_few (Complete (insns.Extend e d s)) = omega arith
-units_few (Complete (insns.Order o b d)) = omega arith
-units_few (Complete (insns.Jump z)) = omega arith
-units_few (Complete (insns.JumpFar z)) = omega arith
-units_few (Complete (insns.Branch w r d x z)) = omega arith
-units_few (Complete insns.Exit) = omega arith
-units_few (Complete (insns.Load z d b o)) = omega arith
-units_few (Complete (insns.LoadSigned z d b o)) = omega arith
-units_few (Complete (insns.Store z b o x)) = omega arith
 units_few (Complete (insns.Wide d v)) = omega arith
+units_few (Complete i) = omega arith
 
 -- what is found of the lines behind these, the last instruction first
 abbrev pub Finds : List Line → List Line → List Insn → Option ℕ → Type 0

@@ -7,7 +7,7 @@ use Rattle.std.proofs.lemmas.List.{append_assoc, append-nil, nil_from_length}
 use Rattle.bq_asm.specs.Mnemonic.{name, mnemonic_at}
 use Rattle.bq_asm.specs.Line.{Statement, Line, Blank, Instruction, IsStatement, IsComment, AreListed, AreSpaces, IsGap, statement_operands, statement_mnemonic, Spells}
 use Rattle.bq_asm.specs.Reading.{◌>>=◌, cut, trimmed, is_comment, is_name, statement_at, instruction_at, words_else, words_at, label_else, line_else, line_at}
-use Rattle.bq_asm.proofs.Spaces.{Starts, spaces_append, trimmed_spaces, trimmed_of, cut_parts}
+use Rattle.bq_asm.proofs.Spaces.{Starts, spaces_append, trimmed_spaces, trimmed_of, cut-some}
 use Rattle.bq_asm.proofs.Mnemonics.{mnemonic_sound}
 use Rattle.bq_asm.proofs.Again.{Words, listed_starts, operands_words}
 use Rattle.bq_asm.proofs.Sound.{bind_some, guard_some, name_sound, Spread, statement_sound}
@@ -127,7 +127,7 @@ words_by text v None c e =
     inr (r.statement, r.is, code_alone text r.statement (statement_operands r.statement) refl r.legal r.mnemonic (operands_words r.statement r.legal) r.spread)
 words_by text v (Some p) c e =
     let r = said p.0 p.1 v e in
-    inr (r.statement, r.is, code_rest text p.1 r.statement (statement_operands r.statement) refl r.legal (cut_parts 32 (trimmed text) p c ∙ ap (λ (u : List ℕ). u ++ (32 ∷ p.1)) r.mnemonic) r.spread)
+    inr (r.statement, r.is, code_rest text p.1 r.statement (statement_operands r.statement) refl r.legal (cut-some 32 (trimmed text) p c ∙ ap (λ (u : List ℕ). u ++ (32 ∷ p.1)) r.mnemonic) r.spread)
 
 words_empty : (text : List ℕ) → trimmed text ≡ [] → AreSpaces text
 words_empty text e =
@@ -174,7 +174,7 @@ label_by line v (Some p) c e =
     let h = cond_some _ _ _ e in
     let k = and_parts (eqb (length p.1) 0) (is_name p.0) h.0 in
     let a = trimmed_of line in
-    let t : trimmed line ≡ p.0 ++ (58 ∷ []) = cut_parts 58 (trimmed line) p c ∙ ap (λ (u : List ℕ). p.0 ++ (58 ∷ u)) (nil_from_length p.1 (eqb-true _ 0 k.0)) in
+    let t : trimmed line ≡ p.0 ++ (58 ∷ []) = cut-some 58 (trimmed line) p c ∙ ap (λ (u : List ℕ). p.0 ++ (58 ∷ u)) (nil_from_length p.1 (eqb-true _ 0 k.0)) in
     subst (Spells line) h.1 (record {
       before = a.before;
       after = a.after;
@@ -188,7 +188,7 @@ line_by : (line : List ℕ) (v : Line) (o : Option (List ℕ × List ℕ)) → c
 line_by line v None c e = label_by line v (cut 58 (trimmed line)) refl e
 line_by line v (Some p) c e =
     let h = guard_some (is_comment p.1) (words_at p.0) v e in
-    spelled line p.0 (35 ∷ p.1) v (cut_parts 35 line p c) (refl, comment_sound p.1 h.0) (words_sound p.0 v h.1)
+    spelled line p.0 (35 ∷ p.1) v (cut-some 35 line p c) (refl, comment_sound p.1 h.0) (words_sound p.0 v h.1)
 
 pub line_sound : (line : List ℕ) (v : Line) → line_at line ≡ Some v → Spells line v
 unfolding line_at

@@ -16,12 +16,12 @@ use Rattle.bq_asm.specs.declared.mnemonic.Mnemonic.{Mnemonic}
 use Rattle.bq_asm.specs.declared.mnemonic.Mnemonic.TheVariants as mnemonics
 use Rattle.bq_asm.specs.declared.jump.Jump.{Jump}
 use Rattle.bq_asm.specs.declared.jump.Jump.TheVariants as jumps
-use Rattle.bq_asm.specs.Line.{Statement, Complete, IsName, IsJump, IsStatement, is_letter, is_name_byte, AreListed, AreSpaces, statement_operands, statement_mnemonic}
+use Rattle.bq_asm.specs.Line.{Statement, Complete, IsName, IsJump, IsStatement, is_letter, is_name_byte, AreListed, AreSpaces, IsComma, statement_operands, statement_mnemonic}
 use Rattle.bq_asm.specs.Operands.{register, operand, distance, memory, jump_insn, jump_mnemonic, jump_operands}
 use Rattle.bq_asm.specs.Reading.{◌>>=◌, strip, cut, positive_at, negative_at, signed_at, signed_else, distance_at, distance_else, positive_of, negative_of, fits, fitting, register_of, register_at, operand_at, operand_else, place_of, place_else, place_at, memory_at, is_name, jump_bits, jump_by, target_at, target_else, pair_at, trimmed, statement_at}
 use Rattle.spelling.specs.Natural.{natural_at}
 use Rattle.spelling.proofs.Decimal.{natural_sound}
-use Rattle.bq_asm.proofs.Spaces.{spaces_append, trimmed_of, cut_parts}
+use Rattle.bq_asm.proofs.Spaces.{spaces_append, trimmed_of, cut-some}
 
 pub bind_some : {A B : Type 0} (o : Option A) (f : A → Option B) (y : B) → (o >>= f) ≡ Some y → (x : A) × (o ≡ Some x) × (f x ≡ Some y)
 bind_some None f y e = absurd cc
@@ -62,7 +62,9 @@ negative_sound text z e = let b = bind_some (natural_at text) negative_of z e in
 
 signed_by : (text : List ℕ) (z : ℤ) (o : Option (List ℕ)) → strip 45 text ≡ o → signed_else text o ≡ Some z → text ≡ signed_decimal z
 signed_by text z None s e = let p = positive_sound text z e in p.2 ∙ ap signed_decimal (sym p.1)
-signed_by text z (Some ds) s e = let p = negative_sound ds z e in strip_sound 45 text ds s ∙ ap (λ (xs : List ℕ). 45 ∷ xs) p.2 ∙ ap signed_decimal (sym p.1)
+signed_by text z (Some ds) s e =
+    let p = negative_sound ds z e in
+    strip_sound 45 text ds s ∙ ap (λ (xs : List ℕ). 45 ∷ xs) p.2 ∙ ap signed_decimal (sym p.1)
 
 signed_sound : (text : List ℕ) (z : ℤ) → signed_at text ≡ Some z → text ≡ signed_decimal z
 unfolding signed_at
@@ -73,7 +75,9 @@ distance_by text z None s e =
     let b = bind_some (strip 45 text) negative_at z e in
     let p = negative_sound b.0 z b.2 in
     strip_sound 45 text b.0 b.1 ∙ ap (λ (xs : List ℕ). 45 ∷ xs) p.2 ∙ ap distance (sym p.1)
-distance_by text z (Some ds) s e = let p = positive_sound ds z e in strip_sound 43 text ds s ∙ ap (λ (xs : List ℕ). 43 ∷ xs) p.2 ∙ ap distance (sym p.1)
+distance_by text z (Some ds) s e =
+    let p = positive_sound ds z e in
+    strip_sound 43 text ds s ∙ ap (λ (xs : List ℕ). 43 ∷ xs) p.2 ∙ ap distance (sym p.1)
 
 distance_sound : (text : List ℕ) (z : ℤ) → distance_at text ≡ Some z → text ≡ distance z
 unfolding distance_at
@@ -136,12 +140,14 @@ place_of_sound base digits z sign p f e =
 
 place_by : (text : List ℕ) (p : ℕ × ℤ) (o : Option (List ℕ × List ℕ)) → cut 43 text ≡ o → place_else text o ≡ Some p → IsPlace text p
 place_by text p (Some q) s e =
-    subst (λ t. IsPlace t p) (sym (cut_parts 43 text q s))
-    (place_of_sound q.0 q.1 (positive_at q.1) 43 p (λ o h. let k = positive_sound q.1 o h in ap (λ (xs : List ℕ). 43 ∷ xs) k.2 ∙ ap distance (sym k.1)) e)
+    subst (λ t. IsPlace t p) (sym (cut-some 43 text q s))
+    (place_of_sound q.0 q.1 (positive_at q.1) 43 p
+    (λ o h. let k = positive_sound q.1 o h in ap (λ (xs : List ℕ). 43 ∷ xs) k.2 ∙ ap distance (sym k.1)) e)
 place_by text p None s e =
     let b = bind_some (cut 45 text) (λ q. place_of q.0 (negative_at q.1)) p e in
-    subst (λ t. IsPlace t p) (sym (cut_parts 45 text b.0 b.1))
-    (place_of_sound b.0.0 b.0.1 (negative_at b.0.1) 45 p (λ o h. let k = negative_sound b.0.1 o h in ap (λ (xs : List ℕ). 45 ∷ xs) k.2 ∙ ap distance (sym k.1)) b.2)
+    subst (λ t. IsPlace t p) (sym (cut-some 45 text b.0 b.1))
+    (place_of_sound b.0.0 b.0.1 (negative_at b.0.1) 45 p
+    (λ o h. let k = negative_sound b.0.1 o h in ap (λ (xs : List ℕ). 45 ∷ xs) k.2 ∙ ap distance (sym k.1)) b.2)
 
 place_sound : (text : List ℕ) (p : ℕ × ℤ) → place_at text ≡ Some p → IsPlace text p
 unfolding place_at
@@ -159,10 +165,12 @@ memory_sound text p e =
     let q = bind_some (cut 93 b.0) (λ q. cond (eqb (length q.1) 0) (place_at q.0) None) p b.2 in
     let h = guard_some (eqb (length q.0.1) 0) (place_at q.0.0) p q.2 in
     let k = place_sound q.0.0 p h.1 in
+    let nothing = ap (λ (xs : List ℕ). q.0.0 ++ (93 ∷ xs)) (nil_from_length q.0.1 (eqb-true _ 0 h.0)) in
+    let inner = cut-some 93 b.0 q.0 q.1 ∙ nothing ∙ ap (λ (xs : List ℕ). xs ++ (93 ∷ [])) k.parts in
     record {
       base = k.base;
       offset = k.offset;
-      parts = strip_sound 91 text b.0 b.1 ∙ ap (λ (xs : List ℕ). 91 ∷ xs) (cut_parts 93 b.0 q.0 q.1 ∙ ap (λ (xs : List ℕ). q.0.0 ++ (93 ∷ xs)) (nil_from_length q.0.1 (eqb-true _ 0 h.0)) ∙ ap (λ (xs : List ℕ). xs ++ (93 ∷ [])) k.parts);
+      parts = strip_sound 91 text b.0 b.1 ∙ ap (λ (xs : List ℕ). 91 ∷ xs) inner;
     }
 
 -- ---- names and jumps
@@ -231,7 +239,7 @@ unfolding pair_at
 pair_sound text p e =
     let b = bind_some (cut 44 text) (λ q. Some (trimmed q.0, trimmed q.1)) p e in
     let g : ◌≡◌ {A = List ℕ × List ℕ} (trimmed b.0.0, trimmed b.0.1) p = cc in
-    (b.0, cut_parts 44 text b.0 b.1, ap (λ (q : List ℕ × List ℕ). q.0) g, ap (λ (q : List ℕ × List ℕ). q.1) g)
+    (b.0, cut-some 44 text b.0 b.1, ap (λ (q : List ℕ × List ℕ). q.0) g, ap (λ (q : List ℕ × List ℕ). q.1) g)
 
 spread_parts : (a x b c d l e f : List ℕ) → (a ++ (x ++ b)) ++ (44 ∷ (c ++ ((d ++ (l ++ e)) ++ f))) ≡ a ++ ((x ++ ((b ++ (44 ∷ (c ++ d))) ++ l)) ++ (e ++ f))
 spread_parts a x b c d l e f = simp append_assoc
@@ -243,16 +251,21 @@ spread_pair x z zs text p e f s =
     let a = trimmed_of q.0.0 in
     let b = trimmed_of q.0.1 in
     let first : q.0.0 ≡ a.before ++ (x ++ a.after) = a.parts ∙ ap (λ (t : List ℕ). a.before ++ (t ++ a.after)) (q.2 ∙ f) in
-    let second : q.0.1 ≡ b.before ++ ((s.before ++ (s.list ++ s.after)) ++ b.after) = b.parts ∙ ap (λ (t : List ℕ). b.before ++ (t ++ b.after)) (q.3 ∙ s.parts) in
+    let second : q.0.1 ≡ b.before ++ ((s.before ++ (s.list ++ s.after)) ++ b.after) =
+    b.parts ∙ ap (λ (t : List ℕ). b.before ++ (t ++ b.after)) (q.3 ∙ s.parts) in
     let comma = a.after ++ (44 ∷ (b.before ++ s.before)) in
+    let spaces = spaces_append b.before s.before b.spaces_before s.spaces_before in
+    let is_comma : IsComma comma =
+    record { before = a.after; after = b.before ++ s.before; spaces_before = a.spaces_after; spaces_after = spaces; parts = refl } in
     record {
       before = a.before;
       list = x ++ (comma ++ s.list);
       after = s.after ++ b.after;
       spaces_before = a.spaces_before;
       spaces_after = spaces_append s.after b.after s.spaces_after b.spaces_after;
-      listed = (comma, s.list, record { before = a.after; after = b.before ++ s.before; spaces_before = a.spaces_after; spaces_after = spaces_append b.before s.before b.spaces_before s.spaces_before; parts = refl }, s.listed, refl);
-      parts = q.1 ∙ ap (λ (t : List ℕ). t ++ (44 ∷ q.0.1)) first ∙ ap (λ (t : List ℕ). (a.before ++ (x ++ a.after)) ++ (44 ∷ t)) second ∙ spread_parts a.before x a.after b.before s.before s.list s.after b.after;
+      listed = (comma, s.list, is_comma, s.listed, refl);
+      parts = q.1 ∙ ap (λ (t : List ℕ). t ++ (44 ∷ q.0.1)) first ∙ ap (λ (t : List ℕ). (a.before ++ (x ++ a.after)) ++ (44 ∷ t)) second
+          ∙ spread_parts a.before x a.after b.before s.before s.list s.after b.after;
     }
 
 -- ---- statements
@@ -265,43 +278,47 @@ pub record Reads (m : Mnemonic) (text : List ℕ) (s : Statement) : Type 0 where
 reads_jump : (j : Jump) (text : List ℕ) (s : Statement) → Spread (jump_operands j text) text → Jumps j text s → Reads (jump_mnemonic j) text s
 reads_jump j text s p k = record { mnemonic = k.mnemonic; legal = k.legal; spread = subst (λ xs. Spread xs text) (sym k.operands) p }
 
--- an instruction made of a register and a place in memory
-reads_load : (m : Mnemonic) (load : ℕ → ℕ → ℤ → Insn) (text : List ℕ) (s : Statement)
-    → ((d b : ℕ) (o : ℤ) → d < 11 → b < 11 → FitsSigned w16 o → Spread (register d ∷ memory b o ∷ []) text → Reads m text (Complete (load d b o)))
-    → (pair_at text >>= (λ p. register_at p.0 >>= λ d. memory_at p.1 >>= λ v. Some (Complete (load d v.0 v.1)))) ≡ Some s → Reads m text s
-reads_load m load text s loads e =
-    let p = bind_some (pair_at text) (λ p. register_at p.0 >>= λ d. memory_at p.1 >>= λ v. Some (Complete (load d v.0 v.1))) s e in
-    let d = bind_some (register_at p.0.0) (λ d. memory_at p.0.1 >>= λ v. Some (Complete (load d v.0 v.1))) s p.2 in
-    let v = bind_some (memory_at p.0.1) (λ v. Some (Complete (load d.0 v.0 v.1))) s d.2 in
-    let g : Complete (load d.0 v.0.0 v.0.1) ≡ s = cc in
-    let r = register_sound p.0.0 d.0 d.1 in
-    let o = memory_sound p.0.1 v.0 v.1 in
-    subst (Reads m text) g
-    (loads d.0 v.0.0 v.0.1 r.1 o.base o.offset (spread_pair (register d.0) (memory v.0.0 v.0.1) [] text p.0 p.1 r.0 (spread_one (memory v.0.0 v.0.1) p.0.1 o.parts)))
+-- an instruction made of two parts, each of which is read as it is written and keeps to its bounds
+reads_two : {A B : Type 0} (one : List ℕ → Option A) (two : List ℕ → Option B) (write_one : A → List ℕ) (write_two : B → List ℕ)
+    (IsOne : A → Type 0) (IsTwo : B → Type 0) → ((t : List ℕ) (x : A) → one t ≡ Some x → (t ≡ write_one x) × IsOne x)
+    → ((t : List ℕ) (y : B) → two t ≡ Some y → (t ≡ write_two y) × IsTwo y) → (m : Mnemonic) (make : A → B → Insn) (text : List ℕ) (s : Statement)
+    → ((x : A) (y : B) → IsOne x → IsTwo y → Spread (write_one x ∷ write_two y ∷ []) text → Reads m text (Complete (make x y)))
+    → (pair_at text >>= (λ p. one p.0 >>= λ x. two p.1 >>= λ y. Some (Complete (make x y)))) ≡ Some s → Reads m text s
+reads_two one two write_one write_two IsOne IsTwo one_sound two_sound m make text s reads e =
+    let p = bind_some (pair_at text) (λ p. one p.0 >>= λ x. two p.1 >>= λ y. Some (Complete (make x y))) s e in
+    let x = bind_some (one p.0.0) (λ x. two p.0.1 >>= λ y. Some (Complete (make x y))) s p.2 in
+    let y = bind_some (two p.0.1) (λ y. Some (Complete (make x.0 y))) s x.2 in
+    let g : Complete (make x.0 y.0) ≡ s = cc in
+    let a = one_sound p.0.0 x.0 x.1 in
+    let b = two_sound p.0.1 y.0 y.1 in
+    let spread = spread_pair (write_one x.0) (write_two y.0) [] text p.0 p.1 a.0 (spread_one (write_two y.0) p.0.1 b.0) in
+    subst (Reads m text) g (reads x.0 y.0 a.1 b.1 spread)
+
+abbrev IsRegister : ℕ → Type 0
+IsRegister r = r < 11
+
+abbrev IsPlaceInMemory : ℕ × ℤ → Type 0
+IsPlaceInMemory p = (p.0 < 11) × FitsSigned w16 p.1
+
+abbrev write_memory : ℕ × ℤ → List ℕ
+write_memory p = memory p.0 p.1
+
+memory_kept : (text : List ℕ) (p : ℕ × ℤ) → memory_at text ≡ Some p → (text ≡ write_memory p) × IsPlaceInMemory p
+memory_kept text p e = let k = memory_sound text p e in (k.parts, (k.base, k.offset))
 
 pub statement_sound : (m : Mnemonic) (text : List ℕ) (s : Statement) → statement_at m text ≡ Some s → Reads m text s
 unfolding statement_at
 statement_sound (mnemonics.Alu w op) text s e =
-    let p = bind_some (pair_at text) (λ p. register_at p.0 >>= λ d. operand_at p.1 >>= λ x. Some (Complete (insns.Alu w op d x))) s e in
-    let d = bind_some (register_at p.0.0) (λ d. operand_at p.0.1 >>= λ x. Some (Complete (insns.Alu w op d x))) s p.2 in
-    let x = bind_some (operand_at p.0.1) (λ x. Some (Complete (insns.Alu w op d.0 x))) s d.2 in
-    let g : Complete (insns.Alu w op d.0 x.0) ≡ s = cc in
-    let r = register_sound p.0.0 d.0 d.1 in
-    let o = operand_sound p.0.1 x.0 x.1 in
-    subst (Reads (mnemonics.Alu w op) text) g (record { mnemonic = refl; legal = (r.1, o.1); spread = spread_pair (register d.0) (operand x.0) [] text p.0 p.1 r.0 (spread_one (operand x.0) p.0.1 o.0) })
+    reads_two register_at operand_at register operand IsRegister IsOperand register_sound operand_sound (mnemonics.Alu w op) (insns.Alu w op)
+    text s (λ d x low is spread. record { mnemonic = refl; legal = (low, is); spread = spread }) e
 statement_sound (mnemonics.Negate w) text s e =
     let d = bind_some (register_at text) (λ d. Some (Complete (insns.Negate w d))) s e in
     let g : Complete (insns.Negate w d.0) ≡ s = cc in
     let r = register_sound text d.0 d.1 in
     subst (Reads (mnemonics.Negate w) text) g (record { mnemonic = refl; legal = r.1; spread = spread_one (register d.0) text r.0 })
 statement_sound (mnemonics.Extend x) text s e =
-    let p = bind_some (pair_at text) (λ p. register_at p.0 >>= λ d. register_at p.1 >>= λ t. Some (Complete (insns.Extend x d t))) s e in
-    let d = bind_some (register_at p.0.0) (λ d. register_at p.0.1 >>= λ t. Some (Complete (insns.Extend x d t))) s p.2 in
-    let t = bind_some (register_at p.0.1) (λ t. Some (Complete (insns.Extend x d.0 t))) s d.2 in
-    let g : Complete (insns.Extend x d.0 t.0) ≡ s = cc in
-    let r = register_sound p.0.0 d.0 d.1 in
-    let o = register_sound p.0.1 t.0 t.1 in
-    subst (Reads (mnemonics.Extend x) text) g (record { mnemonic = refl; legal = (r.1, o.1); spread = spread_pair (register d.0) (register t.0) [] text p.0 p.1 r.0 (spread_one (register t.0) p.0.1 o.0) })
+    reads_two register_at register_at register register IsRegister IsRegister register_sound register_sound (mnemonics.Extend x) (insns.Extend x)
+    text s (λ d t low is spread. record { mnemonic = refl; legal = (low, is); spread = spread }) e
 statement_sound (mnemonics.Order o b) text s e =
     let d = bind_some (register_at text) (λ d. Some (Complete (insns.Order o b d))) s e in
     let g : Complete (insns.Order o b d.0) ≡ s = cc in
@@ -310,7 +327,8 @@ statement_sound (mnemonics.Order o b) text s e =
 statement_sound mnemonics.Jump text s e = reads_jump jumps.Always text s (spread_one text text refl) (target_sound jumps.Always text s tt e)
 statement_sound mnemonics.JumpFar text s e = reads_jump jumps.Far text s (spread_one text text refl) (target_sound jumps.Far text s tt e)
 statement_sound (mnemonics.Branch w r) text s e =
-    let p = bind_some (pair_at text) (λ p. pair_at p.1 >>= λ q. register_at p.0 >>= λ d. operand_at q.0 >>= λ x. target_at (jumps.Branch w r d x) q.1) s e in
+    let p =
+    bind_some (pair_at text) (λ p. pair_at p.1 >>= λ q. register_at p.0 >>= λ d. operand_at q.0 >>= λ x. target_at (jumps.Branch w r d x) q.1) s e in
     let q = bind_some (pair_at p.0.1) (λ q. register_at p.0.0 >>= λ d. operand_at q.0 >>= λ x. target_at (jumps.Branch w r d x) q.1) s p.2 in
     let d = bind_some (register_at p.0.0) (λ d. operand_at q.0.0 >>= λ x. target_at (jumps.Branch w r d x) q.0.1) s q.2 in
     let x = bind_some (operand_at q.0.0) (λ x. target_at (jumps.Branch w r d.0 x) q.0.1) s d.2 in
@@ -321,28 +339,21 @@ statement_sound (mnemonics.Branch w r) text s e =
       mnemonic = j.mnemonic;
       legal = j.legal;
       spread = subst (λ xs. Spread xs text) (sym j.operands)
-          (spread_pair (register d.0) (operand x.0) (q.0.1 ∷ []) text p.0 p.1 k.0 (spread_pair (operand x.0) q.0.1 [] p.0.1 q.0 q.1 o.0 (spread_one q.0.1 q.0.1 refl)));
+          (spread_pair (register d.0) (operand x.0) (q.0.1 ∷ []) text p.0 p.1 k.0
+          (spread_pair (operand x.0) q.0.1 [] p.0.1 q.0 q.1 o.0 (spread_one q.0.1 q.0.1 refl)));
     }
 statement_sound mnemonics.Exit text s e =
     let h = cond_some (eqb (length text) 0) (Complete insns.Exit) s e in
     subst (Reads mnemonics.Exit text) h.1 (record { mnemonic = refl; legal = tt; spread = spread_none text (nil_from_length text (eqb-true _ 0 h.0)) })
 statement_sound (mnemonics.Load z) text s e =
-    reads_load (mnemonics.Load z) (insns.Load z) text s (λ d b o low base fits spread. record { mnemonic = refl; legal = (low, base, fits); spread = spread }) e
+    reads_two register_at memory_at register write_memory IsRegister IsPlaceInMemory register_sound memory_kept (mnemonics.Load z)
+    (λ d p. insns.Load z d p.0 p.1) text s (λ d p low is spread. record { mnemonic = refl; legal = (low, is.0, is.1); spread = spread }) e
 statement_sound (mnemonics.LoadSigned z) text s e =
-    reads_load (mnemonics.LoadSigned z) (insns.LoadSigned z) text s (λ d b o low base fits spread. record { mnemonic = refl; legal = (low, base, fits); spread = spread }) e
+    reads_two register_at memory_at register write_memory IsRegister IsPlaceInMemory register_sound memory_kept (mnemonics.LoadSigned z)
+    (λ d p. insns.LoadSigned z d p.0 p.1) text s (λ d p low is spread. record { mnemonic = refl; legal = (low, is.0, is.1); spread = spread }) e
 statement_sound (mnemonics.Store z) text s e =
-    let p = bind_some (pair_at text) (λ p. memory_at p.0 >>= λ m. operand_at p.1 >>= λ x. Some (Complete (insns.Store z m.0 m.1 x))) s e in
-    let m = bind_some (memory_at p.0.0) (λ m. operand_at p.0.1 >>= λ x. Some (Complete (insns.Store z m.0 m.1 x))) s p.2 in
-    let x = bind_some (operand_at p.0.1) (λ x. Some (Complete (insns.Store z m.0.0 m.0.1 x))) s m.2 in
-    let g : Complete (insns.Store z m.0.0 m.0.1 x.0) ≡ s = cc in
-    let r = memory_sound p.0.0 m.0 m.1 in
-    let o = operand_sound p.0.1 x.0 x.1 in
-    subst (Reads (mnemonics.Store z) text) g (record { mnemonic = refl; legal = (r.base, r.offset, o.1); spread = spread_pair (memory m.0.0 m.0.1) (operand x.0) [] text p.0 p.1 r.parts (spread_one (operand x.0) p.0.1 o.0) })
+    reads_two memory_at operand_at write_memory operand IsPlaceInMemory IsOperand memory_kept operand_sound (mnemonics.Store z)
+    (λ p x. insns.Store z p.0 p.1 x) text s (λ p x place is spread. record { mnemonic = refl; legal = (place.0, place.1, is); spread = spread }) e
 statement_sound mnemonics.Wide text s e =
-    let p = bind_some (pair_at text) (λ p. register_at p.0 >>= λ d. natural_at p.1 >>= λ v. Some (Complete (insns.Wide d v))) s e in
-    let d = bind_some (register_at p.0.0) (λ d. natural_at p.0.1 >>= λ v. Some (Complete (insns.Wide d v))) s p.2 in
-    let v = bind_some (natural_at p.0.1) (λ v. Some (Complete (insns.Wide d.0 v))) s d.2 in
-    let g : Complete (insns.Wide d.0 v.0) ≡ s = cc in
-    let r = register_sound p.0.0 d.0 d.1 in
-    let o = natural_sound p.0.1 v.0 v.1 in
-    subst (Reads mnemonics.Wide text) g (record { mnemonic = refl; legal = (r.1, o.1); spread = spread_pair (register d.0) (decimal v.0) [] text p.0 p.1 r.0 (spread_one (decimal v.0) p.0.1 o.0) })
+    reads_two register_at natural_at register decimal IsRegister (λ v. v < 2 ^ 64) register_sound natural_sound mnemonics.Wide insns.Wide
+    text s (λ d v low is spread. record { mnemonic = refl; legal = (low, is); spread = spread }) e

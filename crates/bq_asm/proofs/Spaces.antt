@@ -157,6 +157,6 @@ cut_by c d s p f (Some q) e (inr k) h =
     let r : ◌≡◌ {A = List ℕ × List ℕ} (d ∷ q.0, q.1) p = cc in
     ap (λ (xs : List ℕ). d ∷ xs) (f q e) ∙ ap (λ (x : List ℕ × List ℕ). x.0 ++ (c ∷ x.1)) r
 
-pub cut_parts : (c : ℕ) (s : List ℕ) (p : List ℕ × List ℕ) → cut c s ≡ Some p → s ≡ p.0 ++ (c ∷ p.1)
-cut_parts c [] p h = absurd cc
-cut_parts c (d ∷ s) p h = cut_by c d s p (cut_parts c s) (cut c s) refl (cases_Bool (eqb d c)) h
+pub cut-some : (c : ℕ) (s : List ℕ) (p : List ℕ × List ℕ) → cut c s ≡ Some p → s ≡ p.0 ++ (c ∷ p.1)
+cut-some c [] p h = absurd cc
+cut-some c (d ∷ s) p h = cut_by c d s p (cut-some c s) (cut c s) refl (cases_Bool (eqb d c)) h

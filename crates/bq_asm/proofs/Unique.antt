@@ -140,10 +140,7 @@ one_fault source faults.TooLong (faults.Label n) p q no_d no_e = absurd (labelle
 one_fault source faults.TooLong faults.BadLength p q no_d no_e = absurd (short source q p)
 one_fault source faults.TooLong faults.TooLong p q no_d no_e = refl
 one_fault source faults.OutOfMemory e p q no_d no_e = absurd (no_d refl)
-one_fault source (faults.Syntax m) faults.OutOfMemory p q no_d no_e = absurd (no_e refl)
-one_fault source (faults.Label m) faults.OutOfMemory p q no_d no_e = absurd (no_e refl)
-one_fault source faults.BadLength faults.OutOfMemory p q no_d no_e = absurd (no_e refl)
-one_fault source faults.TooLong faults.OutOfMemory p q no_d no_e = absurd (no_e refl)
+one_fault source d faults.OutOfMemory p q no_d no_e = absurd (no_e refl)
 
 pub all_from : (r : Result (List Insn) AsmFault) (source : List ℕ) (t : List Insn) → IsText t → IsSource source t → IfOk r (λ u. IsSource source u)
     → IfErr r (IsFault source) → MatchResult r (λ u. u ≡ t) (λ e. e ≡ faults.OutOfMemory)

@@ -16,18 +16,8 @@ use Rattle.bq_flow.proofs.Units.{first_begins, insn_within}
 
 -- an instruction without successors is an exit
 ends : (unit : ℕ) (i : Insn) → [] ≡ successors unit i → i ≡ insns.Exit
-ends unit (insns.Alu w op d x) e = absurd cc
-ends unit (insns.Negate w d) e = absurd cc
-ends unit (insns.Extend k d s) e = absurd cc
-ends unit (insns.Order o b d) e = absurd cc
-ends unit (insns.Jump d) e = absurd cc
-ends unit (insns.JumpFar d) e = absurd cc
-ends unit (insns.Branch w r d x o) e = absurd cc
 ends unit insns.Exit e = refl
-ends unit (insns.Load z d b o) e = absurd cc
-ends unit (insns.LoadSigned z d b o) e = absurd cc
-ends unit (insns.Store z b o x) e = absurd cc
-ends unit (insns.Wide d v) e = absurd cc
+ends unit i e = absurd cc
 
 -- the longest path by the table
 abbrev pub longest_by : Successors → List ℕ → ℕ
@@ -63,10 +53,12 @@ reached_by text unit table i (nexts.Two a b) there named next t =
     elim (cases_lt (slice_index table a) (slice_index table b)) [
       | inl l ↦
           let e : 1 + slice_index table b ≡ 1 + max (slice_index table a) (slice_index table b) = omega (arith, l) in
-          subst (Path text unit) e (onward text unit i b (slice_index table b) there (subst (Among (pos b)) named (inr (inl refl))) (best_at text unit table b t next.1).reached)
+          subst (Path text unit) e
+          (onward text unit i b (slice_index table b) there (subst (Among (pos b)) named (inr (inl refl))) (best_at text unit table b t next.1).reached)
       | inr g ↦
           let e : 1 + slice_index table a ≡ 1 + max (slice_index table a) (slice_index table b) = omega (arith, g) in
-          subst (Path text unit) e (onward text unit i a (slice_index table a) there (subst (Among (pos a)) named (inl refl)) (best_at text unit table a t next.0).reached)
+          subst (Path text unit) e
+          (onward text unit i a (slice_index table a) there (subst (Among (pos a)) named (inl refl)) (best_at text unit table a t next.0).reached)
     ]
 
 bound_of : (text : List Insn) (unit : ℕ) (table : List ℕ) (a n to : ℕ) → IsTable text table (unit + 1) → IsNext text unit a → pos to ≡ pos a

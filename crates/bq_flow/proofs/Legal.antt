@@ -99,8 +99,11 @@ jump_fine : (text : List Insn) (unit : ℕ) (o : Option ℤ) → ((place : ℤ) 
 jump_fine text unit None h = refl
 jump_fine text unit (Some d) h = forward_fine text unit (destination unit d) (h (destination unit d) (inl refl))
 
+same_next : (text : List Insn) (unit n : ℕ) (h : IsForward text unit (pos n)) → n ≡ h.next
+same_next text unit n h = let e : pos n ≡ pos h.next = h.is in cc
+
 forward_within : (text : List Insn) (unit n : ℕ) → IsForward text unit (pos n) → n < units text
-forward_within text unit n h = let e : pos n ≡ pos h.next = h.is in let s : n ≡ h.next = cc in subst (λ k. k < units text) (sym s) (insn_within text h.next h.insn h.begins)
+forward_within text unit n h = subst (λ k. k < units text) (sym (same_next text unit n h)) (insn_within text h.next h.insn h.begins)
 
 fall_fine : (text : List Insn) (unit : ℕ) (i : Insn) → (falls_through i ≡ true → IsForward text unit (pos (next_unit unit i))) → fall_fault text unit i ≡ None
 fall_fine text unit i h =
@@ -117,10 +120,16 @@ among_fell : (b : Bool) (behind : ℤ) (jumped : List ℤ) → b ≡ true → Am
 among_fell true behind jumped e = inl refl
 among_fell false behind jumped e = absurd (let bad : false ≡ true = e in cc)
 
+jumps_forward : (text : List Insn) → IsLegalFlow text → (unit : ℕ) (i : Insn) → insn_at text unit ≡ Some i
+    → (place : ℤ) → Among place (jumps_to unit (distance_of i)) → IsForward text unit place
+jumps_forward text h unit i there place a =
+    h.each unit i place there (among_jumped (falls_through i) place (pos (next_unit unit i)) (jumps_to unit (distance_of i)) a)
+
 pub faultless : (text : List Insn) → IsLegalFlow text → (unit : ℕ) (i : Insn) → insn_at text unit ≡ Some i → flow_fault text unit i ≡ None
 faultless text h unit i there =
-    let jump = jump_fine text unit (distance_of i) (λ place a. h.each unit i place there (among_jumped (falls_through i) place (pos (next_unit unit i)) (jumps_to unit (distance_of i)) a)) in
-    let fall = fall_fine text unit i (λ t. h.each unit i (pos (next_unit unit i)) there (among_fell (falls_through i) (pos (next_unit unit i)) (jumps_to unit (distance_of i)) t)) in
+    let jump = jump_fine text unit (distance_of i) (jumps_forward text h unit i there) in
+    let fall = fall_fine text unit i (λ t.
+    h.each unit i (pos (next_unit unit i)) there (among_fell (falls_through i) (pos (next_unit unit i)) (jumps_to unit (distance_of i)) t)) in
     rw (jump, fall) refl
 
 pub not_legal : (text : List Insn) (unit : ℕ) (rule : FlowRule) → IsFirstFlowFault text unit rule → IsLegalFlow text → ⊥
@@ -143,15 +152,14 @@ behind_place unit i = by_test (falls_through i)
 pub named : (text : List Insn) → IsLegalFlow text → (unit : ℕ) (i : Insn) → insn_at text unit ≡ Some i
     → place_of (unit_behind unit i) ++ place_of (unit_jumped_to unit (distance_of i)) ≡ successors_at text unit
 named text h unit i there =
-    let jump = jumped_place text unit (distance_of i) (λ place a. h.each unit i place there (among_jumped (falls_through i) place (pos (next_unit unit i)) (jumps_to unit (distance_of i)) a)) in
+    let jump = jumped_place text unit (distance_of i) (jumps_forward text h unit i there) in
     ap (λ x. x ++ place_of (unit_jumped_to unit (distance_of i))) (behind_place unit i)
     ∙ ap (λ x. (if falls_through i then pos (next_unit unit i) ∷ [] else []) ++ x) jump
     ∙ ap (successors_of unit) (sym there)
 
 next_is : (text : List Insn) (unit n : ℕ) → IsForward text unit (pos n) → IsNext text unit n
 next_is text unit n h =
-    let e : pos n ≡ pos h.next = h.is in
-    let s : n ≡ h.next = cc in
+    let s = same_next text unit n h in
     record { forward = subst (λ k. unit < k) (sym s) h.forward; within = forward_within text unit n h; insn = h.insn; begins = ap (insn_at text) s ∙ h.begins }
 
 are_next_of : (text : List Insn) (unit : ℕ) (r : Successors) → ((place : ℤ) → Among place (places r) → IsForward text unit place) → AreNext text unit r

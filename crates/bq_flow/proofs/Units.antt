@@ -20,18 +20,8 @@ record IsWide (i : Insn) : Type 0 where
   next : (unit : ℕ) → next_unit unit i ≡ unit + 2
 
 narrow_or_wide : (i : Insn) → IsNarrow i ⊎ IsWide i
-narrow_or_wide (insns.Alu w op d x) = inl (record { slots = refl; next = λ u. refl })
-narrow_or_wide (insns.Negate w d) = inl (record { slots = refl; next = λ u. refl })
-narrow_or_wide (insns.Extend e d s) = inl (record { slots = refl; next = λ u. refl })
-narrow_or_wide (insns.Order o b d) = inl (record { slots = refl; next = λ u. refl })
-narrow_or_wide (insns.Jump d) = inl (record { slots = refl; next = λ u. refl })
-narrow_or_wide (insns.JumpFar d) = inl (record { slots = refl; next = λ u. refl })
-narrow_or_wide (insns.Branch w r d x o) = inl (record { slots = refl; next = λ u. refl })
-narrow_or_wide insns.Exit = inl (record { slots = refl; next = λ u. refl })
-narrow_or_wide (insns.Load z d b o) = inl (record { slots = refl; next = λ u. refl })
-narrow_or_wide (insns.LoadSigned z d b o) = inl (record { slots = refl; next = λ u. refl })
-narrow_or_wide (insns.Store z b o x) = inl (record { slots = refl; next = λ u. refl })
 narrow_or_wide (insns.Wide d v) = inr (record { slots = refl; next = λ u. refl })
+narrow_or_wide i = inl (record { slots = refl; next = λ u. refl })
 
 next_suc : (unit : ℕ) (i : Insn) → next_unit (suc unit) i ≡ suc (next_unit unit i)
 next_suc unit i = elim (narrow_or_wide i) [

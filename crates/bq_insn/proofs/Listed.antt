@@ -13,7 +13,8 @@ use Rattle.bq_insn.proofs.Reading.{begun-append, begun-slots_of, All-push, slots
 pub begun-slots : (t : List Insn) → begun (slots t) ≡ t
 begun-slots [] = refl
 begun-slots (i ∷ t) =
-    ap begun (flat_map-cons slots_of i t) ∙ begun-append (slots_of i) (slots t) ∙ ap (λ (s : List Insn). s ++ begun (slots t)) (begun-slots_of i) ∙ ap (λ (s : List Insn). i ∷ s) (begun-slots t)
+    ap begun (flat_map-cons slots_of i t) ∙ begun-append (slots_of i) (slots t)
+    ∙ ap (λ (s : List Insn). s ++ begun (slots t)) (begun-slots_of i) ∙ ap (λ (s : List Insn). i ∷ s) (begun-slots t)
 
 pub listed_more : (t : List Insn) (k : ℕ) (i : Insn) (before after : List (Option Insn)) → take (k + 1) t ≡ take k t ++ i ∷ []
     → (before ≡ slots (take k t)) × AllByRecursion IsInsn (take k t) → after ≡ before ++ slots_of i → IsInsn i

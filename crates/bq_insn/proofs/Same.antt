@@ -59,34 +59,28 @@ same_insn (insns.Alu a b c d) (insns.Alu a' b' c' d') h =
     let c-same = (unsigned_Decides c c').0 t.2 in
     let d-same = same_operand d d' t.3 in
     cc
-same_insn (insns.Alu a b c d) j h = absurd (false≢true h)
 same_insn (insns.Negate a b) (insns.Negate a' b') h =
     let p = first_so (width_eq.it a a') (b == b') h in
     let q = second_so (width_eq.it a a') (b == b') h in
     let a-same = same_true width.the_type (search rules) a a' p in
     let b-same = (unsigned_Decides b b').0 q in
     cc
-same_insn (insns.Negate a b) j h = absurd (false≢true h)
 same_insn (insns.Extend a b c) (insns.Extend a' b' c') h =
     let t = split3 (extension_eq.it a a') (b == b') (c == c') h in
     let a-same = same_true extension.the_type (search rules) a a' t.0 in
     let b-same = (unsigned_Decides b b').0 t.1 in
     let c-same = (unsigned_Decides c c').0 t.2 in
     cc
-same_insn (insns.Extend a b c) j h = absurd (false≢true h)
 same_insn (insns.Order a b c) (insns.Order a' b' c') h =
     let t = split3 (byte_order_eq.it a a') (swap_bits_eq.it b b') (c == c') h in
     let a-same = same_true byte_order.the_type (search rules) a a' t.0 in
     let b-same = same_true swap_bits.the_type (search rules) b b' t.1 in
     let c-same = (unsigned_Decides c c').0 t.2 in
     cc
-same_insn (insns.Order a b c) j h = absurd (false≢true h)
 same_insn (insns.Jump a) (insns.Jump a') h =
     ap insns.Jump ((signed_Decides a a').0 h)
-same_insn (insns.Jump a) j h = absurd (false≢true h)
 same_insn (insns.JumpFar a) (insns.JumpFar a') h =
     ap insns.JumpFar ((signed_Decides a a').0 h)
-same_insn (insns.JumpFar a) j h = absurd (false≢true h)
 same_insn (insns.Branch a b c d e) (insns.Branch a' b' c' d' e') h =
     let t = split5 (width_eq.it a a') (relation_eq.it b b') (c == c') (operand_eq.it d d') (int_eq e e') h in
     let a-same = same_true width.the_type (search rules) a a' t.0 in
@@ -95,17 +89,13 @@ same_insn (insns.Branch a b c d e) (insns.Branch a' b' c' d' e') h =
     let d-same = same_operand d d' t.3 in
     let e-same = (signed_Decides e e').0 t.4 in
     cc
-same_insn (insns.Branch a b c d e) j h = absurd (false≢true h)
 same_insn insns.Exit insns.Exit h = refl
-same_insn insns.Exit j h = absurd (false≢true h)
 same_insn (insns.Load a b c d) (insns.Load a' b' c' d') h =
     let t = same_place (size_eq.it a a') b b' c c' d d' h in
     let a-same = same_true size.the_type (search rules) a a' t.0 in cc (t.1, t.2, t.3)
-same_insn (insns.Load a b c d) j h = absurd (false≢true h)
 same_insn (insns.LoadSigned a b c d) (insns.LoadSigned a' b' c' d') h =
     let t = same_place (sign_bits_eq.it a a') b b' c c' d d' h in
     let a-same = same_true sign_bits.the_type (search rules) a a' t.0 in cc (t.1, t.2, t.3)
-same_insn (insns.LoadSigned a b c d) j h = absurd (false≢true h)
 same_insn (insns.Store a b c d) (insns.Store a' b' c' d') h =
     let t = split4 (size_eq.it a a') (b == b') (int_eq c c') (operand_eq.it d d') h in
     let a-same = same_true size.the_type (search rules) a a' t.0 in
@@ -113,14 +103,13 @@ same_insn (insns.Store a b c d) (insns.Store a' b' c' d') h =
     let c-same = (signed_Decides c c').0 t.2 in
     let d-same = same_operand d d' t.3 in
     cc
-same_insn (insns.Store a b c d) j h = absurd (false≢true h)
 same_insn (insns.Wide a b) (insns.Wide a' b') h =
     let p = first_so (a == a') (b == b') h in
     let q = second_so (a == a') (b == b') h in
     let a-same = (unsigned_Decides a a').0 p in
     let b-same = (unsigned_Decides b b').0 q in
     cc
-same_insn (insns.Wide a b) j h = absurd (false≢true h)
+same_insn i j h = absurd (false≢true h)
 
 -- the test of two instructions finds out whether they are the same
 pub told : (i j : Insn) → (insn_eq.it i j ≡ true) ↔ (i ≡ j)

@@ -1,5 +1,5 @@
 -- An instruction faults by the least of the faults that hold of it.
-use Rattle.std.proofs.Common.{◌≡◌, ◌≢◌, ℕ, ◌+◌, ◌-◌, ◌<◌, ◌≤◌, ℤ, Bool, true, false, ◌&&◌, nat_lt, nat_le, List, length, Option, Some, None, arith, refl, subst, inl, inr, if◌then◌else◌}
+use Rattle.std.proofs.Common.{◌≡◌, ◌≢◌, ◌⊎◌, ℕ, ◌-◌, ◌<◌, ◌≤◌, ℤ, Bool, true, false, nat_lt, List, length, Option, Some, None, arith, refl, subst, inl, inr, if◌then◌else◌}
 use Rattle.std.proofs.lemmas.Bool.Decides.{nat_tests}
 use Rattle.reasons.specs.Table.{number}
 use Rattle.bq_word.specs.declared.AluOp.{AluOp}
@@ -15,7 +15,7 @@ use Rattle.bq_insn.specs.Insn.{size_bytes}
 use Rattle.bq_word.specs.Word.{signed_bytes}
 use Rattle.bq_meaning.specs.Memory.{access, is_inside, MachineState as Machine}
 use Rattle.bq_meaning.specs.Meaning.{Outcome, Continues, Ends, Faults, held, value, taken, moved, reading, writing, stored, perform}
-use Rattle.bq_meaning.specs.Faults.{reason, OperandReads, LoadsAt, StoresAt, AreWithin, ReadsUnset, WritesFramePointer, AccessesOutside, WritesRecord, Holds, IsLeast, HoldsNone, IsDone, LeastFaultIsNamed}
+use Rattle.bq_meaning.specs.Faults.{reason, OperandReads, IsAddress, LoadsAt, StoresAt, AreWithin, ReadsUnset, WritesFramePointer, AccessesOutside, WritesRecord, Holds, IsLeast, HoldsNone, IsDone, LeastFaultIsNamed}
 use Rattle.bq_meaning.specs.declared.machine.Location.{Location}
 use Rattle.bq_meaning.specs.declared.machine.Location.TheVariants.{Frame, Record}
 use Rattle.bq_meaning.specs.declared.fault.Fault.{Fault}
@@ -37,18 +37,23 @@ JudgedAt p i m o = Judged (ReadsUnset i m) (WritesFramePointer i) (AccessesOutsi
 
 -- ---- the parts of an instruction
 
-read_first : (R W O S : Type 0) (h : Option ℕ) (go : ℕ → Outcome) → (h ≡ None → R) → ((a : ℕ) → h ≡ Some a → Judged R W O S (go a))
-    → Judged R W O S (reading ReadUnset h go)
-read_first R W O S None go r k = r refl
-read_first R W O S (Some a) go r k = k a refl
+module _ (R W O S : Type 0) where
+  read_first : (h : Option ℕ) (go : ℕ → Outcome) → (h ≡ None → R) → ((a : ℕ) → h ≡ Some a → Judged R W O S (go a))
+      → Judged R W O S (reading ReadUnset h go)
+  read_first None go r k = r refl
+  read_first (Some a) go r k = k a refl
 
-write_by : (R W O S : Type 0) (d : ℕ) (o : Outcome) (b : Bool) → (b ≡ true → d < 10) → (b ≡ false → 10 ≤ d) → (R → ⊥) → (10 ≤ d → W)
-    → (d < 10 → Judged R W O S o) → Judged R W O S (if b then o else Faults WroteFramePointer)
-write_by R W O S d o true below above r w k = k (below refl)
-write_by R W O S d o false below above r w k = (r, w (above refl))
+  write_by : (d : ℕ) (o : Outcome) (b : Bool) → (b ≡ true → d < 10) → (b ≡ false → 10 ≤ d) → (R → ⊥) → (10 ≤ d → W)
+      → (d < 10 → Judged R W O S o) → Judged R W O S (if b then o else Faults WroteFramePointer)
+  write_by d o true below above r w k = k (below refl)
+  write_by d o false below above r w k = (r, w (above refl))
 
-write_next : (R W O S : Type 0) (d : ℕ) (o : Outcome) → (R → ⊥) → (10 ≤ d → W) → (d < 10 → Judged R W O S o) → Judged R W O S (writing d o)
-write_next R W O S d o r w k = write_by R W O S d o (nat_lt d 10) (λ e. grind (arith, nat_tests)) (λ e. grind (arith, nat_tests)) r w k
+  write_next : (d : ℕ) (o : Outcome) → (R → ⊥) → (10 ≤ d → W) → (d < 10 → Judged R W O S o) → Judged R W O S (writing d o)
+  write_next d o r w k = write_by d o (nat_lt d 10) (λ e. grind (arith, nat_tests)) (λ e. grind (arith, nat_tests)) r w k
+
+  -- a register is written, and nothing more is done
+  writes_one : (d : ℕ) (next : Machine) → (R → ⊥) → (10 ≤ d → W) → (W → 10 ≤ d) → (O → ⊥) → (S → ⊥) → Judged R W O S (writing d (Continues next))
+  writes_one d next r w above o s = write_next d _ r w (λ h. (r, (λ x. let a = above x in omega arith), o, s))
 
 -- where an access lies, in plain words
 abbrev Lies : Place → ℕ → ℕ → ℕ → Option Location → Type 0
@@ -56,21 +61,11 @@ Lies p len address size (Some (Frame at)) = AreWithin p.frame 512 address size
 Lies p len address size (Some (Record at)) = AreWithin p.record len address size
 Lies p len address size None = (AreWithin p.frame 512 address size → ⊥) × (AreWithin p.record len address size → ⊥)
 
-inside_by : (x y : Bool) (A B : Type 0) → (x ≡ true → A) → (y ≡ true → B) → (x && y) ≡ true → A × B
-inside_by true true A B f g e = (f refl, g refl)
-inside_by true false A B f g e = cc
-inside_by false y A B f g e = cc
-
-inside_not : (x y : Bool) (A B : Type 0) → (A → x ≡ true) → (B → y ≡ true) → (x && y) ≡ false → A × B → ⊥
-inside_not true true A B f g e h = cc
-inside_not true false A B f g e h = let a = g h.1 in cc
-inside_not false y A B f g e h = let a = f h.0 in cc
-
 inside_is : (start len address size : ℕ) → is_inside start len address size ≡ true → AreWithin start len address size
-inside_is start len address size e = inside_by (nat_le start address) (nat_le (address + size) (start + len)) (start ≤ address) (address + size ≤ start + len) (λ h. grind (arith, nat_tests)) (λ h. grind (arith, nat_tests)) e
+inside_is start len address size e = (grind (arith, nat_tests), grind (arith, nat_tests))
 
 inside_is_not : (start len address size : ℕ) → is_inside start len address size ≡ false → AreWithin start len address size → ⊥
-inside_is_not start len address size e = inside_not (nat_le start address) (nat_le (address + size) (start + len)) (start ≤ address) (address + size ≤ start + len) (λ h. grind (arith, nat_tests)) (λ h. grind (arith, nat_tests)) e
+inside_is_not start len address size e h = grind (arith, nat_tests)
 
 lies_by : (p : Place) (len address size : ℕ) (x y : Bool) → (x ≡ true → AreWithin p.frame 512 address size)
     → (x ≡ false → AreWithin p.frame 512 address size → ⊥) → (y ≡ true → AreWithin p.record len address size)
@@ -81,7 +76,9 @@ lies_by p len address size false true a b c d = c refl
 lies_by p len address size false false a b c d = (b refl, d refl)
 
 lies : (p : Place) (len address size : ℕ) → Lies p len address size (access p len address size)
-lies p len address size = lies_by p len address size (is_inside p.frame 512 address size) (is_inside p.record len address size) (inside_is p.frame 512 address size) (inside_is_not p.frame 512 address size) (inside_is p.record len address size) (inside_is_not p.record len address size)
+lies p len address size =
+    lies_by p len address size _ _ (inside_is p.frame 512 address size) (inside_is_not p.frame 512 address size)
+    (inside_is p.record len address size) (inside_is_not p.record len address size)
 
 -- no byte is in both regions
 never_both : (p : Place) (len address size : ℕ) → IsPlacement p → len ≤ record_room → 0 < size → AreWithin p.frame 512 address size
@@ -102,9 +99,11 @@ operand_unset : (x : Operand) (registers : List (Option ℕ)) → value register
 operand_unset (operands.Register s) registers h = (s, refl, h)
 operand_unset (operands.Number z) registers h = cc
 
-operand_set : (x : Operand) (registers : List (Option ℕ)) (a r : ℕ) → value registers x ≡ Some a → OperandReads x r → held registers r ≡ None → ⊥
-operand_set (operands.Register s) registers a r h e n = let e' = e in absurd (cc)
-operand_set (operands.Number z) registers a r h e n = e
+either_set : {A : Type 0} (x : Operand) (registers : List (Option ℕ)) (a r : ℕ) → (A → ⊥) → value registers x ≡ Some a → A ⊎ OperandReads x r
+    → held registers r ≡ None → ⊥
+either_set x registers a r first h (inl e) n = first e
+either_set (operands.Register s) registers a r first h (inr e) n = let e' = e in absurd (cc)
+either_set (operands.Number z) registers a r first h (inr e) n = e
 
 set_one : (registers : List (Option ℕ)) (d r a : ℕ) → held registers d ≡ Some a → r ≡ d → held registers r ≡ None → ⊥
 set_one registers d r a h e n = let i : held registers d ≡ None = rw e at n in absurd (cc)
@@ -115,77 +114,87 @@ size_some sizes.B2 = omega arith
 size_some sizes.B4 = omega arith
 size_some sizes.B8 = omega arith
 
--- ---- loads
+-- ---- loads and stores
 
-load_at : (R W S : Type 0) (p : Place) (i : Insn) (m : Machine) (base d : ℕ) (offset : ℤ) (a size : ℕ) (l : Option Location) (go : Location → Machine) → held m.registers base ≡ Some a → ((address n : ℕ) → LoadsAt i m address n → (address ≡ moved a offset) × (n ≡ size)) → LoadsAt i m (moved a offset) size → ((address n : ℕ) → StoresAt i m address n → ⊥) → (R → ⊥) → (W → ⊥) → (S → ⊥) → Lies p (length m.record) (moved a offset) size l
-    → Judged R W (AccessesOutside p i m) S (reading OutsideAccess l (λ k. Continues (go k)))
-load_at R W S p i m base d offset a size None go h one is none r w s at = (r, w, (moved a offset, size, inl is, at.0, at.1))
-load_at R W S p i m base d offset a size (Some (Frame k)) go h one is none r w s at = (r, w, (λ o. elim o.2 as (λ _. ⊥) [ inl x ↦ let e = one o.0 o.1 x in o.3 (rw (e.0, e.1) at) | inr x ↦ none o.0 o.1 x ]), s)
-load_at R W S p i m base d offset a size (Some (Record k)) go h one is none r w s at = (r, w, (λ o. elim o.2 as (λ _. ⊥) [ inl x ↦ let e = one o.0 o.1 x in o.4 (rw (e.0, e.1) at) | inr x ↦ none o.0 o.1 x ]), s)
+-- an instruction with one access
+module _ (p : Place) (i : Insn) (m : Machine) (address size : ℕ) (unset : ReadsUnset i m → ⊥) (free : WritesFramePointer i → ⊥)
+    (one : (a n : ℕ) → LoadsAt i m a n ⊎ StoresAt i m a n → (a ≡ address) × (n ≡ size)) where
+  inside : (k : Location) → Lies p (length m.record) address size (Some k) → AccessesOutside p i m → ⊥
+  inside (Frame k) at o = let e = one o.0 o.1 o.2 in o.3 (rw (e.0, e.1) at)
+  inside (Record k) at o = let e = one o.0 o.1 o.2 in o.4 (rw (e.0, e.1) at)
 
-store_at : (R W : Type 0) (p : Place) (i : Insn) (m : Machine) (a : ℕ) (offset : ℤ) (size v : ℕ) (l : Option Location) → IsPlacement p → length m.record ≤ record_room → 0 < size → ((address n : ℕ) → LoadsAt i m address n → ⊥) → ((address n : ℕ) → StoresAt i m address n → (address ≡ moved a offset) × (n ≡ size)) → StoresAt i m (moved a offset) size → (R → ⊥) → (W → ⊥) → Lies p (length m.record) (moved a offset) size l
-    → Judged R W (AccessesOutside p i m) (WritesRecord p i m) (reading OutsideAccess l (λ k. stored m k size v))
-store_at R W p i m a offset size v None place room some none one is r w at = (r, w, (moved a offset, size, inr is, at.0, at.1))
-store_at R W p i m a offset size v (Some (Frame k)) place room some none one is r w at = (
-  r,
-  w,
-  (λ o. elim o.2 as (λ _. ⊥) [ inl x ↦ none o.0 o.1 x | inr x ↦ let e = one o.0 o.1 x in o.3 (rw (e.0, e.1) at) ]),
-  (λ s. let e = one s.0 s.1 s.2 in let there : AreWithin p.record (length m.record) (moved a offset) size = rw (e.0, e.1) at s.3 in never_both p (length m.record) (moved a offset) size place room some at there),
-)
-store_at R W p i m a offset size v (Some (Record k)) place room some none one is r w at =
-    (r, w, (λ o. elim o.2 as (λ _. ⊥) [ inl x ↦ none o.0 o.1 x | inr x ↦ let e = one o.0 o.1 x in o.4 (rw (e.0, e.1) at) ]), (moved a offset, size, is, at))
+  load_at : (l : Option Location) (go : Location → Machine) → LoadsAt i m address size → (WritesRecord p i m → ⊥)
+      → Lies p (length m.record) address size l → JudgedAt p i m (reading OutsideAccess l (λ k. Continues (go k)))
+  load_at None go is still at = (unset, free, (address, size, inl is, at.0, at.1))
+  load_at (Some k) go is still at = (unset, free, inside k at, still)
+
+  store_at : (l : Option Location) (v : ℕ) → IsPlacement p → length m.record ≤ record_room → 0 < size → StoresAt i m address size
+      → Lies p (length m.record) address size l → JudgedAt p i m (reading OutsideAccess l (λ k. stored m k size v))
+  store_at None v place room some is at = (unset, free, (address, size, inr is, at.0, at.1))
+  store_at (Some (Frame k)) v place room some is at =
+      let apart : WritesRecord p i m → ⊥ = λ s.
+      let e = one s.0 s.1 (inr s.2) in
+      let there : AreWithin p.record (length m.record) address size = rw (e.0, e.1) at s.3 in
+      never_both p (length m.record) address size place room some at there in
+      (unset, free, inside (Frame k) at, apart)
+  store_at (Some (Record k)) v place room some is at = (unset, free, inside (Record k) at, (address, size, is, at))
 
 -- an address is one
-one_address : (registers : List (Option ℕ)) (base : ℕ) (offset : ℤ) (a b address n size : ℕ) → held registers base ≡ Some a
-    → held registers base ≡ Some b → address ≡ moved b offset → n ≡ size → (address ≡ moved a offset) × (n ≡ size)
-one_address registers base offset a b address n size h i e f = let s : b ≡ a = cc in (subst (λ x. address ≡ moved x offset) s e, f)
+one_address : (m : Machine) (base a : ℕ) (offset : ℤ) (size address n : ℕ) → held m.registers base ≡ Some a
+    → IsAddress m base offset address × (n ≡ size) → (address ≡ moved a offset) × (n ≡ size)
+one_address m base a offset size address n h l = let s : l.0.0 ≡ a = cc in (subst (λ x. address ≡ moved x offset) s l.0.2, l.1)
 
 -- ---- each form of instruction
+
+nothing : ⊥ ⊎ ⊥ → ⊥
+nothing (inl x) = x
+nothing (inr x) = x
 
 judged : (p : Place) (i : Insn) (m : Machine) → IsPlacement p → length m.record ≤ record_room → JudgedAt p i m (perform p i m)
 judged p (insns.Alu w op d x) m place room =
     read_first _ _ _ _ (taken m.registers op d) _ (λ e. let t = taken_none op m.registers d e in (d, inl (t.0, refl), t.1)) (λ a ea.
     read_first _ _ _ _ (value m.registers x) _ (λ e. let t = operand_unset x m.registers e in (t.0, inr t.1, t.2)) (λ b eb.
-    write_next _ _ _ _ d _ (λ r. elim r.1 as (λ _. ⊥) [ inl h ↦ set_one m.registers d r.0 a (taken_some op m.registers d a ea h.0) h.1 r.2 | inr h ↦ operand_set x m.registers b r.0 eb h r.2 ]) (λ h. (d, refl, h)) (λ h.
-    ((λ r. elim r.1 as (λ _. ⊥) [ inl h ↦ set_one m.registers d r.0 a (taken_some op m.registers d a ea h.0) h.1 r.2 | inr h ↦ operand_set x m.registers b r.0 eb h r.2 ]), (λ w. omega arith), (λ o. elim o.2 as (λ _. ⊥) [ inl x ↦ x | inr x ↦ x ]), (λ s. s.2)))))
+    writes_one _ _ _ _ d _ (λ r. either_set x m.registers b r.0 (λ h. set_one m.registers d r.0 a (taken_some op m.registers d a ea h.0) h.1 r.2) eb r.1 r.2)
+    (λ h. (d, refl, h)) (λ w. omega arith) (λ o. nothing o.2) (λ s. s.2)))
 judged p (insns.Negate w d) m place room =
     read_first _ _ _ _ (held m.registers d) _ (λ e. (d, refl, e)) (λ a ea.
-    write_next _ _ _ _ d _ (λ r. set_one m.registers d r.0 a ea r.1 r.2) (λ h. (d, refl, h)) (λ h.
-    ((λ r. set_one m.registers d r.0 a ea r.1 r.2), (λ w. omega arith), (λ o. elim o.2 as (λ _. ⊥) [ inl x ↦ x | inr x ↦ x ]), (λ s. s.2))))
+    writes_one _ _ _ _ d _ (λ r. set_one m.registers d r.0 a ea r.1 r.2) (λ h. (d, refl, h)) (λ w. omega arith) (λ o. nothing o.2) (λ s. s.2))
 judged p (insns.Extend e d s) m place room =
     read_first _ _ _ _ (held m.registers s) _ (λ e. (s, refl, e)) (λ a ea.
-    write_next _ _ _ _ d _ (λ r. set_one m.registers s r.0 a ea r.1 r.2) (λ h. (d, refl, h)) (λ h.
-    ((λ r. set_one m.registers s r.0 a ea r.1 r.2), (λ w. omega arith), (λ o. elim o.2 as (λ _. ⊥) [ inl x ↦ x | inr x ↦ x ]), (λ s. s.2))))
+    writes_one _ _ _ _ d _ (λ r. set_one m.registers s r.0 a ea r.1 r.2) (λ h. (d, refl, h)) (λ w. omega arith) (λ o. nothing o.2) (λ s. s.2))
 judged p (insns.Order o bits d) m place room =
     read_first _ _ _ _ (held m.registers d) _ (λ e. (d, refl, e)) (λ a ea.
-    write_next _ _ _ _ d _ (λ r. set_one m.registers d r.0 a ea r.1 r.2) (λ h. (d, refl, h)) (λ h.
-    ((λ r. set_one m.registers d r.0 a ea r.1 r.2), (λ w. omega arith), (λ o. elim o.2 as (λ _. ⊥) [ inl x ↦ x | inr x ↦ x ]), (λ s. s.2))))
-judged p (insns.Jump offset) m place room = ((λ r. r.1), (λ w. w.1), (λ o. elim o.2 as (λ _. ⊥) [ inl x ↦ x | inr x ↦ x ]), (λ s. s.2))
-judged p (insns.JumpFar distance) m place room = ((λ r. r.1), (λ w. w.1), (λ o. elim o.2 as (λ _. ⊥) [ inl x ↦ x | inr x ↦ x ]), (λ s. s.2))
+    writes_one _ _ _ _ d _ (λ r. set_one m.registers d r.0 a ea r.1 r.2) (λ h. (d, refl, h)) (λ w. omega arith) (λ o. nothing o.2) (λ s. s.2))
+judged p (insns.Jump offset) m place room = ((λ r. r.1), (λ w. w.1), (λ o. nothing o.2), (λ s. s.2))
+judged p (insns.JumpFar distance) m place room = ((λ r. r.1), (λ w. w.1), (λ o. nothing o.2), (λ s. s.2))
 judged p (insns.Branch w relation d x offset) m place room =
     read_first _ _ _ _ (held m.registers d) _ (λ e. (d, inl refl, e)) (λ a ea.
     read_first _ _ _ _ (value m.registers x) _ (λ e. let t = operand_unset x m.registers e in (t.0, inr t.1, t.2)) (λ b eb.
-    ((λ r. elim r.1 as (λ _. ⊥) [ inl h ↦ set_one m.registers d r.0 a ea h r.2 | inr h ↦ operand_set x m.registers b r.0 eb h r.2 ]), (λ w. w.1), (λ o. elim o.2 as (λ _. ⊥) [ inl x ↦ x | inr x ↦ x ]), (λ s. s.2))))
+    ((λ r. either_set x m.registers b r.0 (λ h. set_one m.registers d r.0 a ea h r.2) eb r.1 r.2), (λ w. w.1), (λ o. nothing o.2), (λ s. s.2))))
 judged p insns.Exit m place room =
     read_first _ _ _ _ (held m.registers 0) _ (λ e. (0, refl, e)) (λ a ea.
-    ((λ r. set_one m.registers 0 r.0 a ea r.1 r.2), (λ w. w.1), (λ o. elim o.2 as (λ _. ⊥) [ inl x ↦ x | inr x ↦ x ]), (λ s. s.2)))
+    ((λ r. set_one m.registers 0 r.0 a ea r.1 r.2), (λ w. w.1), (λ o. nothing o.2), (λ s. s.2)))
 judged p (insns.Load size d base offset) m place room =
     read_first _ _ _ _ (held m.registers base) _ (λ e. (base, refl, e)) (λ a ea.
     write_next _ _ _ _ d _ (λ r. set_one m.registers base r.0 a ea r.1 r.2) (λ h. (d, refl, h)) (λ h.
-    load_at _ _ _ p (insns.Load size d base offset) m base d offset a (size_bytes size) (access p (length m.record) (moved a offset) (size_bytes size)) _ ea (λ address n l. one_address m.registers base offset a l.0.0 address n (size_bytes size) ea l.0.1 l.0.2 l.1) ((a, ea, refl), refl) (λ address n l. l)
-    (λ r. set_one m.registers base r.0 a ea r.1 r.2) (λ w. omega arith) (λ s. s.2) (lies p (length m.record) (moved a offset) (size_bytes size))))
+    load_at p (insns.Load size d base offset) m (moved a offset) (size_bytes size) (λ r. set_one m.registers base r.0 a ea r.1 r.2) (λ w. omega arith)
+    (λ t n h. elim h [ inl l ↦ one_address m base a offset (size_bytes size) t n ea l | inr l ↦ absurd l ])
+    (access p (length m.record) (moved a offset) (size_bytes size)) _ ((a, ea, refl), refl) (λ s. s.2) (lies p _ _ _)))
 judged p (insns.LoadSigned bits d base offset) m place room =
     read_first _ _ _ _ (held m.registers base) _ (λ e. (base, refl, e)) (λ a ea.
     write_next _ _ _ _ d _ (λ r. set_one m.registers base r.0 a ea r.1 r.2) (λ h. (d, refl, h)) (λ h.
-    load_at _ _ _ p (insns.LoadSigned bits d base offset) m base d offset a (signed_bytes bits) (access p (length m.record) (moved a offset) (signed_bytes bits)) _ ea (λ address n l. one_address m.registers base offset a l.0.0 address n (signed_bytes bits) ea l.0.1 l.0.2 l.1) ((a, ea, refl), refl) (λ address n l. l)
-    (λ r. set_one m.registers base r.0 a ea r.1 r.2) (λ w. omega arith) (λ s. s.2) (lies p (length m.record) (moved a offset) (signed_bytes bits))))
+    load_at p (insns.LoadSigned bits d base offset) m (moved a offset) (signed_bytes bits) (λ r. set_one m.registers base r.0 a ea r.1 r.2) (λ w. omega arith)
+    (λ t n h. elim h [ inl l ↦ one_address m base a offset (signed_bytes bits) t n ea l | inr l ↦ absurd l ])
+    (access p (length m.record) (moved a offset) (signed_bytes bits)) _ ((a, ea, refl), refl) (λ s. s.2) (lies p _ _ _)))
 judged p (insns.Store size base offset x) m place room =
     read_first _ _ _ _ (held m.registers base) _ (λ e. (base, inl refl, e)) (λ a ea.
     read_first _ _ _ _ (value m.registers x) _ (λ e. let t = operand_unset x m.registers e in (t.0, inr t.1, t.2)) (λ v eb.
-    store_at _ _ p (insns.Store size base offset x) m a offset (size_bytes size) v (access p (length m.record) (moved a offset) (size_bytes size)) place room (size_some size) (λ address n l. l) (λ address n l. one_address m.registers base offset a l.0.0 address n (size_bytes size) ea l.0.1 l.0.2 l.1) ((a, ea, refl), refl)
-    (λ r. elim r.1 as (λ _. ⊥) [ inl h ↦ set_one m.registers base r.0 a ea h r.2 | inr h ↦ operand_set x m.registers v r.0 eb h r.2 ]) (λ w. w.1) (lies p (length m.record) (moved a offset) (size_bytes size))))
+    store_at p (insns.Store size base offset x) m (moved a offset) (size_bytes size)
+    (λ r. either_set x m.registers v r.0 (λ h. set_one m.registers base r.0 a ea h r.2) eb r.1 r.2) (λ w. w.1)
+    (λ t n h. elim h [ inl l ↦ absurd l | inr l ↦ one_address m base a offset (size_bytes size) t n ea l ])
+    (access p (length m.record) (moved a offset) (size_bytes size)) v place room (size_some size) ((a, ea, refl), refl) (lies p _ _ _)))
 judged p (insns.Wide d v) m place room =
-    write_next _ _ _ _ d _ (λ r. r.1) (λ h. (d, refl, h)) (λ h. ((λ r. r.1), (λ w. omega arith), (λ o. elim o.2 as (λ _. ⊥) [ inl x ↦ x | inr x ↦ x ]), (λ s. s.2)))
+    writes_one _ _ _ _ d _ (λ r. r.1) (λ h. (d, refl, h)) (λ w. omega arith) (λ o. nothing o.2) (λ s. s.2)
 
 -- ---- the law
 

@@ -1,5 +1,5 @@
 -- What a store leaves in the frame.
-use Rattle.std.proofs.Common.{◌≡◌, ℕ, zero, suc, ◌+◌, ◌-◌, ◌/◌, ◌%◌, ◌≤◌, arith, rules, refl, ap, ◌∙◌, List, [], ◌∷◌, ◌++◌, Option, Some, take, drop}
+use Rattle.std.proofs.Common.{◌≡◌, ℕ, zero, suc, ◌+◌, ◌-◌, ◌/◌, ◌%◌, ◌≤◌, arith, rules, refl, ap, ◌∙◌, List, ◌∷◌, ◌++◌, Option, Some, take}
 use Rattle.std.specs.Prelude.{Ok}
 use Rattle.std.specs.Int.{w64, to_le_bytes}
 use Rattle.std.proofs.lemmas.List.{drop-drop}
@@ -31,8 +31,11 @@ part_is a k xs ys = let e : a + k - a ≡ k = omega arith in rw e (ap (λ zs. ta
 pub lies_in_frame : (found wanted : Option Location) (l : Location) (at : ℕ) → found ≡ wanted → found ≡ Some l → l ≡ Frame at → wanted ≡ Some (Frame at)
 lies_in_frame found wanted l at a b d = cc
 
-pub stores : (p : Place) (m : Machine) (len address size v at : ℕ) (bytes ys : List ℕ) → size ≤ 8 → access p len address size ≡ Some (Frame at) → bytes ≡ to_le_bytes w64 v → ys ≡ take size bytes
-    → StepAnswers (reading OutsideAccess (access p len address size) (λ l. stored m l size v)) m (Ok steps.Continues) (record { unit = m.unit + 1; registers = m.registers; frame = put_mid at (at + size - at) m.frame ys; «record» = m.record })
+pub stores : (p : Place) (m : Machine) (len address size v at : ℕ) (bytes ys : List ℕ) → size ≤ 8
+    → access p len address size ≡ Some (Frame at) → bytes ≡ to_le_bytes w64 v → ys ≡ take size bytes
+    → StepAnswers (reading OutsideAccess (access p len address size) (λ l. stored m l size v)) m (Ok steps.Continues)
+    (record { unit = m.unit + 1; registers = m.registers; frame = put_mid at (at + size - at) m.frame ys; «record» = m.record })
 stores p m len address size v at bytes ys small is written part =
     let same : ys ≡ le_bytes size v = part ∙ ap (take size) (written ∙ eight_bytes v) ∙ take_le_bytes size 8 v small in
-    rw is (refl, ap (λ zs. record { unit = m.unit + 1; registers = m.registers; frame = zs; «record» = m.record }) (part_is at size m.frame ys ∙ ap (splice m.frame at (at + size)) same))
+    let put = part_is at size m.frame ys ∙ ap (splice m.frame at (at + size)) same in
+    rw is (refl, ap (λ zs. record { unit = m.unit + 1; registers = m.registers; frame = zs; «record» = m.record }) put)

@@ -19,18 +19,19 @@ use Rattle.bq_word.proofs.Low.{operation_low, sub_is}
 use Rattle.bq_word.proofs.Bounds.{low_bound, extended_bound, swapped_bound}
 use Rattle.bq_range.specs.Interval.{Interval, IsIn, between, single, is_single, whole, cut}
 use Rattle.bq_range.specs.Table.{operated, negatives, negated, extensions, sign_extended, low_range, swapped_range}
-use Rattle.bq_range.specs.Narrow.{branched, by_opposite, opposite}
-use Rattle.bq_range.proofs.Held.{IsIn-whole, pick, pick_le, pick_lt, pick_eq, div_mono}
+use Rattle.bq_range.specs.Narrow.{branched}
+use Rattle.bq_range.proofs.Held.{IsIn-whole, pick, pick_le, pick_lt, pick_eq, shr_mono}
 use Rattle.bq_range.proofs.Rows.{row_holds}
-use Rattle.bq_range.proofs.Both.{edge_covers}
+use Rattle.bq_range.proofs.Edges.{AreRanges}
+use Rattle.bq_range.proofs.Both.{edge, HoldBoth, edge_covers}
 
 -- ---- operands cut to their low bits
 
 pub cut_covers : (w : ℕ) (a : Interval) (x : ℕ) → IsIn x a → IsIn (low w x) (cut w a)
 cut_covers w a x h =
     pick_eq (a.lo / 2 ^ w) (a.hi / 2 ^ w) _ _ _
-    (λ e. let l : a.lo / 2 ^ w ≤ x / 2 ^ w = div_mono a.lo x (2 ^ w) (2 ^ w) h.low (omega arith) (pow_pos w) in
-    let k : x / 2 ^ w ≤ a.hi / 2 ^ w = div_mono x a.hi (2 ^ w) (2 ^ w) h.high (omega arith) (pow_pos w) in
+    (λ e. let l : a.lo / 2 ^ w ≤ x / 2 ^ w = shr_mono a.lo x w h.low in
+    let k : x / 2 ^ w ≤ a.hi / 2 ^ w = shr_mono x a.hi w h.high in
     let p : 2 ^ w * (a.lo / 2 ^ w) ≡ 2 ^ w * (x / 2 ^ w) = ap (λ (n : ℕ). 2 ^ w * n) (omega arith) in
     let q : 2 ^ w * (a.hi / 2 ^ w) ≡ 2 ^ w * (x / 2 ^ w) = ap (λ (n : ℕ). 2 ^ w * n) (omega arith) in
     record { low = omega (arith, div-add-mod a.lo (2 ^ w), div-add-mod x (2 ^ w)); high = omega (arith, div-add-mod a.hi (2 ^ w), div-add-mod x (2 ^ w)) })
@@ -56,7 +57,7 @@ operated_covers width op a b x y h k =
     let ey : y ≡ b.lo = omega arith in
     rw (ex, ey) (record { low = omega arith; high = omega arith }))
     (λ _. rw (← operation_low width op x y)
-    (row_holds width op (cut (bits_of width) a) (cut (bits_of width) b) (low (bits_of width) x) (low (bits_of width) y) (cut_bound (bits_of width) a) (cut_bound (bits_of width) b) (cut_covers (bits_of width) a x h) (cut_covers (bits_of width) b y k)))
+    (row_holds width (cut w a) (cut w b) (low w x) (low w y) (cut_bound w a) (cut_bound w b) (cut_covers w a x h) (cut_covers w b y k) op))
 
 -- ---- one operand
 
@@ -114,7 +115,9 @@ swapped_range_covers bits a x h =
 pub branched_covers : (width : Width) (relation : Relation) (taken : Bool) (a b : Interval) (x y : ℕ) → IsIn x a → IsIn y b
     → relates (bits_of width) relation x y ≡ taken → IsSomeAnd (branched (bits_of width) relation taken a b) (λ p. IsIn x p.0 × IsIn y p.1)
 branched_covers width relation taken a b x y h k s =
-    cond_both (ltb a.hi (2 ^ bits_of width) && ltb b.hi (2 ^ bits_of width)) (by_opposite (bits_of width) relation (opposite relation) taken a b) (Some (a, b)) (λ o. IsSomeAnd o (λ p. IsIn x p.0 × IsIn y p.1))
-    (λ e. let (i, j) = and_parts (ltb a.hi (2 ^ bits_of width)) (ltb b.hi (2 ^ bits_of width)) e in
-    edge_covers width relation taken a b (record { a_ordered = omega arith; b_ordered = omega arith; a_fits = ltb-true a.hi (2 ^ bits_of width) i; b_fits = ltb-true b.hi (2 ^ bits_of width) j }) x y h k s)
+    let w = bits_of width in
+    cond_both (ltb a.hi (2 ^ w) && ltb b.hi (2 ^ w)) (edge w relation taken a b) (Some (a, b)) (HoldBoth x y)
+    (λ e. let (i, j) = and_parts (ltb a.hi (2 ^ w)) (ltb b.hi (2 ^ w)) e in
+    let r : AreRanges w a b = record { a_ordered = omega arith; b_ordered = omega arith; a_fits = ltb-true _ _ i; b_fits = ltb-true _ _ j } in
+    edge_covers width a b r relation taken x y h k s)
     (λ _. (h, k))

@@ -41,10 +41,6 @@ twice : (width : Width) → sign (bits_of width) + sign (bits_of width) ≡ 2 ^ 
 twice W32 = refl
 twice W64 = refl
 
--- a word in its own order, and in the order of signed numbers
-own : (x : ℕ) → InOrder 0 x
-own x = inl refl
-
 with_sign : (width : Width) (x : ℕ) → x < 2 ^ bits_of width → InOrder (sign (bits_of width)) x
 with_sign width x k = inr (omega (arith, twice width))
 
@@ -71,12 +67,14 @@ lt_signed width x y k l =
     let whole : h + h ≡ 2 ^ bits_of width = twice width in
     elim (cases_lt x h) [
       | inl m ↦ elim (cases_lt y h) [
-        | inl n ↦ rw (signed_low w x k m, signed_low w y l n, place_low h x m, place_low h y n) (ltb_like x y (x + h) (y + h) (λ u. omega arith) (λ u. omega arith))
+        | inl n ↦ rw (signed_low w x k m, signed_low w y l n, place_low h x m, place_low h y n)
+            (ltb_like x y (x + h) (y + h) (λ u. omega arith) (λ u. omega arith))
         | inr n ↦ rw (signed_low w x k m, signed_high w y l n, place_low h x m, place_high h y n) (sym (le-ltb (x + h) (y - h) (omega arith)))
       ]
       | inr m ↦ elim (cases_lt y h) [
         | inl n ↦ rw (signed_high w x k m, signed_low w y l n, place_high h x m, place_low h y n) (sym (lt-ltb (x - h) (y + h) (omega arith)))
-        | inr n ↦ rw (signed_high w x k m, signed_high w y l n, place_high h x m, place_high h y n) (ltb_like (2 ^ bits_of width - 1 - y) (2 ^ bits_of width - 1 - x) (x - h) (y - h) (λ u. omega arith) (λ u. omega arith))
+        | inr n ↦ rw (signed_high w x k m, signed_high w y l n, place_high h x m, place_high h y n)
+            (ltb_like (2 ^ bits_of width - 1 - y) (2 ^ bits_of width - 1 - x) (x - h) (y - h) (λ u. omega arith) (λ u. omega arith))
       ]
     ]
 
@@ -89,49 +87,11 @@ some_like F G a b o f g =
     (λ x (k, u). let (y, l, v) = u in (k, (y, l, f x y k l v)))
     (λ x (k, u). let (y, l, v) = u in (k, (y, l, g x y k l v)))
 
--- two ranges of words of an order, and a test of their words
-pub record InOrders (h : ℕ) (a b : Interval) : Type 0 where
-  pub a_ordered : a.lo ≤ a.hi
-  pub b_ordered : b.lo ≤ b.hi
-  pub a_order : InOrder h a.hi
-  pub b_order : InOrder h b.hi
-
-abbrev Agree : (ℕ → ℕ → Bool) → (ℕ → ℕ → Bool) → Interval → Interval → Type 0
-Agree G T a b = (x y : ℕ) → IsIn x a → IsIn y b → G x y ≡ T x y
-
-comes_before : (h : ℕ) (G : ℕ → ℕ → Bool) (a b : Interval) → InOrders h a b → Agree G (λ x y. ltb (place h x) (place h y)) a b
-    → OnLeast (IsLeft (λ x y. G x y ≡ true) a b) (ahead h 0 (last h b) a)
-comes_before h G a b o e =
-    some_like (λ x y. place h x < place h y + 0) (λ x y. G x y ≡ true) a b (ahead h 0 (last h b) a)
-    (λ x y k l v. e x y k l ∙ lt-ltb (place h x) (place h y) (omega arith))
-    (λ x y k l v. let t : place h x < place h y = ltb-true (place h x) (place h y) (sym (e x y k l) ∙ v) in omega arith)
-    (before_some h 0 a b o.a_ordered o.b_ordered (omega arith) o.a_order o.b_order)
-
-comes_no_later : (h : ℕ) (G : ℕ → ℕ → Bool) (a b : Interval) → InOrders h a b → Agree G (λ x y. not (ltb (place h y) (place h x))) a b
-    → OnLeast (IsLeft (λ x y. G x y ≡ true) a b) (ahead h 1 (last h b) a)
-comes_no_later h G a b o e =
-    some_like (λ x y. place h x < place h y + 1) (λ x y. G x y ≡ true) a b (ahead h 1 (last h b) a)
-    (λ x y k l v. e x y k l ∙ ap not (le-ltb (place h y) (place h x) (omega arith)))
-    (λ x y k l v. let t : place h x ≤ place h y = ltb-false (place h y) (place h x) (not-true (ltb (place h y) (place h x)) (sym (e x y k l) ∙ v)) in omega arith)
-    (before_some h 1 a b o.a_ordered o.b_ordered (omega arith) o.a_order o.b_order)
-
-comes_after : (h : ℕ) (G : ℕ → ℕ → Bool) (a b : Interval) → InOrders h a b → Agree G (λ x y. ltb (place h y) (place h x)) a b
-    → OnLeast (IsLeft (λ x y. G x y ≡ true) a b) (behind h 1 (first h b) a)
-comes_after h G a b o e =
-    some_like (λ x y. place h y + 1 ≤ place h x) (λ x y. G x y ≡ true) a b (behind h 1 (first h b) a)
-    (λ x y k l v. e x y k l ∙ lt-ltb (place h y) (place h x) (omega arith))
-    (λ x y k l v. let t : place h y < place h x = ltb-true (place h y) (place h x) (sym (e x y k l) ∙ v) in omega arith)
-    (after_some h 1 a b o.a_ordered o.b_ordered (omega arith) o.a_order o.b_order)
-
-comes_no_earlier : (h : ℕ) (G : ℕ → ℕ → Bool) (a b : Interval) → InOrders h a b → Agree G (λ x y. not (ltb (place h x) (place h y))) a b
-    → OnLeast (IsLeft (λ x y. G x y ≡ true) a b) (behind h 0 (first h b) a)
-comes_no_earlier h G a b o e =
-    some_like (λ x y. place h y + 0 ≤ place h x) (λ x y. G x y ≡ true) a b (behind h 0 (first h b) a)
-    (λ x y k l v. e x y k l ∙ ap not (le-ltb (place h x) (place h y) (omega arith)))
-    (λ x y k l v. let t : place h y ≤ place h x = ltb-false (place h x) (place h y) (not-true (ltb (place h x) (place h y)) (sym (e x y k l) ∙ v)) in omega arith)
-    (after_some h 0 a b o.a_ordered o.b_ordered (omega arith) o.a_order o.b_order)
-
 -- ---- each relation
+
+-- the words of a at which a test with some word of b says yes
+abbrev pub Passes : (ℕ → ℕ → Bool) → Interval → Interval → ℕ → Type 0
+Passes T a b = IsLeft (λ x y. T x y ≡ true) a b
 
 -- two ranges of words of a width
 pub record AreRanges (w : ℕ) (a b : Interval) : Type 0 where
@@ -143,11 +103,53 @@ pub record AreRanges (w : ℕ) (a b : Interval) : Type 0 where
 pub turned : (w : ℕ) (a b : Interval) → AreRanges w a b → AreRanges w b a
 turned w a b r = record { a_ordered = r.b_ordered; b_ordered = r.a_ordered; a_fits = r.b_fits; b_fits = r.a_fits }
 
-in_own : (w : ℕ) (a b : Interval) → AreRanges w a b → InOrders 0 a b
-in_own w a b r = record { a_ordered = r.a_ordered; b_ordered = r.b_ordered; a_order = own a.hi; b_order = own b.hi }
+-- L tests which of two words of w bits comes first in the order that begins at h
+record IsOrder (w h : ℕ) (L : ℕ → ℕ → Bool) : Type 0 where
+  words : (x : ℕ) → x < 2 ^ w → InOrder h x
+  test : (x y : ℕ) → x < 2 ^ w → y < 2 ^ w → L x y ≡ ltb (place h x) (place h y)
 
-in_signed : (width : Width) (a b : Interval) → AreRanges (bits_of width) a b → InOrders (sign (bits_of width)) a b
-in_signed width a b r = record { a_ordered = r.a_ordered; b_ordered = r.b_ordered; a_order = with_sign width a.hi r.a_fits; b_order = with_sign width b.hi r.b_fits }
+own_order : (w : ℕ) → IsOrder w 0 (λ x y. ltb (low w x) (low w y))
+own_order w = record { words = λ x k. inl refl; test = lt_own w }
+
+signed_order : (width : Width) → IsOrder (bits_of width) (sign (bits_of width)) (λ x y. lt_z (signed (bits_of width) x) (signed (bits_of width) y))
+signed_order width = record { words = with_sign width; test = lt_signed width }
+
+module _ (w h : ℕ) (L : ℕ → ℕ → Bool) (o : IsOrder w h L) (a b : Interval) (r : AreRanges w a b) where
+  open r use {a_ordered, b_ordered, a_fits, b_fits}
+
+  test : (x y : ℕ) → IsIn x a → IsIn y b → L x y ≡ ltb (place h x) (place h y)
+  test x y k l = o.test x y (omega arith) (omega arith)
+
+  test_back : (x y : ℕ) → IsIn x a → IsIn y b → L y x ≡ ltb (place h y) (place h x)
+  test_back x y k l = o.test y x (omega arith) (omega arith)
+
+  comes_before : OnLeast (Passes L a b) (ahead h 0 (last h b) a)
+  comes_before =
+      some_like (λ x y. place h x < place h y + 0) (λ x y. L x y ≡ true) a b (ahead h 0 (last h b) a)
+      (λ x y k l v. test x y k l ∙ lt-ltb (place h x) (place h y) (omega arith))
+      (λ x y k l v. let t : place h x < place h y = ltb-true _ _ (sym (test x y k l) ∙ v) in omega arith)
+      (before_some h 0 a b a_ordered b_ordered (omega arith) (o.words a.hi a_fits) (o.words b.hi b_fits))
+
+  comes_no_later : OnLeast (Passes (λ x y. not (L y x)) a b) (ahead h 1 (last h b) a)
+  comes_no_later =
+      some_like (λ x y. place h x < place h y + 1) (λ x y. not (L y x) ≡ true) a b (ahead h 1 (last h b) a)
+      (λ x y k l v. ap not (test_back x y k l ∙ le-ltb (place h y) (place h x) (omega arith)))
+      (λ x y k l v. let t : place h x ≤ place h y = ltb-false _ _ (sym (test_back x y k l) ∙ not-true (L y x) v) in omega arith)
+      (before_some h 1 a b a_ordered b_ordered (omega arith) (o.words a.hi a_fits) (o.words b.hi b_fits))
+
+  comes_after : OnLeast (Passes (λ x y. L y x) a b) (behind h 1 (first h b) a)
+  comes_after =
+      some_like (λ x y. place h y + 1 ≤ place h x) (λ x y. L y x ≡ true) a b (behind h 1 (first h b) a)
+      (λ x y k l v. test_back x y k l ∙ lt-ltb (place h y) (place h x) (omega arith))
+      (λ x y k l v. let t : place h y < place h x = ltb-true _ _ (sym (test_back x y k l) ∙ v) in omega arith)
+      (after_some h 1 a b a_ordered b_ordered (omega arith) (o.words a.hi a_fits) (o.words b.hi b_fits))
+
+  comes_no_earlier : OnLeast (Passes (λ x y. not (L x y)) a b) (behind h 0 (first h b) a)
+  comes_no_earlier =
+      some_like (λ x y. place h y + 0 ≤ place h x) (λ x y. not (L x y) ≡ true) a b (behind h 0 (first h b) a)
+      (λ x y k l v. ap not (test x y k l ∙ le-ltb (place h x) (place h y) (omega arith)))
+      (λ x y k l v. let t : place h y ≤ place h x = ltb-false _ _ (sym (test x y k l) ∙ not-true (L x y) v) in omega arith)
+      (after_some h 0 a b a_ordered b_ordered (omega arith) (o.words a.hi a_fits) (o.words b.hi b_fits))
 
 -- the same number
 equal_words : (w x y : ℕ) → x < 2 ^ w → y < 2 ^ w → eqb (low w x) (low w y) ≡ eqb x y
@@ -156,9 +158,9 @@ equal_words w x y k l =
     let ey : y % 2 ^ w ≡ y = mod-eq_of_lt l in
     rw (ex, ey) refl
 
-equals : (w : ℕ) (a b : Interval) → AreRanges w a b → OnLeast (IsLeft (λ x y. relates w Equal x y ≡ true) a b) (meet a b)
+equals : (w : ℕ) (a b : Interval) → AreRanges w a b → OnLeast (Passes (relates w Equal) a b) (meet a b)
 equals w a b r =
-    least_like (λ x. IsIn x a × IsIn x b) (IsLeft (λ x y. relates w Equal x y ≡ true) a b) (meet a b)
+    least_like (λ x. IsIn x a × IsIn x b) (Passes (relates w Equal) a b) (meet a b)
     (λ x (k, l). (k, (x, l, eq-eqb (low w x) (low w x) refl)))
     (λ x (k, u). let (y, l, v) = u in
     let fx : x < 2 ^ w = omega arith in
@@ -192,47 +194,44 @@ differs w a b r =
         | inr n ↦ let e : x ≡ y = omega arith in absurd (v e)
       ]
     ])
-    (hull_least (λ x. IsIn x a × (x < b.lo)) (λ x. IsIn x a × (b.lo + 1 ≤ x)) _ _ (below_piece b.lo a r.a_ordered) (from_piece (b.lo + 1) a r.a_ordered)))
+    (hull_least (λ x. IsIn x a × (x < b.lo)) (λ x. IsIn x a × (b.lo + 1 ≤ x)) _ _
+    (below_piece b.lo a r.a_ordered) (from_piece (b.lo + 1) a r.a_ordered)))
     (λ t. let s : b.lo ≡ b.hi → ⊥ = eqb-false b.lo b.hi t in record {
       lo = (record { low = omega arith; high = r.a_ordered }, other b a.lo r.b_ordered s);
       hi = (record { low = r.a_ordered; high = omega arith }, other b a.hi r.b_ordered s);
       each = λ x (k, u). k;
     })
 
-not_equals : (w : ℕ) (a b : Interval) → AreRanges w a b → OnLeast (IsLeft (λ x y. relates w NotEqual x y ≡ true) a b) (narrowed_to w NotEqual a b)
+not_equals : (w : ℕ) (a b : Interval) → AreRanges w a b → OnLeast (Passes (relates w NotEqual) a b) (narrowed_to w NotEqual a b)
 not_equals w a b r =
     some_like (λ x y. (x ≡ y → ⊥)) (λ x y. relates w NotEqual x y ≡ true) a b (narrowed_to w NotEqual a b)
-    (λ x y k l v. let fx : x < 2 ^ w = omega arith in let fy : y < 2 ^ w = omega arith in
-    rw (equal_words w x y fx fy, ne_eqb x y v) refl)
-    (λ x y k l v. let fx : x < 2 ^ w = omega arith in let fy : y < 2 ^ w = omega arith in
-    eqb-false x y (sym (equal_words w x y fx fy) ∙ not-true (eqb (low w x) (low w y)) v))
+    (λ x y k l v. rw (equal_words w x y (omega arith) (omega arith), ne_eqb x y v) refl)
+    (λ x y k l v. eqb-false x y (sym (equal_words w x y (omega arith) (omega arith)) ∙ not-true (eqb (low w x) (low w y)) v))
     (differs w a b r)
 
-own_test : (w : ℕ) (a b : Interval) (x y : ℕ) → AreRanges w a b → IsIn x a → IsIn y b → ltb (low w x) (low w y) ≡ ltb (place 0 x) (place 0 y)
-own_test w a b x y r k l = lt_own w x y (omega arith) (omega arith)
+-- tests that say the same
+same_test : (F G : ℕ → ℕ → Bool) (a b : Interval) (o : Option Interval) → ((x y : ℕ) → G x y ≡ F x y) → OnLeast (Passes F a b) o → OnLeast (Passes G a b) o
+same_test F G a b o e = some_like (λ x y. F x y ≡ true) (λ x y. G x y ≡ true) a b o (λ x y k l v. e x y ∙ v) (λ x y k l v. sym (e x y) ∙ v)
 
-signed_test : (width : Width) (a b : Interval) (x y : ℕ) → AreRanges (bits_of width) a b → IsIn x a → IsIn y b
-    → lt_z (signed (bits_of width) x) (signed (bits_of width) y) ≡ ltb (place (sign (bits_of width)) x) (place (sign (bits_of width)) y)
-signed_test width a b x y r k l = lt_signed width x y (omega arith) (omega arith)
-
-pub relation_least : (width : Width) (relation : Relation) (a b : Interval) → (relation ≡ CommonBit → ⊥) → AreRanges (bits_of width) a b
-    → OnLeast (IsLeft (λ x y. relates (bits_of width) relation x y ≡ true) a b) (narrowed_to (bits_of width) relation a b)
-relation_least width Equal a b n r = equals (bits_of width) a b r
-relation_least width NotEqual a b n r = not_equals (bits_of width) a b r
-relation_least width Less a b n r = comes_before 0 (relates (bits_of width) Less) a b (in_own (bits_of width) a b r) (λ x y k l. own_test (bits_of width) a b x y r k l)
-relation_least width LessOrEqual a b n r =
-    comes_no_later 0 (relates (bits_of width) LessOrEqual) a b (in_own (bits_of width) a b r)
-    (λ x y k l. leb_not (low (bits_of width) x) (low (bits_of width) y) ∙ ap not (own_test (bits_of width) b a y x (turned (bits_of width) a b r) l k))
-relation_least width Greater a b n r = comes_after 0 (relates (bits_of width) Greater) a b (in_own (bits_of width) a b r) (λ x y k l. own_test (bits_of width) b a y x (turned (bits_of width) a b r) l k)
-relation_least width GreaterOrEqual a b n r =
-    comes_no_earlier 0 (relates (bits_of width) GreaterOrEqual) a b (in_own (bits_of width) a b r)
-    (λ x y k l. leb_not (low (bits_of width) y) (low (bits_of width) x) ∙ ap not (own_test (bits_of width) a b x y r k l))
-relation_least width SignedLess a b n r = comes_before (sign (bits_of width)) (relates (bits_of width) SignedLess) a b (in_signed width a b r) (λ x y k l. signed_test width a b x y r k l)
-relation_least width SignedLessOrEqual a b n r =
-    comes_no_later (sign (bits_of width)) (relates (bits_of width) SignedLessOrEqual) a b (in_signed width a b r)
-    (λ x y k l. le_z_not (signed (bits_of width) x) (signed (bits_of width) y) ∙ ap not (signed_test width b a y x (turned (bits_of width) a b r) l k))
-relation_least width SignedGreater a b n r = comes_after (sign (bits_of width)) (relates (bits_of width) SignedGreater) a b (in_signed width a b r) (λ x y k l. signed_test width b a y x (turned (bits_of width) a b r) l k)
-relation_least width SignedGreaterOrEqual a b n r =
-    comes_no_earlier (sign (bits_of width)) (relates (bits_of width) SignedGreaterOrEqual) a b (in_signed width a b r)
-    (λ x y k l. le_z_not (signed (bits_of width) y) (signed (bits_of width) x) ∙ ap not (signed_test width a b x y r k l))
-relation_least width CommonBit a b n r = absurd (n refl)
+module _ (width : Width) (a b : Interval) (r : AreRanges (bits_of width) a b) where
+  pub relation_least : (relation : Relation) → (relation ≡ CommonBit → ⊥)
+      → OnLeast (Passes (relates (bits_of width) relation) a b) (narrowed_to (bits_of width) relation a b)
+  relation_least Equal n = equals (bits_of width) a b r
+  relation_least NotEqual n = not_equals (bits_of width) a b r
+  relation_least Less n = comes_before (bits_of width) 0 _ (own_order (bits_of width)) a b r
+  relation_least LessOrEqual n =
+      same_test _ (relates (bits_of width) LessOrEqual) a b _ (λ x y. leb_not (low (bits_of width) x) (low (bits_of width) y))
+      (comes_no_later (bits_of width) 0 _ (own_order (bits_of width)) a b r)
+  relation_least Greater n = comes_after (bits_of width) 0 _ (own_order (bits_of width)) a b r
+  relation_least GreaterOrEqual n =
+      same_test _ (relates (bits_of width) GreaterOrEqual) a b _ (λ x y. leb_not (low (bits_of width) y) (low (bits_of width) x))
+      (comes_no_earlier (bits_of width) 0 _ (own_order (bits_of width)) a b r)
+  relation_least SignedLess n = comes_before (bits_of width) (sign (bits_of width)) _ (signed_order width) a b r
+  relation_least SignedLessOrEqual n =
+      same_test _ (relates (bits_of width) SignedLessOrEqual) a b _ (λ x y. le_z_not (signed (bits_of width) x) (signed (bits_of width) y))
+      (comes_no_later (bits_of width) (sign (bits_of width)) _ (signed_order width) a b r)
+  relation_least SignedGreater n = comes_after (bits_of width) (sign (bits_of width)) _ (signed_order width) a b r
+  relation_least SignedGreaterOrEqual n =
+      same_test _ (relates (bits_of width) SignedGreaterOrEqual) a b _ (λ x y. le_z_not (signed (bits_of width) y) (signed (bits_of width) x))
+      (comes_no_earlier (bits_of width) (sign (bits_of width)) _ (signed_order width) a b r)
+  relation_least CommonBit n = absurd (n refl)

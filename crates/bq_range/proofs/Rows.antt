@@ -1,5 +1,5 @@
 -- Each row holds what its operation leaves of the numbers that its operands hold.
-use Rattle.std.proofs.Common.{◌≡◌, ℕ, ◌+◌, ◌-◌, ◌*◌, ◌/◌, ◌%◌, ◌^◌, ◌<◌, ◌≤◌, true, cond, eqb, ltb, leb, arith, ap, subst, inl, inr, ◌⊎◌, refl, ◌||◌}
+use Rattle.std.proofs.Common.{◌≡◌, ℕ, ◌+◌, ◌-◌, ◌*◌, ◌/◌, ◌%◌, ◌^◌, ◌<◌, ◌≤◌, Bool, true, cond, eqb, ltb, leb, arith, subst, inl, inr, ◌⊎◌, refl, ◌||◌}
 use Rattle.std.specs.Prelude.{bit_or, bit_xor, max, min}
 use Rattle.std.proofs.lemmas.Bool.{lt-ltb, le-ltb, or_cases, ltb-true, leb-true}
 use Rattle.std.proofs.lemmas.Nat.{mul-le, pow_pos, or_lt, xor_lt, and_le_l, and_le_r, le_or_l, le_or_r, shr_le, mod_below}
@@ -10,26 +10,10 @@ use Rattle.bq_word.proofs.Bounds.{operation_bound}
 use Rattle.bq_word.specs.declared.Width.{Width}
 use Rattle.bq_word.specs.declared.AluOp.{AluOp}
 use Rattle.bq_word.specs.declared.AluOp.TheVariants.{Add, Sub, Mul, Div, Or, And, ShiftLeft, ShiftRight, Mod, Xor, Mov, ArithmeticShiftRight}
-use Rattle.bq_range.specs.Interval.{Interval, IsIn, between, single, top}
-use Rattle.bq_range.specs.Table.{row, sums, differences, products, quotients, remainders, ones, disjunctions, shifted_left, left_shifts, right_shifts, arithmetic_right_shifts}
-use Rattle.bq_range.proofs.Held.{words, IsIn-whole, pick, pick_le, pick_lt, pick_eq, held_both, div_mono}
+use Rattle.bq_range.specs.Interval.{Interval, IsIn, between, single, top, whole}
+use Rattle.bq_range.specs.Table.{row, sums, differences, products, quotients, remainders, ones, disjunctions, exclusive_disjunctions, shifted_left, left_shifts, right_shifts, arithmetic_right_shifts}
+use Rattle.bq_range.proofs.Held.{words, IsIn-whole, pick, pick_le, pick_lt, pick_eq, held_both, div_mono, shr_mono}
 use Rattle.bq_range.proofs.Ones.{ones_above, ones_power}
-
-sums_hold : (w : ℕ) (a b : Interval) (x y : ℕ) → a.hi < 2 ^ w → b.hi < 2 ^ w → IsIn x a → IsIn y b → IsIn ((x + y) % 2 ^ w) (sums w a b)
-sums_hold w a b x y p q h k =
-    pick_le (a.hi + b.hi) (top w) _ _ _
-    (λ s. let e : (x + y) % 2 ^ w ≡ x + y = mod-eq_of_lt (omega arith) in record { low = omega arith; high = omega arith })
-    (λ s. pick_lt (top w) (a.lo + b.lo) _ _ _
-    (λ t. let e : (x + y) % 2 ^ w ≡ x + y - 2 ^ w = mod_is (2 ^ w) (x + y) (x + y - 2 ^ w) 1 (omega (arith, mul-one (2 ^ w))) (omega arith) in record { low = omega arith; high = omega arith })
-    (λ t. IsIn-whole w ((x + y) % 2 ^ w) (mod_below (x + y) (2 ^ w) (pow_pos w))))
-
-differences_hold : (w : ℕ) (a b : Interval) (x y : ℕ) → a.hi < 2 ^ w → b.hi < 2 ^ w → IsIn x a → IsIn y b → IsIn ((x + (2 ^ w - y)) % 2 ^ w) (differences w a b)
-differences_hold w a b x y p q h k =
-    pick_le b.hi a.lo _ _ _
-    (λ s. let e : (x + (2 ^ w - y)) % 2 ^ w ≡ x - y = mod_is (2 ^ w) (x + (2 ^ w - y)) (x - y) 1 (omega (arith, mul-one (2 ^ w))) (omega arith) in record { low = omega arith; high = omega arith })
-    (λ s. pick_lt a.hi b.lo _ _ _
-    (λ t. let e : (x + (2 ^ w - y)) % 2 ^ w ≡ x + (2 ^ w - y) = mod-eq_of_lt (omega arith) in record { low = omega arith; high = omega arith })
-    (λ t. IsIn-whole w ((x + (2 ^ w - y)) % 2 ^ w) (mod_below (x + (2 ^ w - y)) (2 ^ w) (pow_pos w))))
 
 -- a product of numbers below the ends
 products_hold : (w : ℕ) (a b : Interval) (x y : ℕ) → IsIn x a → IsIn y b → IsIn ((x * y) % 2 ^ w) (products w a b)
@@ -41,22 +25,8 @@ products_hold w a b x y h k =
     record { low = omega arith; high = omega arith })
     (λ s. IsIn-whole w ((x * y) % 2 ^ w) (mod_below (x * y) (2 ^ w) (pow_pos w)))
 
-quotients_hold : (a b : Interval) (x y : ℕ) → IsIn x a → IsIn y b → IsIn (cond (eqb y 0) 0 (x / y)) (quotients a b)
-quotients_hold a b x y h k =
-    pick_le 1 b.lo _ _ _
-    (λ s. held_both (between (a.lo / b.hi) (a.hi / b.lo)) y 0 (x / y) (λ z. absurd (omega arith))
-    (λ z. record { low = div_mono a.lo x b.hi y h.low k.high (omega arith); high = div_mono x a.hi y b.lo h.high k.low s }))
-    (λ s. held_both (between 0 a.hi) y 0 (x / y) (λ z. record { low = omega arith; high = omega arith })
-    (λ z. record { low = omega arith; high = omega (arith, div-le_self x y) }))
-
-remainders_hold : (a b : Interval) (x y : ℕ) → IsIn x a → IsIn y b → IsIn (cond (eqb y 0) x (x % y)) (remainders a b)
-remainders_hold a b x y h k =
-    pick_le 1 b.lo _ _ _
-    (λ s. pick_lt a.hi b.lo _ _ _
-    (λ t. held_both a y x (x % y) (λ z. h) (λ z. let e : x % y ≡ x = mod-eq_of_lt (omega arith) in record { low = omega arith; high = omega arith }))
-    (λ t. held_both (between 0 (min a.hi (b.hi - 1))) y x (x % y) (λ z. absurd (omega arith)) (λ z. record { low = omega arith; high = omega (arith, mod-le x y, mod_below x y (omega arith)) })))
-    (λ s. held_both (between 0 a.hi) y x (x % y) (λ z. record { low = omega arith; high = omega arith })
-    (λ z. record { low = omega arith; high = omega (arith, mod-le x y) }))
+shifted_left_holds : (w : ℕ) (a : Interval) (x n : ℕ) → IsIn x a → IsIn ((x * 2 ^ n) % 2 ^ w) (shifted_left w a n)
+shifted_left_holds w a x n h = products_hold w a (single (2 ^ n)) x (2 ^ n) h (record { low = omega arith; high = omega arith })
 
 -- numbers up to z have the bits of `ones z` alone
 or_ones : (x y z : ℕ) → z < 2 ^ 64 → x ≤ z → y ≤ z → bit_or x y ≤ ones z
@@ -70,30 +40,6 @@ xor_ones x y z h p q =
     let (k, e) = ones_power z in
     let above : z ≤ ones z = ones_above z h in
     omega (arith, xor_lt k x y (omega (arith, pow_pos k)) (omega (arith, pow_pos k)))
-
-disjunctions_hold : (a b : Interval) (x y : ℕ) → a.hi < 2 ^ 64 → b.hi < 2 ^ 64 → IsIn x a → IsIn y b → IsIn (bit_or x y) (disjunctions a b)
-disjunctions_hold a b x y p q h k = record {
-  low = omega (arith, le_or_l x y, le_or_r x y);
-  high = or_ones x y (max a.hi b.hi) (omega arith) (omega arith) (omega arith);
-}
-
-shifted_left_holds : (w : ℕ) (a : Interval) (x n : ℕ) → IsIn x a → IsIn ((x * 2 ^ n) % 2 ^ w) (shifted_left w a n)
-shifted_left_holds w a x n h = products_hold w a (single (2 ^ n)) x (2 ^ n) h (record { low = omega arith; high = omega arith })
-
-left_shifts_hold : (w : ℕ) (a b : Interval) (x y : ℕ) → IsIn x a → IsIn y b → IsIn ((x * 2 ^ (y % w)) % 2 ^ w) (left_shifts w a b)
-left_shifts_hold w a b x y h k =
-    pick_eq b.lo b.hi _ _ _
-    (λ s. let e : b.lo ≡ y = omega arith in subst (λ (c : ℕ). IsIn ((x * 2 ^ (c % w)) % 2 ^ w) (shifted_left w a (b.lo % w))) e (shifted_left_holds w a x (b.lo % w) h))
-    (IsIn-whole w ((x * 2 ^ (y % w)) % 2 ^ w) (mod_below (x * 2 ^ (y % w)) (2 ^ w) (pow_pos w)))
-
-right_shifts_hold : (w : ℕ) (a b : Interval) (x y : ℕ) → IsIn x a → IsIn y b → IsIn (x / 2 ^ (y % w)) (right_shifts w a b)
-right_shifts_hold w a b x y h k =
-    pick_eq b.lo b.hi _ _ _
-    (λ s. let e : b.lo ≡ y = omega arith in
-    let d : 2 ^ (b.lo % w) ≡ 2 ^ (y % w) = ap (λ (c : ℕ). 2 ^ (c % w)) e in
-    subst (λ (c : ℕ). IsIn (x / c) (between (a.lo / 2 ^ (b.lo % w)) (a.hi / 2 ^ (b.lo % w)))) d
-    (record { low = div_mono a.lo x (2 ^ (b.lo % w)) (2 ^ (b.lo % w)) h.low (omega arith) (pow_pos (b.lo % w)); high = div_mono x a.hi (2 ^ (b.lo % w)) (2 ^ (b.lo % w)) h.high (omega arith) (pow_pos (b.lo % w)) }))
-    (record { low = omega arith; high = omega (arith, shr_le x (y % w)) })
 
 -- ---- the arithmetic shift: a number without sign and one with it
 
@@ -116,60 +62,136 @@ pub shift_mono : (w x y n : ℕ) → x ≤ y → y < 2 ^ w → (y < 2 ^ (w - 1))
     → operation w ArithmeticShiftRight x n ≤ operation w ArithmeticShiftRight y n
 shift_mono w x y n h k side =
     elim side [
-      | inl below ↦ rw (plain w x n (omega arith), plain w y n below) (div_mono x y (2 ^ (n % w)) (2 ^ (n % w)) h (omega arith) (pow_pos (n % w)))
+      | inl below ↦ rw (plain w x n (omega arith), plain w y n below) (shr_mono x y (n % w) h)
       | inr above ↦ rw (negative w x n above (omega arith), negative w y n (omega arith) k)
-          (omega (arith, div_mono (2 ^ w - 1 - y) (2 ^ w - 1 - x) (2 ^ (n % w)) (2 ^ (n % w)) (omega arith) (omega arith) (pow_pos (n % w))))
+          (omega (arith, shr_mono (2 ^ w - 1 - y) (2 ^ w - 1 - x) (n % w) (omega arith)))
     ]
+
+-- a range on one side of the sign, the test of it, and the range of its ends shifted by one count
+abbrev pub OneSide : ℕ → Interval → Type 0
+OneSide w a = (a.hi < 2 ^ (w - 1)) ⊎ (2 ^ (w - 1) ≤ a.lo)
+
+abbrev pub one_side : ℕ → Interval → Bool
+one_side w a = ltb a.hi (2 ^ (w - 1)) || leb (2 ^ (w - 1)) a.lo
+
+abbrev pub shifts : ℕ → Interval → ℕ → Interval
+shifts w a n = between (operation w ArithmeticShiftRight a.lo n) (operation w ArithmeticShiftRight a.hi n)
 
 -- which side a test shows
-pub sides : (w lo hi : ℕ) → (ltb hi (2 ^ (w - 1)) || leb (2 ^ (w - 1)) lo) ≡ true → (hi < 2 ^ (w - 1)) ⊎ (2 ^ (w - 1) ≤ lo)
-sides w lo hi e =
-    elim (or_cases (ltb hi (2 ^ (w - 1))) (leb (2 ^ (w - 1)) lo) e) [
-      | inl t ↦ inl (ltb-true hi (2 ^ (w - 1)) t)
-      | inr t ↦ inr (leb-true (2 ^ (w - 1)) lo t)
+pub sides : (w : ℕ) (a : Interval) → one_side w a ≡ true → OneSide w a
+sides w a e =
+    elim (or_cases (ltb a.hi (2 ^ (w - 1))) (leb (2 ^ (w - 1)) a.lo) e) [
+      | inl t ↦ inl (ltb-true a.hi (2 ^ (w - 1)) t)
+      | inr t ↦ inr (leb-true (2 ^ (w - 1)) a.lo t)
     ]
 
--- shifted by one count
-pub shifts_by : (w : ℕ) (a : Interval) (x n : ℕ) → a.hi < 2 ^ w → IsIn x a → (a.hi < 2 ^ (w - 1)) ⊎ (2 ^ (w - 1) ≤ a.lo)
-    → IsIn (operation w ArithmeticShiftRight x n) (between (operation w ArithmeticShiftRight a.lo n) (operation w ArithmeticShiftRight a.hi n))
+pub shifts_by : (w : ℕ) (a : Interval) (x n : ℕ) → a.hi < 2 ^ w → IsIn x a → OneSide w a → IsIn (operation w ArithmeticShiftRight x n) (shifts w a n)
 shifts_by w a x n p h side =
     elim side [
       | inl below ↦ record { low = shift_mono w a.lo x n h.low (omega arith) (inl (omega arith)); high = shift_mono w x a.hi n h.high p (inl below) }
       | inr above ↦ record { low = shift_mono w a.lo x n h.low (omega arith) (inr above); high = shift_mono w x a.hi n h.high p (inr (omega arith)) }
     ]
 
-arithmetic_right_shifts_hold : (w : ℕ) (a b : Interval) (x y : ℕ) → a.hi < 2 ^ w → IsIn x a → IsIn y b
-    → IsIn (operation w ArithmeticShiftRight x y) (arithmetic_right_shifts w a b)
-arithmetic_right_shifts_hold w a b x y p h k =
-    let v : operation w ArithmeticShiftRight x y < 2 ^ w = operation_bound w ArithmeticShiftRight x y in
-    pick_eq b.lo b.hi _ _ _
-    (λ s. pick (ltb a.hi (2 ^ (w - 1)) || leb (2 ^ (w - 1)) a.lo) _ _ _
-    (λ t. let e : b.lo ≡ y = omega arith in
-    subst (λ (c : ℕ). IsIn (operation w ArithmeticShiftRight x c) (between (operation w ArithmeticShiftRight a.lo b.lo) (operation w ArithmeticShiftRight a.hi b.lo))) e
-    (shifts_by w a x b.lo p h (sides w a.lo a.hi t)))
-    (λ t. IsIn-whole w (operation w ArithmeticShiftRight x y) v))
-    (pick_lt a.hi (2 ^ (w - 1)) _ _ _
-    (λ t. rw (plain w x y (omega arith)) (record { low = omega arith; high = omega (arith, shr_le x (y % w)) }))
-    (λ t. IsIn-whole w (operation w ArithmeticShiftRight x y) v))
+-- ---- a word of each operand, of ranges of numbers of w bits
+
+module _ (w : ℕ) (a b : Interval) (x y : ℕ) (p : a.hi < 2 ^ w) (q : b.hi < 2 ^ w) (h : IsIn x a) (k : IsIn y b) where
+  -- what is taken modulo 2 ^ w has w bits
+  any : (n : ℕ) → IsIn (n % 2 ^ w) (whole w)
+  any n = IsIn-whole w (n % 2 ^ w) (mod_below n (2 ^ w) (pow_pos w))
+
+  sums_hold : IsIn ((x + y) % 2 ^ w) (sums w a b)
+  sums_hold =
+      pick_le (a.hi + b.hi) (top w) _ _ _
+      (λ s. let e : (x + y) % 2 ^ w ≡ x + y = mod-eq_of_lt (omega arith) in record { low = omega arith; high = omega arith })
+      (λ s. pick_lt (top w) (a.lo + b.lo) _ _ _
+      (λ t. let e : (x + y) % 2 ^ w ≡ x + y - 2 ^ w = mod_is (2 ^ w) (x + y) (x + y - 2 ^ w) 1 (omega (arith, mul-one (2 ^ w))) (omega arith) in
+      record { low = omega arith; high = omega arith })
+      (λ t. any (x + y)))
+
+  differences_hold : IsIn ((x + (2 ^ w - y)) % 2 ^ w) (differences w a b)
+  differences_hold =
+      pick_le b.hi a.lo _ _ _
+      (λ s. let e : (x + (2 ^ w - y)) % 2 ^ w ≡ x - y = mod_is (2 ^ w) (x + (2 ^ w - y)) (x - y) 1 (omega (arith, mul-one (2 ^ w))) (omega arith) in
+      record { low = omega arith; high = omega arith })
+      (λ s. pick_lt a.hi b.lo _ _ _
+      (λ t. let e : (x + (2 ^ w - y)) % 2 ^ w ≡ x + (2 ^ w - y) = mod-eq_of_lt (omega arith) in record { low = omega arith; high = omega arith })
+      (λ t. any (x + (2 ^ w - y))))
+
+  quotients_hold : IsIn (cond (eqb y 0) 0 (x / y)) (quotients a b)
+  quotients_hold =
+      pick_le 1 b.lo _ _ _
+      (λ s. held_both (between (a.lo / b.hi) (a.hi / b.lo)) y 0 (x / y) (λ z. absurd (omega arith))
+      (λ z. record { low = div_mono a.lo x b.hi y h.low k.high (omega arith); high = div_mono x a.hi y b.lo h.high k.low s }))
+      (λ s. held_both (between 0 a.hi) y 0 (x / y) (λ z. record { low = omega arith; high = omega arith })
+      (λ z. record { low = omega arith; high = omega (arith, div-le_self x y) }))
+
+  remainders_hold : IsIn (cond (eqb y 0) x (x % y)) (remainders a b)
+  remainders_hold =
+      pick_le 1 b.lo _ _ _
+      (λ s. pick_lt a.hi b.lo _ _ _
+      (λ t. held_both a y x (x % y) (λ z. h) (λ z. let e : x % y ≡ x = mod-eq_of_lt (omega arith) in record { low = omega arith; high = omega arith }))
+      (λ t. held_both (between 0 (min a.hi (b.hi - 1))) y x (x % y) (λ z. absurd (omega arith))
+      (λ z. record { low = omega arith; high = omega (arith, mod-le x y, mod_below x y (omega arith)) })))
+      (λ s. held_both (between 0 a.hi) y x (x % y) (λ z. record { low = omega arith; high = omega arith })
+      (λ z. record { low = omega arith; high = omega (arith, mod-le x y) }))
+
+  disjunctions_hold : 2 ^ w ≤ 2 ^ 64 → IsIn (bit_or x y) (disjunctions a b)
+  disjunctions_hold l = record {
+    low = omega (arith, le_or_l x y, le_or_r x y);
+    high = or_ones x y (max a.hi b.hi) (omega arith) (omega arith) (omega arith);
+  }
+
+  exclusive_hold : 2 ^ w ≤ 2 ^ 64 → IsIn (bit_xor x y) (exclusive_disjunctions a b)
+  exclusive_hold l = record { low = omega arith; high = xor_ones x y (max a.hi b.hi) (omega arith) (omega arith) (omega arith) }
+
+  left_shifts_hold : IsIn ((x * 2 ^ (y % w)) % 2 ^ w) (left_shifts w a b)
+  left_shifts_hold =
+      pick_eq b.lo b.hi _ _ _
+      (λ s. let e : b.lo ≡ y = omega arith in
+      subst (λ (c : ℕ). IsIn ((x * 2 ^ (c % w)) % 2 ^ w) (shifted_left w a (b.lo % w))) e (shifted_left_holds w a x (b.lo % w) h))
+      (any (x * 2 ^ (y % w)))
+
+  right_shifts_hold : IsIn (x / 2 ^ (y % w)) (right_shifts w a b)
+  right_shifts_hold =
+      pick_eq b.lo b.hi _ _ _
+      (λ s. let e : b.lo ≡ y = omega arith in
+      subst (λ (c : ℕ). IsIn (x / 2 ^ (c % w)) (between (a.lo / 2 ^ (b.lo % w)) (a.hi / 2 ^ (b.lo % w)))) e
+      (record { low = shr_mono a.lo x (b.lo % w) h.low; high = shr_mono x a.hi (b.lo % w) h.high }))
+      (record { low = omega arith; high = omega (arith, shr_le x (y % w)) })
+
+  arithmetic_right_shifts_hold : IsIn (operation w ArithmeticShiftRight x y) (arithmetic_right_shifts w a b)
+  arithmetic_right_shifts_hold =
+      let all = IsIn-whole w (operation w ArithmeticShiftRight x y) (operation_bound w ArithmeticShiftRight x y) in
+      pick_eq b.lo b.hi _ _ _
+      (λ s. pick (one_side w a) _ _ _
+      (λ t. let e : b.lo ≡ y = omega arith in
+      subst (λ (c : ℕ). IsIn (operation w ArithmeticShiftRight x c) (shifts w a b.lo)) e (shifts_by w a x b.lo p h (sides w a t)))
+      (λ t. all))
+      (pick_lt a.hi (2 ^ (w - 1)) _ _ _
+      (λ t. rw (plain w x y (omega arith)) (record { low = omega arith; high = omega (arith, shr_le x (y % w)) }))
+      (λ t. all))
 
 -- ---- all rows
 
--- a number of its width is its low bits
-same : (width : Width) (a : Interval) (x : ℕ) → a.hi < 2 ^ bits_of width → IsIn x a → x % 2 ^ bits_of width ≡ x
-same width a x p h = mod-eq_of_lt (omega arith)
+module _ (width : Width) (a b : Interval) (x y : ℕ) (p : a.hi < 2 ^ bits_of width) (q : b.hi < 2 ^ bits_of width) (h : IsIn x a) (k : IsIn y b) where
+  -- a number of its width is its low bits
+  low_x : x % 2 ^ bits_of width ≡ x
+  low_x = mod-eq_of_lt (omega arith)
 
-pub row_holds : (width : Width) (op : AluOp) (a b : Interval) (x y : ℕ) → a.hi < 2 ^ bits_of width → b.hi < 2 ^ bits_of width → IsIn x a → IsIn y b
-    → IsIn (operation (bits_of width) op x y) (row (bits_of width) op a b)
-row_holds width Add a b x y p q h k = sums_hold (bits_of width) a b x y p q h k
-row_holds width Sub a b x y p q h k = rw (sub_is (bits_of width) x y, same width b y q k) (differences_hold (bits_of width) a b x y p q h k)
-row_holds width Mul a b x y p q h k = products_hold (bits_of width) a b x y h k
-row_holds width Div a b x y p q h k = rw (same width a x p h, same width b y q k) (quotients_hold a b x y h k)
-row_holds width Or a b x y p q h k = rw (same width a x p h, same width b y q k) (disjunctions_hold a b x y (omega (arith, words width)) (omega (arith, words width)) h k)
-row_holds width And a b x y p q h k = rw (same width a x p h, same width b y q k) (record { low = omega arith; high = omega (arith, and_le_l x y, and_le_r x y) })
-row_holds width ShiftLeft a b x y p q h k = left_shifts_hold (bits_of width) a b x y h k
-row_holds width ShiftRight a b x y p q h k = rw (same width a x p h) (right_shifts_hold (bits_of width) a b x y h k)
-row_holds width Mod a b x y p q h k = rw (same width a x p h, same width b y q k) (remainders_hold a b x y h k)
-row_holds width Xor a b x y p q h k = rw (same width a x p h, same width b y q k) (record { low = omega arith; high = xor_ones x y (max a.hi b.hi) (omega (arith, words width)) (omega arith) (omega arith) })
-row_holds width Mov a b x y p q h k = rw (same width b y q k) k
-row_holds width ArithmeticShiftRight a b x y p q h k = arithmetic_right_shifts_hold (bits_of width) a b x y p h k
-row_holds width op a b x y p q h k = IsIn-whole (bits_of width) (operation (bits_of width) op x y) (operation_bound (bits_of width) op x y)
+  low_y : y % 2 ^ bits_of width ≡ y
+  low_y = mod-eq_of_lt (omega arith)
+
+  pub row_holds : (op : AluOp) → IsIn (operation (bits_of width) op x y) (row (bits_of width) op a b)
+  row_holds Add = sums_hold (bits_of width) a b x y p q h k
+  row_holds Sub = rw (sub_is (bits_of width) x y, low_y) (differences_hold (bits_of width) a b x y p q h k)
+  row_holds Mul = products_hold (bits_of width) a b x y h k
+  row_holds Div = rw (low_x, low_y) (quotients_hold (bits_of width) a b x y p q h k)
+  row_holds Or = rw (low_x, low_y) (disjunctions_hold (bits_of width) a b x y p q h k (words width))
+  row_holds And = rw (low_x, low_y) (record { low = omega arith; high = omega (arith, and_le_l x y, and_le_r x y) })
+  row_holds ShiftLeft = left_shifts_hold (bits_of width) a b x y p q h k
+  row_holds ShiftRight = rw low_x (right_shifts_hold (bits_of width) a b x y p q h k)
+  row_holds Mod = rw (low_x, low_y) (remainders_hold (bits_of width) a b x y p q h k)
+  row_holds Xor = rw (low_x, low_y) (exclusive_hold (bits_of width) a b x y p q h k (words width))
+  row_holds Mov = rw low_y k
+  row_holds ArithmeticShiftRight = arithmetic_right_shifts_hold (bits_of width) a b x y p q h k
+  row_holds op = IsIn-whole (bits_of width) (operation (bits_of width) op x y) (operation_bound (bits_of width) op x y)

@@ -27,8 +27,8 @@ read_signed a w small h =
       | inr l ↦ record { z = negsuc (2 ^ 64 - 1 - w); is = words.negative_is w small; within = record { low = grind (arith, nat_tests, ints); high = grind (arith, nat_tests, ints) } }
     ]
 
-limited_is : (s t : Span) → limited s ≡ Some t → t ≡ s
-limited_is s t e = elim (cases_Bool (is_limited s)) [ inl h ↦ grind arith | inr h ↦ grind arith ]
+limited-some : (s t : Span) → limited s ≡ Some t → t ≡ s
+limited-some s t e = elim (cases_Bool (is_limited s)) [ inl h ↦ grind arith | inr h ↦ grind arith ]
 
 -- the pointer that a pointer and a word make
 pub record Moved (region : Region) (t : Span) (f : Place → ℕ) : Type 0 where
@@ -49,7 +49,7 @@ on region s t a z w h i small e =
     let sum : Span = record { lo = s.lo +ℤ (signed_of a).lo; hi = s.hi +ℤ (signed_of a).hi } in
     record {
       z = z +ℤ r.z;
-      within = subst (IsOffset (z +ℤ r.z)) (sym (limited_is sum t e)) (added s (signed_of a) z r.z h r.within);
+      within = subst (IsOffset (z +ℤ r.z)) (sym (limited-some sum t e)) (added s (signed_of a) z r.z h r.within);
       is = λ p. ap (λ (n : ℕ). low 64 (moved (start p region) z + n)) (sym r.is) ∙ words.moved_on (start p region) z r.z;
     }
 
@@ -60,6 +60,6 @@ back region s t a z w h i small e =
     let difference : Span = record { lo = s.lo -ℤ (signed_of a).hi; hi = s.hi -ℤ (signed_of a).lo } in
     record {
       z = z -ℤ r.z;
-      within = subst (IsOffset (z -ℤ r.z)) (sym (limited_is difference t e)) (taken s (signed_of a) z r.z h r.within);
+      within = subst (IsOffset (z -ℤ r.z)) (sym (limited-some difference t e)) (taken s (signed_of a) z r.z h r.within);
       is = λ p. words.moved_back (start p region) w z r.z r.is;
     }

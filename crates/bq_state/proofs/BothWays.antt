@@ -7,15 +7,5 @@ use Rattle.bq_state.specs.Edges.{edges}
 use Rattle.bq_state.specs.InPlace.{way}
 
 pub both_ways : (unit : ℕ) (i : Insn) (state : StateKinds) → edges unit i state ≡ way unit i false state ++ way unit i true state
-both_ways unit (insns.Alu w op d x) state = refl
-both_ways unit (insns.Negate w d) state = refl
-both_ways unit (insns.Extend e d s) state = refl
-both_ways unit (insns.Order o bits d) state = refl
-both_ways unit (insns.Jump offset) state = refl
-both_ways unit (insns.JumpFar distance) state = refl
 both_ways unit (insns.Branch w r d x offset) state = refl
-both_ways unit insns.Exit state = refl
-both_ways unit (insns.Load size d base offset) state = refl
-both_ways unit (insns.LoadSigned size d base offset) state = refl
-both_ways unit (insns.Store size base offset x) state = refl
-both_ways unit (insns.Wide d v) state = refl
+both_ways unit i state = refl

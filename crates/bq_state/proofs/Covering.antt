@@ -17,7 +17,7 @@ use Rattle.bq_state.specs.declared.region.Region.TheVariants.{Frame, Record}
 
 -- ---- ranges and offsets
 
-within_itself : (a : Interval) → Within a a
+pub within_itself : (a : Interval) → Within a a
 within_itself a = record { low = omega arith; high = omega arith }
 
 pub within_through : (a b c : Interval) → Within b a → Within c b → Within c a
@@ -47,8 +47,7 @@ same_itself Record = refl
 same_is : (r s : Region) → is_same r s ≡ true → r ≡ s
 same_is Frame Frame e = refl
 same_is Record Record e = refl
-same_is Frame Record e = cc
-same_is Record Frame e = cc
+same_is _ _ e = cc
 
 pub kind_covers_itself : (l : Interval) (a : Kind) → KindCovers l a a
 kind_covers_itself l Unset = tt
@@ -159,19 +158,21 @@ module _ (l m : Interval) where
   kind_at (x ∷ xs) (y ∷ ys) zero h k = refl
   kind_at (x ∷ xs) (y ∷ ys) (suc r) h k = kind_at xs ys r (omega arith) (omega arith)
 
-  -- a list that holds, for each register, the join of both
+  -- a list that holds, for each register below i, the join of both
+  abbrev AreJoined : List Kind → List Kind → List Kind → ℕ → Type 0
+  AreJoined a b s i = (r : ℕ) → r < i → kind_in s r ≡ join_kinds l m (kind_in a r) (kind_in b r)
+
   -- a kind that was read where nothing was written yet
   pub still_there : (a s : List Kind) (i : ℕ) (x : Kind) → i < length a → i < length s → kind_in s i ≡ kind_in a i → x ≡ get_or s i x → x ≡ get_or a i x
   still_there a s i x inside inside_too same is = is ∙ get_or_default s i x Unset inside_too ∙ same ∙ sym (get_or_default a i x Unset inside)
 
-  pub joined_lists : (a b s : List Kind) (n : ℕ) → length a ≡ n → length b ≡ n → length s ≡ n
-      → ((r : ℕ) → r < n → kind_in s r ≡ join_kinds l m (kind_in a r) (kind_in b r)) → s ≡ join_lists l m a b
+  pub joined_lists : (a b s : List Kind) (n : ℕ) → length a ≡ n → length b ≡ n → length s ≡ n → AreJoined a b s n → s ≡ join_lists l m a b
   joined_lists a b s n e f g h =
       let count : length (join_lists l m a b) ≡ length a = lists_count a b (omega arith) in
       ext_get_or Unset s (join_lists l m a b) (omega arith) (λ r k. h r (omega arith) ∙ sym (kind_at a b r (omega arith) (omega arith)))
 
-  pub joined_more : (a b s : List Kind) (n i : ℕ) (k x y : Kind) → length a ≡ n → length b ≡ n → length s ≡ n → i < n → x ≡ get_or a i x → y ≡ get_or b i y → k ≡ join_kinds l m (get_or a i x) (get_or b i y)
-      → ((r : ℕ) → r < i → kind_in s r ≡ join_kinds l m (kind_in a r) (kind_in b r)) → (r : ℕ) → r < i + 1 → kind_in (set s i k) r ≡ join_kinds l m (kind_in a r) (kind_in b r)
+  pub joined_more : (a b s : List Kind) (n i : ℕ) (k x y : Kind) → length a ≡ n → length b ≡ n → length s ≡ n → i < n → x ≡ get_or a i x → y ≡ get_or b i y
+      → k ≡ join_kinds l m (get_or a i x) (get_or b i y) → AreJoined a b s i → AreJoined a b (set s i k) (i + 1)
   joined_more a b s n i k x y e f g h p q j before =
       let u : get_or a i x ≡ kind_in a i = get_or_default a i x Unset (omega arith) in
       let v : get_or b i y ≡ kind_in b i = get_or_default b i y Unset (omega arith) in
@@ -179,8 +180,7 @@ module _ (l m : Interval) where
       rw w (fill_by_more (λ (r : ℕ). join_kinds l m (kind_in a r) (kind_in b r)) s i Unset (omega arith) before)
 
   -- where nothing is known, nothing has to be written
-  pub joined_kept : (a b s : List Kind) (i : ℕ) → kind_in s i ≡ kind_in a i → kind_in s i ≡ Unset
-      → ((r : ℕ) → r < i → kind_in s r ≡ join_kinds l m (kind_in a r) (kind_in b r)) → (r : ℕ) → r < i + 1 → kind_in s r ≡ join_kinds l m (kind_in a r) (kind_in b r)
+  pub joined_kept : (a b s : List Kind) (i : ℕ) → kind_in s i ≡ kind_in a i → kind_in s i ≡ Unset → AreJoined a b s i → AreJoined a b s (i + 1)
   joined_kept a b s i same unset before r below = elim (cases_lt r i) [
     | inl h ↦ before r h
     | inr g ↦

@@ -79,7 +79,9 @@ operand_comes s (operands.Number z) = inl tt
 
 -- ---- results
 
-module _ (P : StateKinds → Type 0) (puts : (s : StateKinds) (d : ℕ) (k : Kind) → P s → Comes s k → P (with_kind s d k)) (narrows : (s : StateKinds) (r : ℕ) (l : Interval) → P s → kind_of s r ≡ Length → P (with_lengths s l)) where
+module _ (P : StateKinds → Type 0)
+    (puts : (s : StateKinds) (d : ℕ) (k : Kind) → P s → Comes s k → P (with_kind s d k))
+    (narrows : (s : StateKinds) (r : ℕ) (l : Interval) → P s → kind_of s r ≡ Length → P (with_lengths s l)) where
   -- what is left, if something is
   record Leaves (r : Result StateKinds Rule) : Type 0 where
     when_ok : (t : StateKinds) → r ≡ Ok t → P t
@@ -103,9 +105,7 @@ module _ (P : StateKinds → Type 0) (puts : (s : StateKinds) (d : ℕ) (k : Kin
 
   known_same : (k j : Kind) → known k ≡ Ok j → k ≡ j
   known_same Unset j e = absurd cc
-  known_same (Number a) j e = cc
-  known_same (Pointer r s) j e = cc
-  known_same Length j e = cc
+  known_same k j e = cc
 
   allowed_same : (o : Option Kind) (k : Kind) → allowed o ≡ Ok k → o ≡ Some k
   allowed_same None k e = absurd cc
@@ -117,14 +117,16 @@ module _ (P : StateKinds → Type 0) (puts : (s : StateKinds) (d : ℕ) (k : Kin
       after (known (operand_kind s x)) _ (λ b is.
       after (writable d) _ (λ _ _.
       after (allowed (alu_kind s.lengths w op a b)) _ (λ k made.
-      done (with_kind s d k) (puts s d k e (alu_comes s s.lengths w op a b k (subst (Comes s) (known_same (operand_kind s x) b is) (operand_comes s x)) (allowed_same (alu_kind s.lengths w op a b) k made)))))))
+      let comes = subst (Comes s) (known_same (operand_kind s x) b is) (operand_comes s x) in
+      done (with_kind s d k) (puts s d k e (alu_comes s s.lengths w op a b k comes (allowed_same (alu_kind s.lengths w op a b) k made)))))))
   transfer_leaves (insns.Negate w d) s e = mapped_leaves s d d (negated (bits_of w)) e
   transfer_leaves (insns.Extend x d b) s e = mapped_leaves s d b (sign_extended (extension_bits x) (bits_of (extension_width x))) e
   transfer_leaves (insns.Order o bits d) s e = mapped_leaves s d d (ordered_range o (swap_bits bits)) e
   transfer_leaves (insns.Jump offset) s e = done s e
   transfer_leaves (insns.JumpFar distance) s e = done s e
   transfer_leaves (insns.Branch w r d x offset) s e =
-      after (known (read_kind s d)) _ (λ a _. after (known (read_operand s x)) _ (λ b _. after (number WrongKind a) _ (λ _ _. after (number WrongKind b) _ (λ _ _. done s e))))
+      after (known (read_kind s d)) _ (λ a _. after (known (read_operand s x)) _ (λ b _.
+      after (number WrongKind a) _ (λ _ _. after (number WrongKind b) _ (λ _ _. done s e))))
   transfer_leaves insns.Exit s e = after (known (read_kind s 0)) _ (λ k _. after (number AnswerKind k) _ (λ _ _. done s e))
   transfer_leaves (insns.Load size d base offset) s e = loaded_leaves s d base offset (size_bytes size) (whole (8 * size_bytes size)) e
   transfer_leaves (insns.LoadSigned bits d base offset) s e = loaded_leaves s d base offset (signed_bytes bits) all_words e
@@ -146,9 +148,7 @@ module _ (P : StateKinds → Type 0) (puts : (s : StateKinds) (d : ℕ) (k : Kin
 
   narrowed_keeps : (a b : StateKinds) (d : ℕ) (x : Interval) (k : Kind) → P a → kind_of a d ≡ k → narrowed a d x k ≡ Some b → P b
   narrowed_keeps a b d x Length e is h = lengths_keep a b d (meet a.lengths x) e is h
-  narrowed_keeps a b d x Unset e is h = put_keeps a b d x e h
-  narrowed_keeps a b d x (Number y) e is h = put_keeps a b d x e h
-  narrowed_keeps a b d x (Pointer q y) e is h = put_keeps a b d x e h
+  narrowed_keeps a b d x k e is h = put_keeps a b d x e h
 
   number_keeps : (a b : StateKinds) (d : ℕ) (o : Option (Interval × Interval)) → P a → with_number a d o ≡ Some b → P b
   number_keeps a b d None e h = absurd cc
@@ -168,19 +168,12 @@ module _ (P : StateKinds → Type 0) (puts : (s : StateKinds) (d : ℕ) (k : Kin
 
   by_number_keeps : (a b : StateKinds) (w : Width) (r : Relation) (taken : Bool) (d n : ℕ) (k : Kind) → P a → refined_by_number a w r taken d n k ≡ Some b → P b
   by_number_keeps a b w r taken d n (Number x) e h = number_keeps a b d (branched (bits_of w) r taken x (single (low (bits_of w) n))) e h
-  by_number_keeps a b w r taken d n Unset e h = same_keeps a b e h
-  by_number_keeps a b w r taken d n (Pointer q x) e h = same_keeps a b e h
-  by_number_keeps a b w r taken d n Length e h = same_keeps a b e h
+  by_number_keeps a b w r taken d n k e h = same_keeps a b e h
 
   by_register_keeps : (a b : StateKinds) (w : Width) (r : Relation) (taken : Bool) (d s : ℕ) (k l : Kind) → P a
       → refined_by_register a w r taken d s k l ≡ Some b → P b
   by_register_keeps a b w r taken d s (Number x) (Number y) e h = numbers_keep a b d s (branched (bits_of w) r taken x y) e h
-  by_register_keeps a b w r taken d s (Number x) Unset e h = same_keeps a b e h
-  by_register_keeps a b w r taken d s (Number x) (Pointer q y) e h = same_keeps a b e h
-  by_register_keeps a b w r taken d s (Number x) Length e h = same_keeps a b e h
-  by_register_keeps a b w r taken d s Unset l e h = same_keeps a b e h
-  by_register_keeps a b w r taken d s (Pointer q x) l e h = same_keeps a b e h
-  by_register_keeps a b w r taken d s Length l e h = same_keeps a b e h
+  by_register_keeps a b w r taken d s k l e h = same_keeps a b e h
 
   pub refined_keeps : (a b : StateKinds) (w : Width) (r : Relation) (taken : Bool) (d : ℕ) (x : Operand) → P a → refined a w r taken d x ≡ Some b → P b
   refined_keeps a b w r taken d (operands.Number z) e h = by_number_keeps a b w r taken d (modulo 64 z) (read_kind a d) e h
@@ -211,10 +204,4 @@ module _ (P : StateKinds → Type 0) (puts : (s : StateKinds) (d : ℕ) (k : Kin
       (along_keeps (target unit offset) (refined a w r true d x) (λ b h. refined_keeps a b w r true d x e h))
   edges_keep unit insns.Exit a e = All-nil Kept
   edges_keep unit (insns.Wide d v) a e = one_keeps (unit + 2, a) e
-  edges_keep unit (insns.Alu w op d x) a e = one_keeps (unit + 1, a) e
-  edges_keep unit (insns.Negate w d) a e = one_keeps (unit + 1, a) e
-  edges_keep unit (insns.Extend x d b) a e = one_keeps (unit + 1, a) e
-  edges_keep unit (insns.Order o bits d) a e = one_keeps (unit + 1, a) e
-  edges_keep unit (insns.Load size d base offset) a e = one_keeps (unit + 1, a) e
-  edges_keep unit (insns.LoadSigned bits d base offset) a e = one_keeps (unit + 1, a) e
-  edges_keep unit (insns.Store size base offset x) a e = one_keeps (unit + 1, a) e
+  edges_keep unit i a e = one_keeps (unit + 1, a) e

@@ -37,7 +37,7 @@ use Rattle.bq_state.specs.Offsets.{Span, SpanWithin, signed_of, limited, is_limi
 use Rattle.bq_state.specs.Kinds.{StateKinds, AreLengths, kind_of, as_number, read_kind, with_kind, with_lengths, KindCovers, StateCovers, is_same, join_kinds, join_states, length_kind, entry_state}
 use Rattle.bq_state.specs.Monotone.{IsFullKind, IsFullState, IsAbove, IsRefinedAbove, SomeCovers, AreEdgesAbove, StatesAreOrdered, StatesAreMonotone}
 use Rattle.bq_state.proofs.Entering.{each_entry}
-use Rattle.bq_state.proofs.Covering.{kind_covers_itself, kind_covers_through, within_through, state_covers_itself, state_covers_through, join_covers, join_least, joined_count, joined_kind}
+use Rattle.bq_state.proofs.Covering.{kind_covers_itself, kind_covers_through, within_itself, within_through, state_covers_itself, state_covers_through, join_covers, join_least, joined_count, joined_kind}
 use Rattle.bq_state.specs.Rules.{and_then, known, writable, number, allowed, extent, outside, readable, storable, sum_kind, difference_kind, pointer_kind, operated_kind, is_copy, alu_kind, ordered_range, operand_kind, read_operand, taken_kind, mapped, loaded_state, transfer}
 use Rattle.bq_state.specs.Edges.{narrowed, with_number, with_numbers, refined_by_number, refined_by_register, refined, along, edges}
 use Rattle.bq_meaning.specs.Meaning.{target}
@@ -144,11 +144,6 @@ then_follows R S (Err rule) y f g h go = tt
 then_follows R S (Ok a) (Err rule) f g h go = absurd h
 then_follows R S (Ok a) (Ok b) f g h go = go a b h
 
-known_follows : {k l : Kind} → Less k l → Follows Both (known k) (known l)
-known_follows unset = tt
-known_follows (both (numbers h)) = numbers h
-known_follows (both (pointers h)) = pointers h
-
 operands_follow : (m j : Interval) (k l : Kind) → IsPart j m → KindCovers j k l → IsFullKind l → Follows (Operands m j) (known k) (known l)
 operands_follow m j Unset l p h f = tt
 operands_follow m j (Number a) (Number b) p h f = record { covers = (h, f); read = numbers (record { words = f; within = h }) }
@@ -157,45 +152,47 @@ operands_follow m j (Pointer r s) (Pointer q t) p h f = record { covers = (h, f)
 operands_follow m j Length Length p h f = record { covers = (h, f); read = numbers p }
 operands_follow m j k l p h f = absurd h
 
-abbrev IsLow : ℕ → Unit {0} → Unit {0} → Type 0
-IsLow d a b = d < 10
-
-writable_follows : (d : ℕ) → Follows (IsLow d) (writable d) (writable d)
-writable_follows d = elim (cases_lt d 10) [
-  | inl l ↦ rw (lt-ltb d 10 l) l
-  | inr g ↦ rw (le-ltb d 10 g) tt
-]
-
-abbrev Ranges : Interval → Interval → Type 0
-Ranges a b = IsPart b a
-
-number_follows : (rule : Rule) {k l : Kind} → Both k l → Follows Ranges (number rule k) (number rule l)
-number_follows rule (numbers h) = h
-number_follows rule (pointers h) = tt
-
-abbrev Any : Unit {0} → Unit {0} → Type 0
-Any a b = ⊤
-
-fits_follows : (s t : Span) (offset : ℤ) (size len more : ℕ) (rule : Rule) → SpanWithin t s → len ≤ more
-    → Follows Any (cond (fits s offset size len) (Ok tt) (Err rule)) (cond (fits t offset size more) (Ok tt) (Err rule))
-fits_follows s t offset size len more rule h l = elim (cases_Bool (fits s offset size len)) [
-  | inl e ↦ rw (e, fits_less s t offset size len more h l e) tt
-  | inr e ↦ rw e tt
-]
-
 extent_less : (m j : Interval) (r : Region) → Within j m → extent m r ≤ extent j r
 extent_less m j Frame h = omega arith
 extent_less m j Record h = h.low
 
-readable_follows : (m j : Interval) (offset : ℤ) (size : ℕ) {k l : Kind} → Within j m → Both k l
-    → Follows Any (readable m k offset size) (readable j l offset size)
-readable_follows m j offset size w (numbers h) = tt
-readable_follows m j offset size w (pointers {r = r} {s = s} {t = t} h) = fits_follows s t offset size (extent m r) (extent j r) (outside r) h (extent_less m j r w)
+-- ---- one question of an instruction after another, each with what follows in the two states
 
-storable_follows : (offset : ℤ) (size : ℕ) {k l u v : Kind} → Both k l → Both u v → Follows Any (storable k u offset size) (storable l v offset size)
-storable_follows offset size (pointers {r = Frame} {s = s} {t = t} h) (numbers i) = fits_follows s t offset size 512 512 OutsideFrame h (omega arith)
-storable_follows offset size (pointers {r = Record} h) (numbers i) = tt
-storable_follows offset size h i = tt
+abbrev Next : Type 0 → Type 0
+Next A = A → Result StateKinds Rule
+
+then_known : {k l : Kind} → Less k l → (f g : Next Kind) → ((a b : Kind) → Both a b → Follows IsAbove (f a) (g b))
+    → Follows IsAbove (and_then (known k) f) (and_then (known l) g)
+then_known unset f g go = tt
+then_known (both (numbers h)) f g go = go _ _ (numbers h)
+then_known (both (pointers h)) f g go = go _ _ (pointers h)
+
+then_writable : (d : ℕ) (f g : Next (Unit {0})) → (d < 10 → Follows IsAbove (f tt) (g tt)) → Follows IsAbove (and_then (writable d) f) (and_then (writable d) g)
+then_writable d f g go = elim (cases_lt d 10) [ inl l ↦ rw (lt-ltb d 10 l) (go l) | inr m ↦ rw (le-ltb d 10 m) tt ]
+
+then_number : (rule : Rule) {k l : Kind} → Both k l → (f g : Next Interval) → ((a b : Interval) → IsPart b a → Follows IsAbove (f a) (g b))
+    → Follows IsAbove (and_then (number rule k) f) (and_then (number rule l) g)
+then_number rule (numbers h) f g go = go _ _ h
+then_number rule (pointers h) f g go = tt
+
+then_fits : (s t : Span) (offset : ℤ) (size len more : ℕ) (rule : Rule) (f g : Next (Unit {0})) → SpanWithin t s → len ≤ more → Follows IsAbove (f tt) (g tt)
+    → Follows IsAbove (and_then (cond (fits s offset size len) (Ok tt) (Err rule)) f) (and_then (cond (fits t offset size more) (Ok tt) (Err rule)) g)
+then_fits s t offset size len more rule f g h l go = elim (cases_Bool (fits s offset size len)) [
+  | inl e ↦ rw (e, fits_less s t offset size len more h l e) go
+  | inr e ↦ rw e tt
+]
+
+then_readable : (m j : Interval) (offset : ℤ) (size : ℕ) {k l : Kind} → Within j m → Both k l → (f g : Next (Unit {0}))
+    → Follows IsAbove (f tt) (g tt) → Follows IsAbove (and_then (readable m k offset size) f) (and_then (readable j l offset size) g)
+then_readable m j offset size w (numbers h) f g go = tt
+then_readable m j offset size w (pointers {r = r} {s = s} {t = t} h) f g go =
+    then_fits s t offset size (extent m r) (extent j r) (outside r) f g h (extent_less m j r w) go
+
+then_storable : (offset : ℤ) (size : ℕ) {k l u v : Kind} → Both k l → Both u v → (f g : Next (Unit {0})) → Follows IsAbove (f tt) (g tt)
+    → Follows IsAbove (and_then (storable k u offset size) f) (and_then (storable l v offset size) g)
+then_storable offset size (pointers {r = Frame} {s = s} {t = t} h) (numbers i) f g go = then_fits s t offset size 512 512 OutsideFrame f g h (omega arith) go
+then_storable offset size (pointers {r = Record} h) (numbers i) f g go = tt
+then_storable offset size h i f g go = tt
 
 -- ---- operations
 
@@ -234,8 +231,8 @@ past : (s : StateKinds) (r : ℕ) → length s.kinds ≤ r → kind_of s r ≡ U
 past s r h = get_or_past s.kinds r Unset h
 
 -- what holds of a kind that is set and of the others holds of all
-set_each : (P : ℕ → Kind → Type 0) (s : StateKinds) (d : ℕ) (l : Kind) → d < length s.kinds → P d l → ((r : ℕ) → (r ≡ d → ⊥) → P r (kind_of s r))
-    → (r : ℕ) → P r (kind_of (with_kind s d l) r)
+set_each : (P : ℕ → Kind → Type 0) (s : StateKinds) (d : ℕ) (l : Kind) → d < length s.kinds → P d l
+    → ((r : ℕ) → (r ≡ d → ⊥) → P r (kind_of s r)) → (r : ℕ) → P r (kind_of (with_kind s d l) r)
 set_each P s d l low here others r = elim (cases_eq r d) [
   | inl e ↦ subst (λ x. P x (kind_of (with_kind s d l) x)) (sym e) (subst (P d) (sym (get_or-set_same s.kinds d l Unset low)) here)
   | inr ne ↦ subst (P r) (sym (get_or-set_other s.kinds d r l Unset ne)) (others r ne)
@@ -271,7 +268,7 @@ covered_put : (n s : StateKinds) (d : ℕ) (l : Kind) → d < length s.kinds →
 covered_put n s d l low h c = record { lengths = h.lengths; each = set_each (λ r. KindCovers s.lengths (kind_of n r)) s d l low c (λ r ne. h.each r) }
 
 put : (n s : StateKinds) (d : ℕ) (k l : Kind) → d < 11 → IsAbove n s → Results s.lengths k l → IsAbove (with_kind n d k) (with_kind s d l)
-put n s d k l low h i = (record { lengths = h.0.lengths; each = set_each (λ r. KindCovers s.lengths (kind_of (with_kind n d k) r)) s d l (omega (arith, low, h.1.count)) here others }, full_put s d l low h.1 i.1)
+put n s d k l low h i = (record { lengths = h.0.lengths; each = each }, full_put s d l low h.1 i.1)
   where
     here : KindCovers s.lengths (kind_of (with_kind n d k) d) l
     here = elim (cases_lt d (length n.kinds)) [
@@ -284,51 +281,52 @@ put n s d k l low h i = (record { lengths = h.0.lengths; each = set_each (λ r. 
     others : (r : ℕ) → (r ≡ d → ⊥) → KindCovers s.lengths (kind_of (with_kind n d k) r) (kind_of s r)
     others r ne = subst (λ x. KindCovers s.lengths x (kind_of s r)) (sym (get_or-set_other n.kinds d r k Unset ne)) (h.0.each r)
 
+    each : (r : ℕ) → KindCovers s.lengths (kind_of (with_kind n d k) r) (kind_of (with_kind s d l) r)
+    each = set_each (λ r. KindCovers s.lengths (kind_of (with_kind n d k) r)) s d l (omega (arith, low, h.1.count)) here others
+
 -- ---- instructions
-
-lengths_part : (n s : StateKinds) → IsAbove n s → IsPart s.lengths n.lengths
-lengths_part n s h = record { words = length_words s.lengths h.1.lengths; within = h.0.lengths }
-
-less_at : (n s : StateKinds) (r : ℕ) → IsAbove n s → Less (read_kind n r) (read_kind s r)
-less_at n s r h = read_less n.lengths s.lengths (kind_of n r) (kind_of s r) (lengths_part n s h) (h.0.each r) (h.1.kinds r)
-
-register_follows : (n s : StateKinds) (r : ℕ) → IsAbove n s → Follows Both (known (read_kind n r)) (known (read_kind s r))
-register_follows n s r h = known_follows (less_at n s r h)
 
 -- a word is part of itself
 itself : (x : ℕ) → x < 2 ^ 64 → IsPart (single x) (single x)
 itself x h = record { words = record { ordered = omega arith; words = h }; within = record { low = omega arith; high = omega arith } }
 
-one_number : (x : ℕ) → x < 2 ^ 64 → Both (Number (single x)) (Number (single x))
-one_number x h = numbers (itself x h)
+one_number : (x : ℕ) → x < 2 ^ 64 → Less (Number (single x)) (Number (single x))
+one_number x h = both (numbers (itself x h))
 
-operand_follows : (n s : StateKinds) (x : Operand) → IsAbove n s → Follows (Operands n.lengths s.lengths) (known (operand_kind n x)) (known (operand_kind s x))
-operand_follows n s (operands.Register r) h = operands_follow n.lengths s.lengths (kind_of n r) (kind_of s r) (lengths_part n s h) (h.0.each r) (h.1.kinds r)
-operand_follows n s (operands.Number z) h =
-    let p = itself (modulo 64 z) (modulo_bound 64 z) in
-    record { covers = (p.within, p.words); read = numbers p }
+module _ (n s : StateKinds) (h : IsAbove n s) where
+  lengths_part : IsPart s.lengths n.lengths
+  lengths_part = record { words = length_words s.lengths h.1.lengths; within = h.0.lengths }
 
-read_follows : (n s : StateKinds) (x : Operand) → IsAbove n s → Follows Both (known (read_operand n x)) (known (read_operand s x))
-read_follows n s (operands.Register r) h = register_follows n s r h
-read_follows n s (operands.Number z) h = one_number (modulo 64 z) (modulo_bound 64 z)
+  less_at : (r : ℕ) → Less (read_kind n r) (read_kind s r)
+  less_at r = read_less n.lengths s.lengths (kind_of n r) (kind_of s r) lengths_part (h.0.each r) (h.1.kinds r)
 
-taken_follows : (n s : StateKinds) (op : AluOp) (d : ℕ) → IsAbove n s → Follows Both (known (taken_kind n op d)) (known (taken_kind s op d))
-taken_follows n s ops.Mov d h = one_number 0 (omega arith)
-taken_follows n s op d h = register_follows n s d h
+  operand_follows : (x : Operand) → Follows (Operands n.lengths s.lengths) (known (operand_kind n x)) (known (operand_kind s x))
+  operand_follows (operands.Register r) = operands_follow n.lengths s.lengths (kind_of n r) (kind_of s r) lengths_part (h.0.each r) (h.1.kinds r)
+  operand_follows (operands.Number z) = let p = itself (modulo 64 z) (modulo_bound 64 z) in record { covers = (p.within, p.words); read = numbers p }
 
-mapped_follows : (n s : StateKinds) (d b : ℕ) (f : Interval → Interval) → ((a c : Interval) → IsPart a c → IsPart (f a) (f c)) → IsAbove n s
-    → Follows IsAbove (mapped n d b f) (mapped s d b f)
-mapped_follows n s d b f g h =
-    then_follows Both IsAbove (known (read_kind n b)) (known (read_kind s b)) _ _ (register_follows n s b h) (λ k l kl.
-    then_follows (IsLow d) IsAbove (writable d) (writable d) _ _ (writable_follows d) (λ _ _ low.
-    then_follows Ranges IsAbove (number WrongKind k) (number WrongKind l) _ _ (number_follows WrongKind kl) (λ c a r. put n s d (Number (f c)) (Number (f a)) (omega (arith, low)) h (let p = g a c r in (p.within, p.words)))))
+  read_less_at : (x : Operand) → Less (read_operand n x) (read_operand s x)
+  read_less_at (operands.Register r) = less_at r
+  read_less_at (operands.Number z) = one_number (modulo 64 z) (modulo_bound 64 z)
 
-loaded_follows : (n s : StateKinds) (d base : ℕ) (offset : ℤ) (size : ℕ) (range : Interval) → IsInterval range → IsAbove n s
-    → Follows IsAbove (loaded_state n d base offset size range) (loaded_state s d base offset size range)
-loaded_follows n s d base offset size range f h =
-    then_follows Both IsAbove (known (read_kind n base)) (known (read_kind s base)) _ _ (register_follows n s base h) (λ k l kl.
-    then_follows (IsLow d) IsAbove (writable d) (writable d) _ _ (writable_follows d) (λ _ _ low.
-    then_follows Any IsAbove (readable n.lengths k offset size) (readable s.lengths l offset size) _ _ (readable_follows n.lengths s.lengths offset size h.0.lengths kl) (λ _ _ _. put n s d (Number range) (Number range) (omega (arith, low)) h (record { low = omega arith; high = omega arith }, f))))
+  taken_less : (op : AluOp) (d : ℕ) → Less (taken_kind n op d) (taken_kind s op d)
+  taken_less ops.Mov d = one_number 0 (omega arith)
+  taken_less op d = less_at d
+
+  put_number : (d : ℕ) (a b : Interval) → d < 10 → IsPart b a → IsAbove (with_kind n d (Number a)) (with_kind s d (Number b))
+  put_number d a b low p = put n s d (Number a) (Number b) (omega (arith, low)) h (p.within, p.words)
+
+  mapped_follows : (d b : ℕ) (f : Interval → Interval) → ((a c : Interval) → IsPart a c → IsPart (f a) (f c))
+      → Follows IsAbove (mapped n d b f) (mapped s d b f)
+  mapped_follows d b f g =
+      then_known (less_at b) _ _ (λ k l kl. then_writable d _ _ (λ low.
+      then_number WrongKind kl _ _ (λ c a r. put_number d (f c) (f a) low (g a c r))))
+
+  loaded_follows : (d base : ℕ) (offset : ℤ) (size : ℕ) (range : Interval) → IsInterval range
+      → Follows IsAbove (loaded_state n d base offset size range) (loaded_state s d base offset size range)
+  loaded_follows d base offset size range f =
+      then_known (less_at base) _ _ (λ k l kl. then_writable d _ _ (λ low.
+      then_readable n.lengths s.lengths offset size h.0.lengths kl _ _
+      (put_number d range range low (record { words = f; within = record { low = omega arith; high = omega arith } }))))
 
 -- ---- what rests on the rows
 
@@ -348,8 +346,7 @@ module _ (rows : RowsAreMonotone) where
   order_follows : (o : ByteOrder) (bits : SwapBits) (a c : Interval) → IsPart a c
       → IsPart (ordered_range o (swap_bits bits) a) (ordered_range o (swap_bits bits) c)
   order_follows orders.Little bits a c h = rows.low_bits bits a c h
-  order_follows orders.Big bits a c h = rows.swaps bits a c h
-  order_follows orders.Swapped bits a c h = rows.swaps bits a c h
+  order_follows _ bits a c h = rows.swaps bits a c h
 
   extend_follows : (e : Extension) (a c : Interval) → IsPart a c
       → IsPart (sign_extended (extension_bits e) (bits_of (extension_width e)) a) (sign_extended (extension_bits e) (bits_of (extension_width e)) c)
@@ -361,39 +358,33 @@ module _ (rows : RowsAreMonotone) where
 
   load_full : (size : Size) → IsInterval (whole (8 * size_bytes size))
   load_full sizes.B1 = record { ordered = omega arith; words = omega arith }
-  load_full sizes.B2 = record { ordered = omega arith; words = omega arith }
-  load_full sizes.B4 = record { ordered = omega arith; words = omega arith }
-  load_full sizes.B8 = record { ordered = omega arith; words = omega arith }
+  load_full _ = record { ordered = omega arith; words = omega arith }
 
-  transfer_follows : (i : Insn) (n s : StateKinds) → IsInsn i → IsAbove n s → Follows IsAbove (transfer i n) (transfer i s)
-  transfer_follows (insns.Alu w op d x) n s legal h =
-      then_follows Both IsAbove (known (taken_kind n op d)) (known (taken_kind s op d)) _ _ (taken_follows n s op d h) (λ a b ab.
-      then_follows (Operands n.lengths s.lengths) IsAbove (known (operand_kind n x)) (known (operand_kind s x)) _ _ (operand_follows n s x h) (λ k l kl.
-      then_follows (IsLow d) IsAbove (writable d) (writable d) _ _ (writable_follows d) (λ _ _ low.
-      then_follows (Results s.lengths) IsAbove (allowed (alu_kind n.lengths w op a k)) (allowed (alu_kind s.lengths w op b l)) _ _
-      (allowed_follows s.lengths (alu_kind n.lengths w op a k) (alu_kind s.lengths w op b l) (alu_follows n.lengths s.lengths w op ab kl)) (λ y z yz. put n s d y z (omega (arith, low)) h yz))))
-  transfer_follows (insns.Negate w d) n s legal h = mapped_follows n s d d (negated (bits_of w)) (rows.negations w) h
-  transfer_follows (insns.Extend e d b) n s legal h = mapped_follows n s d b (sign_extended (extension_bits e) (bits_of (extension_width e))) (extend_follows e) h
-  transfer_follows (insns.Order o bits d) n s legal h = mapped_follows n s d d (ordered_range o (swap_bits bits)) (order_follows o bits) h
-  transfer_follows (insns.Jump offset) n s legal h = h
-  transfer_follows (insns.JumpFar distance) n s legal h = h
-  transfer_follows (insns.Branch w r d x offset) n s legal h =
-      then_follows Both IsAbove (known (read_kind n d)) (known (read_kind s d)) _ _ (register_follows n s d h) (λ a b ab.
-      then_follows Both IsAbove (known (read_operand n x)) (known (read_operand s x)) _ _ (read_follows n s x h) (λ k l kl.
-      then_follows Ranges IsAbove (number WrongKind a) (number WrongKind b) _ _ (number_follows WrongKind ab) (λ _ _ _.
-      then_follows Ranges IsAbove (number WrongKind k) (number WrongKind l) _ _ (number_follows WrongKind kl) (λ _ _ _. h))))
-  transfer_follows insns.Exit n s legal h =
-      then_follows Both IsAbove (known (read_kind n 0)) (known (read_kind s 0)) _ _ (register_follows n s 0 h) (λ k l kl.
-      then_follows Ranges IsAbove (number AnswerKind k) (number AnswerKind l) _ _ (number_follows AnswerKind kl) (λ _ _ _. h))
-  transfer_follows (insns.Load size d base offset) n s legal h = loaded_follows n s d base offset (size_bytes size) (whole (8 * size_bytes size)) (load_full size) h
-  transfer_follows (insns.LoadSigned bits d base offset) n s legal h = loaded_follows n s d base offset (signed_bytes bits) all_words (record { ordered = omega arith; words = omega arith }) h
-  transfer_follows (insns.Store size base offset x) n s legal h =
-      then_follows Both IsAbove (known (read_kind n base)) (known (read_kind s base)) _ _ (register_follows n s base h) (λ k l kl.
-      then_follows Both IsAbove (known (read_operand n x)) (known (read_operand s x)) _ _ (read_follows n s x h) (λ u v uv.
-      then_follows Any IsAbove (storable k u offset (size_bytes size)) (storable l v offset (size_bytes size)) _ _ (storable_follows offset (size_bytes size) kl uv) (λ _ _ _. h)))
-  transfer_follows (insns.Wide d v) n s legal h =
-      then_follows (IsLow d) IsAbove (writable d) (writable d) _ _ (writable_follows d) (λ _ _ low.
-      put n s d (Number (single v)) (Number (single v)) (omega (arith, low)) h (let p = itself v legal.1 in (p.within, p.words)))
+  module _ (n s : StateKinds) (h : IsAbove n s) where
+    transfer_follows : (i : Insn) → IsInsn i → Follows IsAbove (transfer i n) (transfer i s)
+    transfer_follows (insns.Alu w op d x) legal =
+        then_known (taken_less n s h op d) _ _ (λ a b ab.
+        then_follows (Operands n.lengths s.lengths) IsAbove (known (operand_kind n x)) (known (operand_kind s x)) _ _ (operand_follows n s h x) (λ k l kl.
+        then_writable d _ _ (λ low.
+        then_follows (Results s.lengths) IsAbove (allowed (alu_kind n.lengths w op a k)) (allowed (alu_kind s.lengths w op b l)) _ _
+        (allowed_follows s.lengths (alu_kind n.lengths w op a k) (alu_kind s.lengths w op b l) (alu_follows n.lengths s.lengths w op ab kl))
+        (λ y z yz. put n s d y z (omega (arith, low)) h yz))))
+    transfer_follows (insns.Negate w d) legal = mapped_follows n s h d d (negated (bits_of w)) (rows.negations w)
+    transfer_follows (insns.Extend e d b) legal = mapped_follows n s h d b (sign_extended (extension_bits e) (bits_of (extension_width e))) (extend_follows e)
+    transfer_follows (insns.Order o bits d) legal = mapped_follows n s h d d (ordered_range o (swap_bits bits)) (order_follows o bits)
+    transfer_follows (insns.Jump offset) legal = h
+    transfer_follows (insns.JumpFar distance) legal = h
+    transfer_follows (insns.Branch w r d x offset) legal =
+        then_known (less_at n s h d) _ _ (λ a b ab. then_known (read_less_at n s h x) _ _ (λ k l kl.
+        then_number WrongKind ab _ _ (λ _ _ _. then_number WrongKind kl _ _ (λ _ _ _. h))))
+    transfer_follows insns.Exit legal = then_known (less_at n s h 0) _ _ (λ k l kl. then_number AnswerKind kl _ _ (λ _ _ _. h))
+    transfer_follows (insns.Load size d base offset) legal = loaded_follows n s h d base offset (size_bytes size) (whole (8 * size_bytes size)) (load_full size)
+    transfer_follows (insns.LoadSigned bits d base offset) legal =
+        loaded_follows n s h d base offset (signed_bytes bits) all_words (record { ordered = omega arith; words = omega arith })
+    transfer_follows (insns.Store size base offset x) legal =
+        then_known (less_at n s h base) _ _ (λ k l kl. then_known (read_less_at n s h x) _ _ (λ u v uv.
+        then_storable offset (size_bytes size) kl uv _ _ h))
+    transfer_follows (insns.Wide d v) legal = then_writable d _ _ (λ low. put_number n s h d (single v) (single v) low (itself v legal.1))
 
   -- where the first is there so is the second
   follows_ok : (x y : Result StateKinds Rule) (after : StateKinds) → Follows IsAbove x y → x ≡ Ok after
@@ -404,7 +395,7 @@ module _ (rows : RowsAreMonotone) where
 
   transfer_less : (i : Insn) (n s after : StateKinds) → IsInsn i → IsAbove n s → transfer i n ≡ Ok after
       → (left : StateKinds) × (transfer i s ≡ Ok left) × IsAbove after left
-  transfer_less i n s after legal h e = follows_ok (transfer i n) (transfer i s) after (transfer_follows i n s legal h) e
+  transfer_less i n s after legal h e = follows_ok (transfer i n) (transfer i s) after (transfer_follows n s h i legal) e
 
   -- ---- edges: each of the smaller state's has one of the larger state's that covers it
 
@@ -417,8 +408,7 @@ module _ (rows : RowsAreMonotone) where
   numeral : (l : Interval) (k : Kind) (a : Interval) → as_number l k ≡ Number a → IsNumeral k
   numeral l (Number b) a e = tt
   numeral l Length a e = tt
-  numeral l Unset a e = absurd cc
-  numeral l (Pointer r t) a e = absurd cc
+  numeral l k a e = absurd cc
 
   is_set : (s : StateKinds) (d : ℕ) → length s.kinds ≡ 11 → IsNumeral (kind_of s d) → d < 11
   is_set s d count h = elim (cases_lt d 11) [
@@ -432,8 +422,7 @@ module _ (rows : RowsAreMonotone) where
       full_as : (l : Interval) (k : Kind) → IsInterval l → IsFullKind k → as_number l k ≡ Number a → IsInterval a
       full_as l (Number b) p f e = subst IsFullKind e f
       full_as l Length p f e = subst IsFullKind e p
-      full_as l Unset p f e = absurd cc
-      full_as l (Pointer r t) p f e = absurd cc
+      full_as l k p f e = absurd cc
 
   -- ---- lengths that a branch narrows
 
@@ -448,7 +437,8 @@ module _ (rows : RowsAreMonotone) where
     | inr l ↦
         let is : Some (between (max a.lo b.lo) (min a.hi b.hi)) ≡ Some j = sym (rw (le-leb (max a.lo b.lo) (min a.hi b.hi) l) refl) ∙ e in
         let same : between (max a.lo b.lo) (min a.hi b.hi) ≡ j = cc in
-        subst (Meets a b) same (record { left = record { low = omega arith; high = omega arith }; right = record { low = omega arith; high = omega arith }; ordered = l })
+        subst (Meets a b) same
+        (record { left = record { low = omega arith; high = omega arith }; right = record { low = omega arith; high = omega arith }; ordered = l })
     | inl g ↦
         let none : None ≡ Some j = sym (rw (lt-leb (max a.lo b.lo) (min a.hi b.hi) g) refl) ∙ e in
         absurd cc
@@ -457,8 +447,11 @@ module _ (rows : RowsAreMonotone) where
   -- where two smaller ranges have something in common so have the larger ones
   meets_more : (a b c d j : Interval) → Within a c → Within b d → Meets a b j → (i : Interval) × (meet c d ≡ Some i) × Within j i
   meets_more a b c d j h k m =
-      let some : max c.lo d.lo ≤ min c.hi d.hi = omega (arith, h.low, h.high, k.low, k.high, m.left.low, m.left.high, m.right.low, m.right.high, m.ordered) in
-      (between (max c.lo d.lo) (min c.hi d.hi), rw (le-leb (max c.lo d.lo) (min c.hi d.hi) some) refl, record { low = omega (arith, h.low, k.low, m.left.low, m.right.low); high = omega (arith, h.high, k.high, m.left.high, m.right.high) })
+      let some : max c.lo d.lo ≤ min c.hi d.hi = omega (arith, h.low, h.high, k.low, k.high, m.left.low, m.left.high, m.right.low, m.right.high, m.ordered) in (
+        between (max c.lo d.lo) (min c.hi d.hi),
+        rw (le-leb (max c.lo d.lo) (min c.hi d.hi) some) refl,
+        record { low = omega (arith, h.low, k.low, m.left.low, m.right.low); high = omega (arith, h.high, k.high, m.left.high, m.right.high) },
+      )
 
   -- with fewer lengths in the smaller state
   fewer : (n s : StateKinds) (j : Interval) → IsAbove n s → Within j s.lengths → j.lo ≤ j.hi → IsAbove n (with_lengths s j)
@@ -481,51 +474,50 @@ module _ (rows : RowsAreMonotone) where
   narrows_as : (l : Interval) (k : Kind) (a p : Interval) → as_number l k ≡ Number a → IsPart p a → Narrows p k
   narrows_as l (Number b) a p e h = let same : b ≡ a = cc in subst (IsPart p) (sym same) h
   narrows_as l Length a p e h = tt
-  narrows_as l Unset a p e h = absurd cc
-  narrows_as l (Pointer r t) a p e h = absurd cc
+  narrows_as l k a p e h = absurd cc
 
-  lengths_stay : (n s : StateKinds) (p : Interval) (o : Option Interval) → IsAbove n s → meet s.lengths p ≡ o
-      → IsRefinedAbove (Some n) (option_map (with_lengths s) o)
-  lengths_stay n s p None h e = tt
-  lengths_stay n s p (Some j) h e = let m = met s.lengths p j e in fewer n s j h m.left m.ordered
+  -- what is left of the larger state, and of the smaller one the same part
+  module _ (n s : StateKinds) (h : IsAbove n s) where
+    lengths_stay : (p : Interval) (o : Option Interval) → meet s.lengths p ≡ o → IsRefinedAbove (Some n) (option_map (with_lengths s) o)
+    lengths_stay p None e = tt
+    lengths_stay p (Some j) e = let m = met s.lengths p j e in fewer n s j h m.left m.ordered
 
-  narrow_stays : (n s : StateKinds) (d : ℕ) (p : Interval) (l : Kind) → IsAbove n s → l ≡ kind_of s d → Narrows p l → IsRefinedAbove (Some n) (narrowed s d p l)
-  narrow_stays n s d p (Number a) h e i =
-      let low = is_set s d h.1.count (subst IsNumeral e tt) in
-      let was : KindCovers s.lengths (kind_of n d) (Number a) = subst (KindCovers s.lengths (kind_of n d)) (sym e) (h.0.each d) in
-      let is : KindCovers s.lengths (kind_of n d) (Number p) = kind_covers_through s.lengths s.lengths (kind_of n d) (Number a) (Number p) (record { low = omega arith; high = omega arith }) was i.within in
-      (covered_put n s d (Number p) (omega (arith, low, h.1.count)) h.0 is, full_put s d (Number p) low h.1 i.words)
-  narrow_stays n s d p Length h e i = lengths_stay n s p (meet s.lengths p) h refl
-  narrow_stays n s d p Unset h e i = absurd i
-  narrow_stays n s d p (Pointer r t) h e i = absurd i
+    narrow_stays : (d : ℕ) (p : Interval) (l : Kind) → l ≡ kind_of s d → Narrows p l → IsRefinedAbove (Some n) (narrowed s d p l)
+    narrow_stays d p (Number a) e i =
+        let low = is_set s d h.1.count (subst IsNumeral e tt) in
+        let was : KindCovers s.lengths (kind_of n d) (Number a) = subst (KindCovers s.lengths (kind_of n d)) (sym e) (h.0.each d) in
+        let is = kind_covers_through s.lengths s.lengths (kind_of n d) (Number a) (Number p) (within_itself s.lengths) was i.within in
+        (covered_put n s d (Number p) (omega (arith, low, h.1.count)) h.0 is, full_put s d (Number p) low h.1 i.words)
+    narrow_stays d p Length e i = lengths_stay p (meet s.lengths p) refl
+    narrow_stays d p k e i = absurd i
 
-  number_leads : (n s : StateKinds) (d : ℕ) (q p : Interval) (o : Option Interval) → IsAbove n s → Length ≡ kind_of s d → IsPart p q
-      → meet s.lengths p ≡ o → IsRefinedAbove (Some (with_kind n d (Number q))) (option_map (with_lengths s) o)
-  number_leads n s d q p None h e i is = tt
-  number_leads n s d q p (Some j) h e i is =
-      let m = met s.lengths p j is in
-      let f = fewer n s j h m.left m.ordered in
-      let here : KindCovers j (Number q) (kind_of s d) = subst (KindCovers j (Number q)) e (within_through q p j i.within m.right) in
-      (cover_put n (with_lengths s j) d (Number q) f.0 here, f.1)
+    number_leads : (d : ℕ) (q p : Interval) (o : Option Interval) → Length ≡ kind_of s d → IsPart p q → meet s.lengths p ≡ o
+        → IsRefinedAbove (Some (with_kind n d (Number q))) (option_map (with_lengths s) o)
+    number_leads d q p None e i is = tt
+    number_leads d q p (Some j) e i is =
+        let m = met s.lengths p j is in
+        let f = fewer n s j h m.left m.ordered in
+        let here : KindCovers j (Number q) (kind_of s d) = subst (KindCovers j (Number q)) e (within_through q p j i.within m.right) in
+        (cover_put n (with_lengths s j) d (Number q) f.0 here, f.1)
 
-  lengths_lead : (n s : StateKinds) (q p : Interval) (o : Option Interval) → IsAbove n s → IsPart p q → meet s.lengths p ≡ o
-      → IsRefinedAbove (option_map (with_lengths n) (meet n.lengths q)) (option_map (with_lengths s) o)
-  lengths_lead n s q p None h i is = tt
-  lengths_lead n s q p (Some j) h i is =
-      let m = met s.lengths p j is in
-      let f = fewer n s j h m.left m.ordered in
-      let more = meets_more s.lengths p n.lengths q j h.0.lengths i.within m in
-      rw more.1 (record { lengths = more.2; each = f.0.each }, f.1)
+    lengths_lead : (q p : Interval) (o : Option Interval) → IsPart p q → meet s.lengths p ≡ o
+        → IsRefinedAbove (option_map (with_lengths n) (meet n.lengths q)) (option_map (with_lengths s) o)
+    lengths_lead q p None i is = tt
+    lengths_lead q p (Some j) i is =
+        let m = met s.lengths p j is in
+        let f = fewer n s j h m.left m.ordered in
+        let more = meets_more s.lengths p n.lengths q j h.0.lengths i.within m in
+        rw more.1 (record { lengths = more.2; each = f.0.each }, f.1)
 
-  narrow_leads : (n s : StateKinds) (d : ℕ) (q p : Interval) (k l : Kind) → IsAbove n s → k ≡ kind_of n d → l ≡ kind_of s d → IsNumeral k
-      → IsNumeral l → KindCovers s.lengths k l → IsPart p q → IsRefinedAbove (narrowed n d q k) (narrowed s d p l)
-  narrow_leads n s d q p (Number a) (Number b) h e f x y c i = put n s d (Number q) (Number p) (is_set s d h.1.count (subst IsNumeral f tt)) h (i.within, i.words)
-  narrow_leads n s d q p (Number a) Length h e f x y c i = number_leads n s d q p (meet s.lengths p) h f i refl
-  narrow_leads n s d q p Length Length h e f x y c i = lengths_lead n s q p (meet s.lengths p) h i refl
-  narrow_leads n s d q p Length (Number b) h e f x y c i = absurd c
-  narrow_leads n s d q p (Number a) l h e f x y c i = absurd y
-  narrow_leads n s d q p Length l h e f x y c i = absurd y
-  narrow_leads n s d q p k l h e f x y c i = absurd x
+    narrow_leads : (d : ℕ) (q p : Interval) (k l : Kind) → l ≡ kind_of s d → IsNumeral k → IsNumeral l → KindCovers s.lengths k l → IsPart p q
+        → IsRefinedAbove (narrowed n d q k) (narrowed s d p l)
+    narrow_leads d q p (Number a) (Number b) f x y c i = put n s d (Number q) (Number p) (is_set s d h.1.count (subst IsNumeral f tt)) h (i.within, i.words)
+    narrow_leads d q p (Number a) Length f x y c i = number_leads d q p (meet s.lengths p) f i refl
+    narrow_leads d q p Length Length f x y c i = lengths_lead q p (meet s.lengths p) i refl
+    narrow_leads d q p Length (Number b) f x y c i = absurd c
+    narrow_leads d q p (Number a) l f x y c i = absurd y
+    narrow_leads d q p Length l f x y c i = absurd y
+    narrow_leads d q p k l f x y c i = absurd x
 
   -- the other registers stay as they are
   same_other : (s t : StateKinds) (d e : ℕ) (k : Kind) → (d ≡ e → ⊥) → Some (with_kind s d k) ≡ Some t → kind_of t e ≡ kind_of s e
@@ -537,78 +529,87 @@ module _ (rows : RowsAreMonotone) where
 
   narrowed_other : (s t : StateKinds) (d e : ℕ) (p : Interval) (k : Kind) → (d ≡ e → ⊥) → narrowed s d p k ≡ Some t → kind_of t e ≡ kind_of s e
   narrowed_other s t d e p Length ne h = with_lengths_same s t e (meet s.lengths p) h
-  narrowed_other s t d e p Unset ne h = same_other s t d e (Number p) ne h
-  narrowed_other s t d e p (Number a) ne h = same_other s t d e (Number p) ne h
-  narrowed_other s t d e p (Pointer r a) ne h = same_other s t d e (Number p) ne h
+  narrowed_other s t d e p k ne h = same_other s t d e (Number p) ne h
 
   -- ---- branches
 
-  one_leads : (n s : StateKinds) (d : ℕ) (c a : Interval) (o p : Option (Interval × Interval)) → IsAbove n s → read_kind n d ≡ Number c
-      → read_kind s d ≡ Number a → LeavesLess p o → IsRefinedAbove (with_number n d o) (with_number s d p)
-  one_leads n s d c a o None h i j l = tt
-  one_leads n s d c a None (Some p) h i j l = absurd l
-  one_leads n s d c a (Some o) (Some p) h i j l =
-      narrow_leads n s d o.0 p.0 (kind_of n d) (kind_of s d) h refl refl (numeral n.lengths (kind_of n d) c i) (numeral s.lengths (kind_of s d) a j) (h.0.each d) l.0
+  -- what is read of a register in two states
+  abbrev Read : StateKinds → StateKinds → ℕ → Kind → Kind → Type 0
+  Read n s d k l = (read_kind n d ≡ k) × (read_kind s d ≡ l)
 
-  one_stays : (n s : StateKinds) (d : ℕ) (a b : Interval) (p : Option (Interval × Interval)) → IsAbove n s → read_kind s d ≡ Number a
-      → LeavesLess p (Some (a, b)) → IsRefinedAbove (Some n) (with_number s d p)
-  one_stays n s d a b None h j l = tt
-  one_stays n s d a b (Some p) h j l = narrow_stays n s d p.0 (kind_of s d) h refl (narrows_as s.lengths (kind_of s d) a p.0 j l.0)
+  -- the second register's part, after the first's
+  abbrev next : ℕ → Interval → Option StateKinds → Option StateKinds
+  next e p o = option_and_then (λ (t : StateKinds). narrowed t e p (kind_of t e)) o
 
-  by_number : (n s : StateKinds) (w : Width) (r : Relation) (taken : Bool) (d x : ℕ) {k l : Kind} → IsAbove n s → low (bits_of w) x < 2 ^ 64 → read_kind n d ≡ k → read_kind s d ≡ l → Less k l
-      → IsRefinedAbove (refined_by_number n w r taken d x k) (refined_by_number s w r taken d x l)
-  by_number n s w r taken d x h q i j (both (numbers {a = c} {b = a} part)) =
-      let one = single (low (bits_of w) x) in
-      one_leads n s d c a (branched (bits_of w) r taken c one) (branched (bits_of w) r taken a one) h i j (rows.branches w r taken a one c one part (itself (low (bits_of w) x) q))
-  by_number n s w r taken d x h q i j (unset {l = Number a}) =
-      let one = single (low (bits_of w) x) in
-      let word = itself (low (bits_of w) x) q in
-      one_stays n s d a one (branched (bits_of w) r taken a one) h j (rows.narrows w r taken a one (full_read s d a h.1 j) word.words)
-  by_number n s w r taken d x h q i j less = h
+  abbrev Each : (Kind → Type 0) → ℕ → Option StateKinds → Type 0
+  Each P e o = (t : StateKinds) → o ≡ Some t → P (kind_of t e)
 
-  then_leads : (e : ℕ) (q p : Interval) (o m : Option StateKinds) → IsRefinedAbove o m → ((u : StateKinds) → o ≡ Some u → IsNumeral (kind_of u e)) → ((t : StateKinds) → m ≡ Some t → IsNumeral (kind_of t e)) → IsPart p q
-      → IsRefinedAbove (option_and_then (λ (t : StateKinds). narrowed t e q (kind_of t e)) o) (option_and_then (λ (t : StateKinds). narrowed t e p (kind_of t e)) m)
+  then_leads : (e : ℕ) (q p : Interval) (o m : Option StateKinds) → IsRefinedAbove o m → Each IsNumeral e o → Each IsNumeral e m → IsPart p q
+      → IsRefinedAbove (next e q o) (next e p m)
   then_leads e q p o None h x y i = tt
   then_leads e q p None (Some t) h x y i = absurd h
-  then_leads e q p (Some u) (Some t) h x y i = narrow_leads u t e q p (kind_of u e) (kind_of t e) h refl refl (x u refl) (y t refl) (h.0.each e) i
+  then_leads e q p (Some u) (Some t) h x y i = narrow_leads u t h e q p (kind_of u e) (kind_of t e) refl (x u refl) (y t refl) (h.0.each e) i
 
-  two_lead : (n s : StateKinds) (d e : ℕ) (c a m b : Interval) (o p : Option (Interval × Interval)) → (d ≡ e → ⊥) → IsAbove n s → read_kind n d ≡ Number c → read_kind s d ≡ Number a → read_kind n e ≡ Number m → read_kind s e ≡ Number b → LeavesLess p o
-      → IsRefinedAbove (with_numbers n d e o) (with_numbers s d e p)
-  two_lead n s d e c a m b o None ne h i j x y l = tt
-  two_lead n s d e c a m b None (Some p) ne h i j x y l = absurd l
-  two_lead n s d e c a m b (Some o) (Some p) ne h i j x y l =
-      then_leads e o.1 p.1 (narrowed n d o.0 (kind_of n d)) (narrowed s d p.0 (kind_of s d))
-      (one_leads n s d c a (Some o) (Some p) h i j l)
-      (λ u is. subst IsNumeral (sym (narrowed_other n u d e o.0 (kind_of n d) ne is)) (numeral n.lengths (kind_of n e) m x))
-      (λ t is. subst IsNumeral (sym (narrowed_other s t d e p.0 (kind_of s d) ne is)) (numeral s.lengths (kind_of s e) b y))
-      l.1
-
-  then_stays : (n : StateKinds) (e : ℕ) (p : Interval) (m : Option StateKinds) → IsRefinedAbove (Some n) m
-      → ((t : StateKinds) → m ≡ Some t → Narrows p (kind_of t e))
-      → IsRefinedAbove (Some n) (option_and_then (λ (t : StateKinds). narrowed t e p (kind_of t e)) m)
+  then_stays : (n : StateKinds) (e : ℕ) (p : Interval) (m : Option StateKinds) → IsRefinedAbove (Some n) m → Each (Narrows p) e m
+      → IsRefinedAbove (Some n) (next e p m)
   then_stays n e p None h x = tt
-  then_stays n e p (Some t) h x = narrow_stays n t e p (kind_of t e) h refl (x t refl)
+  then_stays n e p (Some t) h x = narrow_stays n t h e p (kind_of t e) refl (x t refl)
 
-  two_stay : (n s : StateKinds) (d e : ℕ) (a b : Interval) (p : Option (Interval × Interval)) → (d ≡ e → ⊥) → IsAbove n s → read_kind s d ≡ Number a
-      → read_kind s e ≡ Number b → LeavesLess p (Some (a, b)) → IsRefinedAbove (Some n) (with_numbers s d e p)
-  two_stay n s d e a b None ne h i j k = tt
-  two_stay n s d e a b (Some p) ne h i j k =
-      then_stays n e p.1 (narrowed s d p.0 (kind_of s d)) (one_stays n s d a b (Some p) h i k)
-      (λ t is. subst (Narrows p.1) (sym (narrowed_other s t d e p.0 (kind_of s d) ne is)) (narrows_as s.lengths (kind_of s e) b p.1 j k.1))
+  module _ (n s : StateKinds) (h : IsAbove n s) where
+    one_leads : (d : ℕ) (c a : Interval) (o p : Option (Interval × Interval)) → Read n s d (Number c) (Number a) → LeavesLess p o
+        → IsRefinedAbove (with_number n d o) (with_number s d p)
+    one_leads d c a o None i l = tt
+    one_leads d c a None (Some p) i l = absurd l
+    one_leads d c a (Some o) (Some p) i l =
+        narrow_leads n s h d o.0 p.0 (kind_of n d) (kind_of s d) refl (numeral n.lengths _ c i.0) (numeral s.lengths _ a i.1) (h.0.each d) l.0
 
-  -- where one of the larger state's kinds is no number
-  two_less : (n s : StateKinds) (w : Width) (r : Relation) (taken : Bool) (d e : ℕ) (a b : Interval) → (d ≡ e → ⊥) → IsAbove n s
-      → read_kind s d ≡ Number a → read_kind s e ≡ Number b → IsRefinedAbove (Some n) (with_numbers s d e (branched (bits_of w) r taken a b))
-  two_less n s w r taken d e a b ne h i j = two_stay n s d e a b (branched (bits_of w) r taken a b) ne h i j (rows.narrows w r taken a b (full_read s d a h.1 i) (full_read s e b h.1 j))
+    one_stays : (d : ℕ) (a b : Interval) (p : Option (Interval × Interval)) → read_kind s d ≡ Number a → LeavesLess p (Some (a, b))
+        → IsRefinedAbove (Some n) (with_number s d p)
+    one_stays d a b None j l = tt
+    one_stays d a b (Some p) j l = narrow_stays n s h d p.0 (kind_of s d) refl (narrows_as s.lengths (kind_of s d) a p.0 j l.0)
 
-  by_register : (n s : StateKinds) (w : Width) (r : Relation) (taken : Bool) (d e : ℕ) {k l u v : Kind} → (d ≡ e → ⊥) → IsAbove n s → read_kind n d ≡ k → read_kind s d ≡ l → read_kind n e ≡ u → read_kind s e ≡ v → Less k l → Less u v
-      → IsRefinedAbove (refined_by_register n w r taken d e k u) (refined_by_register s w r taken d e l v)
-  by_register n s w r taken d e ne h x i y j (both (numbers {a = c} {b = a} f)) (both (numbers {a = m} {b = b} g)) =
-      two_lead n s d e c a m b (branched (bits_of w) r taken c m) (branched (bits_of w) r taken a b) ne h x i y j (rows.branches w r taken a b c m f g)
-  by_register n s w r taken d e ne h x i y j (unset {l = Number a}) (both (numbers {b = b} g)) = two_less n s w r taken d e a b ne h i j
-  by_register n s w r taken d e ne h x i y j (unset {l = Number a}) (unset {l = Number b}) = two_less n s w r taken d e a b ne h i j
-  by_register n s w r taken d e ne h x i y j (both (numbers {b = a} f)) (unset {l = Number b}) = two_less n s w r taken d e a b ne h i j
-  by_register n s w r taken d e ne h x i y j less other = h
+    by_number : (w : Width) (r : Relation) (taken : Bool) (d x : ℕ) {k l : Kind} → low (bits_of w) x < 2 ^ 64 → Read n s d k l → Less k l
+        → IsRefinedAbove (refined_by_number n w r taken d x k) (refined_by_number s w r taken d x l)
+    by_number w r taken d x q i (both (numbers {a = c} {b = a} part)) =
+        one_leads d c a (branched (bits_of w) r taken c _) (branched (bits_of w) r taken a _) i
+        (rows.branches w r taken a _ c _ part (itself (low (bits_of w) x) q))
+    by_number w r taken d x q i (unset {l = Number a}) =
+        let word = itself (low (bits_of w) x) q in
+        one_stays d a _ (branched (bits_of w) r taken a _) i.1 (rows.narrows w r taken a _ (full_read s d a h.1 i.1) word.words)
+    by_number w r taken d x q i less = h
+
+    two_lead : (d e : ℕ) (c a m b : Interval) (o p : Option (Interval × Interval)) → (d ≡ e → ⊥) → Read n s d (Number c) (Number a)
+        → Read n s e (Number m) (Number b) → LeavesLess p o → IsRefinedAbove (with_numbers n d e o) (with_numbers s d e p)
+    two_lead d e c a m b o None ne i x l = tt
+    two_lead d e c a m b None (Some p) ne i x l = absurd l
+    two_lead d e c a m b (Some o) (Some p) ne i x l =
+        then_leads e o.1 p.1 (narrowed n d o.0 (kind_of n d)) (narrowed s d p.0 (kind_of s d))
+        (one_leads d c a (Some o) (Some p) i l)
+        (λ u is. subst IsNumeral (sym (narrowed_other n u d e o.0 (kind_of n d) ne is)) (numeral n.lengths (kind_of n e) m x.0))
+        (λ t is. subst IsNumeral (sym (narrowed_other s t d e p.0 (kind_of s d) ne is)) (numeral s.lengths (kind_of s e) b x.1))
+        l.1
+
+    two_stay : (d e : ℕ) (a b : Interval) (p : Option (Interval × Interval)) → (d ≡ e → ⊥) → read_kind s d ≡ Number a → read_kind s e ≡ Number b
+        → LeavesLess p (Some (a, b)) → IsRefinedAbove (Some n) (with_numbers s d e p)
+    two_stay d e a b None ne i j k = tt
+    two_stay d e a b (Some p) ne i j k =
+        then_stays n e p.1 (narrowed s d p.0 (kind_of s d)) (one_stays d a b (Some p) i k)
+        (λ t is. subst (Narrows p.1) (sym (narrowed_other s t d e p.0 (kind_of s d) ne is)) (narrows_as s.lengths (kind_of s e) b p.1 j k.1))
+
+    -- where one of the larger state's kinds is no number
+    two_less : (w : Width) (r : Relation) (taken : Bool) (d e : ℕ) (a b : Interval) → (d ≡ e → ⊥) → read_kind s d ≡ Number a
+        → read_kind s e ≡ Number b → IsRefinedAbove (Some n) (with_numbers s d e (branched (bits_of w) r taken a b))
+    two_less w r taken d e a b ne i j =
+        two_stay d e a b (branched (bits_of w) r taken a b) ne i j (rows.narrows w r taken a b (full_read s d a h.1 i) (full_read s e b h.1 j))
+
+    by_register : (w : Width) (r : Relation) (taken : Bool) (d e : ℕ) {k l u v : Kind} → (d ≡ e → ⊥) → Read n s d k l → Read n s e u v
+        → Less k l → Less u v → IsRefinedAbove (refined_by_register n w r taken d e k u) (refined_by_register s w r taken d e l v)
+    by_register w r taken d e ne i j (both (numbers {a = c} {b = a} f)) (both (numbers {a = m} {b = b} g)) =
+        two_lead d e c a m b (branched (bits_of w) r taken c m) (branched (bits_of w) r taken a b) ne i j (rows.branches w r taken a b c m f g)
+    by_register w r taken d e ne i j (unset {l = Number a}) (both (numbers {b = b} g)) = two_less w r taken d e a b ne i.1 j.1
+    by_register w r taken d e ne i j (unset {l = Number a}) (unset {l = Number b}) = two_less w r taken d e a b ne i.1 j.1
+    by_register w r taken d e ne i j (both (numbers {b = a} f)) (unset {l = Number b}) = two_less w r taken d e a b ne i.1 j.1
+    by_register w r taken d e ne i j less other = h
 
   low_word : (w : Width) (x : ℕ) → low (bits_of w) x < 2 ^ 64
   low_word W32 x = let h : low 32 x < 2 ^ 32 = low_bound 32 x in omega (arith, h)
@@ -616,10 +617,10 @@ module _ (rows : RowsAreMonotone) where
 
   refined_less : (w : Width) (r : Relation) (taken : Bool) (d : ℕ) (x : Operand) (n s : StateKinds) → IsAbove n s
       → IsRefinedAbove (refined n w r taken d x) (refined s w r taken d x)
-  refined_less w r taken d (operands.Number z) n s h = by_number n s w r taken d (modulo 64 z) h (low_word w (modulo 64 z)) refl refl (less_at n s d h)
+  refined_less w r taken d (operands.Number z) n s h = by_number n s h w r taken d (modulo 64 z) (low_word w (modulo 64 z)) (refl, refl) (less_at n s h d)
   refined_less w r taken d (operands.Register e) n s h = elim (cases_eq d e) [
     | inl q ↦ rw (eq-eqb d e q) h
-    | inr ne ↦ rw (ne_eqb d e ne) (by_register n s w r taken d e ne h refl refl refl refl (less_at n s d h) (less_at n s e h))
+    | inr ne ↦ rw (ne_eqb d e ne) (by_register n s h w r taken d e ne (refl, refl) (refl, refl) (less_at n s h d) (less_at n s h e))
   ]
 
   some_left : (es fs : List (ℕ × StateKinds)) (e : ℕ × StateKinds) → SomeCovers es e → SomeCovers (es ++ fs) e
@@ -700,7 +701,7 @@ joined_full a b h i = record {
     at r = elim (cases_lt r 11) [
       | inl l ↦
           subst IsFullKind (sym (joined_kind a b r (omega (arith, l, h.count)) (omega (arith, l, i.count))))
-          (join_full a.lengths b.lengths (kind_of a r) (kind_of b r) (length_words a.lengths h.lengths) (length_words b.lengths i.lengths) (h.kinds r) (i.kinds r))
+          (join_full a.lengths b.lengths _ _ (length_words a.lengths h.lengths) (length_words b.lengths i.lengths) (h.kinds r) (i.kinds r))
       | inr g ↦ subst IsFullKind (sym (past (join_states a b) r (omega (arith, g, joined_count a b (h.count ∙ sym i.count), h.count)))) tt
     ]
 

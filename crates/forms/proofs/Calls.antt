@@ -29,11 +29,11 @@ AllHold [] = Unit {0}
 AllHold (t ∷ ts) = (t.0 ≡ true) × AllHold ts
 
 -- an accepted call passed its tests
-pub tested_ok : {A E : Type 0} (ts : Tests E) (r : Result A E) (y : A) → tested ts r ≡ Ok y → AllHold ts × (r ≡ Ok y)
-tested_ok [] r y h = (tt, h)
-tested_ok (t ∷ ts) r y h =
+pub tested-ok : {A E : Type 0} (ts : Tests E) (r : Result A E) (y : A) → tested ts r ≡ Ok y → AllHold ts × (r ≡ Ok y)
+tested-ok [] r y h = (tt, h)
+tested-ok (t ∷ ts) r y h =
     let first = passed t.0 t.1 (tested ts r) y h in
-    let rest = tested_ok ts r y first.1 in
+    let rest = tested-ok ts r y first.1 in
     ((first.0, rest.0), rest.1)
 
 -- where the tests hold, the rest follows
@@ -45,21 +45,21 @@ tested_pass (t ∷ ts) r h = ap (λ (b : Bool). cond b (tested ts r) (Err t.1)) 
 pub passes : {A B E : Type 0} (ts : Tests E) (value x : A) (rest : Result B E) → (let r : Result A E = Ok x in r) ≡ tested ts (Ok value)
     → (x ≡ value) × AllHold ts × (tested ts rest ≡ rest)
 passes ts value x rest h =
-    let ok = tested_ok ts (Ok value) x (sym h) in
+    let ok = tested-ok ts (Ok value) x (sym h) in
     (same_answer x value (sym ok.1), ok.0, tested_pass ts rest ok.0)
 
 -- ---- parts
 
 -- an accepted call's part was accepted, and so was the rest
-pub and_then_ok : {S A B E : Type 0} (r : Result (A × S) E) (rest : A → S → Result B E) (y : B) → and_then r rest ≡ Ok y
+pub and_then-ok : {S A B E : Type 0} (r : Result (A × S) E) (rest : A → S → Result B E) (y : B) → and_then r rest ≡ Ok y
     → (a : A × S) × (r ≡ Ok a) × (rest a.0 a.1 ≡ Ok y)
-and_then_ok (Ok a) rest y h = (a, refl, h)
-and_then_ok (Err e) rest y h = absurd (no_refusal e y h)
+and_then-ok (Ok a) rest y h = (a, refl, h)
+and_then-ok (Err e) rest y h = absurd (no_refusal e y h)
 
 -- an accepted call with another answer was accepted
-pub mapped_ok : {S A B E : Type 0} (f : A → B) (r : Result (A × S) E) (y : B × S) → mapped f r ≡ Ok y → (a : A × S) × (r ≡ Ok a) × ((f a.0, a.1) ≡ y)
-mapped_ok f (Ok a) y h = (a, refl, same_answer _ _ h)
-mapped_ok f (Err e) y h = absurd (no_refusal e y h)
+pub mapped-ok : {S A B E : Type 0} (f : A → B) (r : Result (A × S) E) (y : B × S) → mapped f r ≡ Ok y → (a : A × S) × (r ≡ Ok a) × ((f a.0, a.1) ≡ y)
+mapped-ok f (Ok a) y h = (a, refl, same_answer _ _ h)
+mapped-ok f (Err e) y h = absurd (no_refusal e y h)
 
 -- ---- what is done with another answer
 

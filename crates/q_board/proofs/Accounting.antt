@@ -15,7 +15,7 @@ use Rattle.q_board.specs.declared.view.Holder.{Holder}
 use Rattle.q_board.specs.declared.view.Holder.TheVariants.{Asker, Runner}
 use Rattle.q_board.proofs.Moves.{there}
 use Rattle.q_board.proofs.AskerSteps.{word_is, home_is}
-use Rattle.q_board.proofs.RunnerSteps.{held_is, held_yes}
+use Rattle.q_board.proofs.RunnerSteps.{held_by-some, held_yes}
 
 module _ (lanes : ℕ) (s : State Content Holder) (o : Orderly lanes s) where
   account : (i : ℕ) (p : Phase) → get_elem? o.phases i ≡ some p → Accounted s i (job_of p)
@@ -43,5 +43,5 @@ module _ (lanes : ℕ) (s : State Content Holder) (o : Orderly lanes s) where
   holds_own id v me i j near has =
       let t = there o.phases i (omega (arith, ap length o.words, length-map o.phases code)) in
       let number : v.number ≡ id = o.placed id (Runner v) me in
-      let p_is = held_is v.number t.0 j (some-injective (held_by v.number t.0) (Some j) (sym (o.fits id (Runner v) me i t.0 t.1) ∙ has)) in
+      let p_is = held_by-some v.number t.0 j (some-injective (held_by v.number t.0) (Some j) (sym (o.fits id (Runner v) me i t.0 t.1) ∙ has)) in
       word_is lanes s o i t.0 empty t.1 ∙ ap code p_is ∙ ap (λ (n : ℕ). 3 + n) number

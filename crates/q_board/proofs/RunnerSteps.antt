@@ -45,14 +45,14 @@ held_yes n j = ap (λ b. cond b (Some j) None) (eq-eqb n n refl)
 pub held_no : (n r : ℕ) (j : Job) → r ≢ n → held_by n (claimed r j) ≡ None
 held_no n r j ne = ap (λ b. cond b (Some j) None) (ne_eqb r n ne)
 
-pub held_is : (n : ℕ) (p : Phase) (j : Job) → held_by n p ≡ Some j → p ≡ claimed n j
-held_is n fresh j e = cc
-held_is n empty j e = cc
-held_is n (ready x) j e = cc
-held_is n (claimed r x) j e = dite (ℕ_discrete r n)
+pub held_by-some : (n : ℕ) (p : Phase) (j : Job) → held_by n p ≡ Some j → p ≡ claimed n j
+held_by-some n fresh j e = cc
+held_by-some n empty j e = cc
+held_by-some n (ready x) j e = cc
+held_by-some n (claimed r x) j e = dite (ℕ_discrete r n)
     (λ same. let y : x ≡ j = some_injective x j (sym (ap (λ b. cond b (Some x) None) (eq-eqb r n same)) ∙ e) in cc)
     (λ ne. let z : None ≡ Some j = sym (held_no n r x ne) ∙ e in cc)
-held_is n (finished d) j e = cc
+held_by-some n (finished d) j e = cc
 
 pub ready_code : (p : Phase) → code p ≡ 1 → (j : Job) × (p ≡ ready j)
 ready_code fresh e = absurd (omega arith)
@@ -138,7 +138,7 @@ module _ (lanes id : ℕ) (r : Running) (i : ℕ) (near : i < lanes) where
   finishes more d mine s o wide me small =
       let f = o.fits id (Runner r) me in
       let t = there o.phases i (omega (arith, o.count)) in let p = t.0 in
-      let p_is = held_is r.number p d.job (some-injective (held_by r.number p) (Some d.job) (sym (f i p t.1) ∙ mine)) in
+      let p_is = held_by-some r.number p d.job (some-injective (held_by r.number p) (Some d.job) (sym (f i p t.1) ∙ mine)) in
       let c : Phase = claimed r.number d.job in
       let is : get_elem? o.phases i ≡ some c = t.1 ∙ ap (λ (y : Phase). some y) p_is in (
         Runner (finishing r i (cell.Finished d)),
@@ -161,7 +161,7 @@ module _ (lanes id : ℕ) (r : Running) (i : ℕ) (near : i < lanes) where
   gives_back more j mine s o wide me small =
       let f = o.fits id (Runner r) me in
       let t = there o.phases i (omega (arith, o.count)) in let p = t.0 in
-      let p_is = held_is r.number p j (some-injective (held_by r.number p) (Some j) (sym (f i p t.1) ∙ mine)) in
+      let p_is = held_by-some r.number p j (some-injective (held_by r.number p) (Some j) (sym (f i p t.1) ∙ mine)) in
       let c : Phase = claimed r.number j in
       let is : get_elem? o.phases i ≡ some c = t.1 ∙ ap (λ (y : Phase). some y) p_is in (
         Runner (returning r i),

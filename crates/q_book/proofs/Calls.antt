@@ -30,7 +30,7 @@ use Rattle.q_book.specs.Books.{present, asking, storing, taking, by_desk, by_nod
 use Rattle.q_book.specs.Replays.{IsBook}
 use Rattle.q_desk.proofs.Accepted.{same_answer, no_refusal}
 use Rattle.q_desk.proofs.Changes.{handed_after}
-use Rattle.q_book.proofs.Parts.{noted_is}
+use Rattle.q_book.proofs.Parts.{noted-ok}
 use Rattle.q_book.proofs.Replays.{with, book_next}
 
 -- where a book passed its tests, they hold of it by its fields
@@ -93,7 +93,7 @@ pub noted_call : {A : Type 0} (d : DeskState) (e : Entry) (r : Result (A × Node
     → desk.noting d e r ≡ Ok (a, (x, n)) → (desk.with_entry d e ≡ x) × (r ≡ Ok (a, n))
 noted_call {A} d e r a x n h =
     let w = with_node-ok (λ u (y : A). y) (desk.noted d e) r (a, (x, n)) h in (
-      ap (λ (p : Unit {0} × DeskState). p.1) (noted_is d e w.0 w.1) ∙ ap (λ (p : A × (DeskState × NodeState)). p.1.0) w.4,
+      ap (λ (p : Unit {0} × DeskState). p.1) (noted-ok d e w.0 w.1) ∙ ap (λ (p : A × (DeskState × NodeState)). p.1.0) w.4,
       w.3 ∙ ap (λ (p : A × (DeskState × NodeState)). let y : Result (A × NodeState) Reason = Ok (p.0, p.1.1) in y) w.4,
     )
 

@@ -17,11 +17,11 @@ use Rattle.q_desk.specs.State.{DeskState}
 use Rattle.q_desk.specs.Desks as desk
 use Rattle.q_desk.specs.declared.journal.Entry.{Entry}
 use Rattle.forms.specs.Calls.{mapped}
-use Rattle.forms.proofs.Calls.{mapped_ok}
+use Rattle.forms.proofs.Calls.{mapped-ok}
 use Rattle.q_desk.specs.declared.journal.Call.{Call}
 use Rattle.q_desk.specs.declared.journal.Call.TheVariants as call
 use Rattle.q_desk.specs.declared.journal.Entry.TheVariants as entry
-use Rattle.q_desk.proofs.Accepted.{Keeps, IsPosted, posted_is, posted_one, same_answer, collect_tag}
+use Rattle.q_desk.proofs.Accepted.{Keeps, IsPosted, posted-ok, posted_one, same_answer, collect_tag}
 use Rattle.q_desk.proofs.Changes.{Told, idle, left, began, took, Change, GoesOn, IsAfter, after_keeps, noted_after, registered_after, asked_after, ended_after, IsHanded, handed_after, posted_after}
 use Rattle.q_book.specs.State.{BookState}
 use Rattle.q_book.specs.Books as book
@@ -33,7 +33,7 @@ use Rattle.q_book.specs.declared.reply.Reply.TheVariants as reply
 use Rattle.q_book.specs.declared.answer.Asked.{Asked}
 use Rattle.q_book.specs.declared.answer.Delivery.{Delivery}
 use Rattle.reasons.specs.declared.Reason.{Reason}
-use Rattle.q_book.proofs.Parts.{is_there, left-parts, stored-parts, asked-parts, delivered-parts, desk-parts, stored-fits, delivered-fits}
+use Rattle.q_book.proofs.Parts.{is_there, left-ok, stored-ok, asked-ok, delivered-ok, desk-ok, stored-fits, delivered-fits}
 
 -- ---- what is said of a call
 
@@ -134,7 +134,7 @@ module _ (b : BookState) where
 
   left-accepted : (z : List Message × BookState) → book.left b ≡ Ok z → Accepts b call.Leave (reply.Left z.0) z.1
   left-accepted z h =
-      let a = left-parts b z h in
+      let a = left-ok b z h in
       let e = entry.Call call.Leave in
       let y = book.leaves b (desk.with_entry b.desk e) a.0.0 a.0.1 in
       subst (λ (x : List Message × BookState). Accepts b call.Leave (reply.Left x.0) x.1) a.2
@@ -144,7 +144,7 @@ module _ (b : BookState) where
 
   stored-accepted : (value : List ℕ) (z : Begun × BookState) → book.stored b value ≡ Ok z → Accepts b (call.Store value) (reply.Stored value z.0) z.1
   stored-accepted value z h =
-      let a = stored-parts b value z h in
+      let a = stored-ok b value z h in
       let e = entry.Call (call.Store value) in
       let y = book.stores b (desk.with_entry b.desk e) a.0.0 a.0.1 in
       let fits = told_is (length value) (value_lengths b.version) (stored-fits b value z h) in
@@ -156,7 +156,7 @@ module _ (b : BookState) where
   delivered-accepted : (m : Message) (z : Delivery × BookState) → book.delivered b m ≡ Ok z
       → IsAccepted b (entry.Deliver m) (Delivers m) (taken z.0 (ended_by (node.delivered b.node m))) z.1
   delivered-accepted m z h =
-      let a = delivered-parts b m z h in
+      let a = delivered-ok b m z h in
       let ended = ended_by (node.delivered b.node m) in
       let ends : ended ≡ a.0.0.ended = ap ended_by a.1 in
       let x = book.delivers b (desk.with_entry b.desk (entry.Deliver m)) a.0.0 a.0.1 in
@@ -167,7 +167,7 @@ module _ (b : BookState) where
 
   asked-accepted : (program start : ℕ) (z : Asked × BookState) → book.asked b program start ≡ Ok z → Accepts b (call.Ask program start) (reply.Asked z.0) z.1
   asked-accepted program start z h =
-      let a = asked-parts b program start z h in
+      let a = asked-ok b program start z h in
       let e = entry.Call (call.Ask program start) in
       let begun = a.2.0 in
       let y = book.asks b a.0.0 a.0.1 begun a.2.1 in
@@ -179,7 +179,7 @@ module _ (b : BookState) where
   registered-accepted : (program : Certificate) (z : ℕ × BookState) → book.registered b program ≡ Ok z
       → Accepts b (call.Register program) (reply.Registered z.0) z.1
   registered-accepted program z h =
-      let a = desk-parts b (desk.registered b.desk program) z h in
+      let a = desk-ok b (desk.registered b.desk program) z h in
       let e = entry.Call (call.Register program) in
       let y : ℕ × BookState = (a.0.0, record b { desk = a.0.1 }) in
       subst (λ (x : ℕ × BookState). Accepts b (call.Register program) (reply.Registered x.0) x.1) a.2
@@ -189,7 +189,7 @@ module _ (b : BookState) where
 
   pub handed-accepted : (j : Job) (c : BookState) → book.handed_out b ≡ Ok (Some j, c) → Accepts b call.HandOut (reply.HandedOut (Some j)) c
   handed-accepted j c h =
-      let a = desk-parts b (desk.handed_out b.desk b.id) (Some j, c) h in
+      let a = desk-ok b (desk.handed_out b.desk b.id) (Some j, c) h in
       let e = entry.Call call.HandOut in
       let first : a.0.0 ≡ Some j = ap (λ (x : Option Job × BookState). x.0) a.2 in
       let after = subst (IsHanded b.desk b.id a.0.1) first (handed_after b.desk b.id a.0 a.1) in
@@ -201,7 +201,7 @@ module _ (b : BookState) where
   -- where no query is ready, nothing changes
   pub none-handed : (c : BookState) → book.handed_out b ≡ Ok (None, c) → b ≡ c
   none-handed c h =
-      let a = desk-parts b (desk.handed_out b.desk b.id) (None, c) h in
+      let a = desk-ok b (desk.handed_out b.desk b.id) (None, c) h in
       let none : a.0.0 ≡ None = ap (λ (x : Option Job × BookState). x.0) a.2 in
       let kept = subst (IsHanded b.desk b.id a.0.1) none (handed_after b.desk b.id a.0 a.1) in
       ap (λ (d : DeskState). let y : BookState = record b { desk = d } in y) kept ∙ ap (λ (x : Option Job × BookState). x.1) a.2
@@ -213,7 +213,7 @@ module _ (b : BookState) where
   -- what a call answers is what is said of its part
   by_reply : {A : Type 0} (g : A → Reply) (r : Result (A × BookState) Reason) (P : Reply × BookState → Type 0)
       → ((z : A × BookState) → r ≡ Ok z → P (g z.0, z.1)) → (y : Reply × BookState) → mapped g r ≡ Ok y → P y
-  by_reply g r P each y h = let m = mapped_ok g r y h in subst P m.2 (each m.0 m.1)
+  by_reply g r P each y h = let m = mapped-ok g r y h in subst P m.2 (each m.0 m.1)
 
   called-accepted : (k : Call) (y : Reply × BookState) → called b k ≡ Ok y → IsNoted y.0 → Accepts b k y.0 y.1
   called-accepted call.Leave y h noted = by_reply reply.Left (book.left b) (λ (x : Reply × BookState). Accepts b call.Leave x.0 x.1) left-accepted y h
@@ -237,20 +237,20 @@ module _ (b : BookState) where
   none-called (call.Ask program start) c h = absurd (no_job reply.Asked (book.asked b program start) c (λ a. tt) h)
   none-called (call.Store value) c h = absurd (no_job (reply.Stored value) (book.stored b value) c (λ a. tt) h)
   none-called call.HandOut c h =
-      let m = mapped_ok reply.HandedOut (book.handed_out b) (reply.HandedOut None, c) h in
+      let m = mapped-ok reply.HandedOut (book.handed_out b) (reply.HandedOut None, c) h in
       none-handed c (m.1 ∙ (λ i. let r : Result (Option Job × BookState) Reason = Ok (ap (λ (x : Reply × BookState). reply_job x.0) m.2 i, ap (λ (x : Reply × BookState). x.1) m.2 i) in r))
 
   -- the answer is recorded
   pub is_posted : (j : Job) (ran : Ran) (c : BookState) → book.posted b j ran ≡ Ok (tt, c) → ((j.node == b.id) ≡ true) × IsPosted b.desk j ran c.desk
   is_posted j ran c h =
-      let a = desk-parts b (desk.posted b.desk b.id j ran) (tt, c) h in
-      let p = posted_is b.desk j ran a.0 b.id a.1 in
+      let a = desk-ok b (desk.posted b.desk b.id j ran) (tt, c) h in
+      let p = posted-ok b.desk j ran a.0 b.id a.1 in
       (p.0, subst (IsPosted b.desk j ran) (ap (λ (x : Unit {0} × BookState). x.1.desk) a.2) p.1)
 
   pub posted-accepted : (j : Job) (ran : Ran) (c : BookState) → book.posted b j ran ≡ Ok (tt, c)
       → IsAccepted b (entry.Post j.query ran) Idles (idle (Some (j, ran))) c
   posted-accepted j ran c h =
-      let a = desk-parts b (desk.posted b.desk b.id j ran) (tt, c) h in
+      let a = desk-ok b (desk.posted b.desk b.id j ran) (tt, c) h in
       subst (λ (x : Unit {0} × BookState). IsAccepted b (entry.Post j.query ran) Idles (idle (Some (j, ran))) x.1) a.2
       (made (entry.Post j.query ran) Idles (idle (Some (j, ran))) b.node a.0.1 None (is_there b _ (tt, c) h) (refl, refl) refl refl (posted_after b.desk b.id j ran a.0 a.1) tt)
 
@@ -271,15 +271,15 @@ module _ (b : BookState) where
   same_next {A} r x y c d f g = ap (λ (p : A × BookState). p.1) (same_answer {A = A × BookState} (x, c) (y, d) (sym f ∙ g))
 
   -- a post changes the desk alone
-  pub post_is : (j : Job) (ran : Ran) (c : BookState) → book.posted b j ran ≡ Ok (tt, c) → record b { desk = c.desk } ≡ c
-  post_is j ran c h =
-      let is = ap (λ (x : Unit {0} × BookState). x.1) (desk-parts b (desk.posted b.desk b.id j ran) (tt, c) h).2 in
+  pub book_posted-ok : (j : Job) (ran : Ran) (c : BookState) → book.posted b j ran ≡ Ok (tt, c) → record b { desk = c.desk } ≡ c
+  book_posted-ok j ran c h =
+      let is = ap (λ (x : Unit {0} × BookState). x.1) (desk-ok b (desk.posted b.desk b.id j ran) (tt, c) h).2 in
       ap (λ (x : BookState). let y : BookState = record b { desk = x.desk } in y) (sym is) ∙ is
 
   same_post : (i j : Job) (ran : Ran) (c d : BookState) → i.query ≡ j.query → book.posted b i ran ≡ Ok (tt, c) → book.posted b j ran ≡ Ok (tt, d) → c ≡ d
   same_post i j ran c d query f g =
       let desks = posted_one b.desk i j ran c.desk d.desk query (is_posted i ran c f).1 (is_posted j ran d g).1 in
-      sym (post_is i ran c f) ∙ ap (λ (x : DeskState). let y : BookState = record b { desk = x } in y) desks ∙ post_is j ran d g
+      sym (book_posted-ok i ran c f) ∙ ap (λ (x : DeskState). let y : BookState = record b { desk = x } in y) desks ∙ book_posted-ok j ran d g
 
   pub follows_one : (c d : BookState) (e : Entry) → Follows b e c → Follows b e d → c ≡ d
   follows_one c d (entry.Call k) f g = same_next (called b k) f.0 g.0 c d f.1 g.1

@@ -1,7 +1,7 @@
 -- What posts and hand-outs add to a book's journal, and why a post is refused.
 use Rattle.std.proofs.Common.{◌≡◌, Bool, true, false, inl, inr, Option, Some, None, Result, Ok, Err, refl, sym, ◌∙◌, subst, if◌then◌else◌}
 use Rattle.std.specs.Prelude.{slice_get, ◌==◌}
-use Rattle.forms.proofs.Calls.{tested_ok, tested_pass}
+use Rattle.forms.proofs.Calls.{tested-ok, tested_pass}
 use Rattle.q_session.specs.declared.ran.Ran.{Ran}
 use Rattle.q_session.specs.declared.job.Job.{Job}
 use Rattle.q_session.specs.declared.query.Phase.{Phase}
@@ -69,7 +69,7 @@ desk-fault b (Err f) e faults h = let same : f ≡ e = cc in subst IsResultFault
 pub room_leaves : RoomLeavesResultFaults
 room_leaves b j ran e room h =
     let none : Result (Unit {0}) Reason = Ok tt in
-    let hold = (tested_ok (posting b) none tt room).0 in
+    let hold = (tested-ok (posting b) none tt room).0 in
     let r : Desked (Unit {0}) = desk.posted b.desk b.id j ran in
     desk-fault b r e (λ f. own-fault (j.node == b.id) b.desk j ran (slice_get b.desk.queries j.query) f hold.1.0)
     (sym (tested_pass (present b) (by_desk (with_desk b) r) (hold.0, tt)) ∙ h)

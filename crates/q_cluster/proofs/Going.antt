@@ -19,7 +19,7 @@ use Rattle.q_session.specs.declared.job.Job.{Job}
 use Rattle.q_session.specs.declared.ran.Ran.{Ran}
 use Rattle.q_book.specs.State.{BookState}
 use Rattle.q_book.specs.Books as book
-use Rattle.q_book.proofs.Parts.{delivered-parts}
+use Rattle.q_book.proofs.Parts.{delivered-ok}
 use Rattle.q_book.specs.declared.answer.Delivery.{Delivery}
 use Rattle.reasons.specs.declared.Reason.{Reason}
 use Rattle.reasons.specs.declared.Reason.TheVariants.{OutOfMemory as memory}
@@ -150,7 +150,7 @@ module _ {A : Type 0} {version : Version} {books : BookMap} {past : Past} {jobs 
 told_by : (b : BookState) (m : Message) (a : Delivery) (b' : BookState) → book.delivered b m ≡ Ok (a, b')
     → (t : Delivered) × (n : NodeState) × (node.delivered b.node m ≡ Ok (t, n)) × (t.progress ≡ a.progress)
 told_by b m a b' h =
-    let p = delivered-parts b m (a, b') h in
+    let p = delivered-ok b m (a, b') h in
     (p.0.0, p.0.1, p.1, ap (λ (x : Delivery × BookState). x.0.progress) p.2)
 
 -- so what was made ready for it is right

@@ -4,8 +4,8 @@ use Rattle.std.proofs.lemmas.List.Quantifiers.{position-Some}
 use Rattle.std.proofs.lemmas.Option.{get_or_from_slice_get}
 use Rattle.std.specs.Prelude.{◌&&◌}
 use Rattle.std.specs.Cmp.{first_so, second_so, unsigned_Decides}
-pub use Rattle.forms.proofs.Calls.{same_answer, no_refusal, passed, tested_ok}
-use Rattle.forms.proofs.Calls.{and_then_ok}
+pub use Rattle.forms.proofs.Calls.{same_answer, no_refusal, passed, tested-ok}
+use Rattle.forms.proofs.Calls.{and_then-ok}
 use Rattle.bq_range.specs.Interval.{Interval}
 use Rattle.sc_view.specs.Views.{ViewMap}
 use Rattle.sc_node.specs.Nodes as node
@@ -77,17 +77,17 @@ pub registered_checked : (d : DeskState) (program : Certificate) (y : ℕ × Des
 registered_checked d program y h = same_lengths program.lengths d.lengths (passed (desk.is_checked_for d.lengths program) reasons.WrongBounds _ y h).0
 
 -- the table has the program under an id, and the call's entry stands in the journal
-pub registered_is : (d : DeskState) (program : Certificate) (y : ℕ × DeskState) → desk.registered d program ≡ Ok y
+pub registered-ok : (d : DeskState) (program : Certificate) (y : ℕ × DeskState) → desk.registered d program ≡ Ok y
     → (z : ℕ × List Certificate) × (table.registered d.programs program ≡ Ok z)
     × ((z.0, desk.with_entry (record d { programs = z.1 }) (entry.Call (call.Register program))) ≡ y)
-registered_is d program y h =
+registered-ok d program y h =
     let fits = passed (desk.is_checked_for d.lengths program) reasons.WrongBounds _ y h in
-    let z = and_then_ok (table.registered d.programs program) (desk.registers d program) y fits.1 in
-    (z.0, z.1, same_answer _ y (tested_ok (desk.room d) _ y z.2).1)
+    let z = and_then-ok (table.registered d.programs program) (desk.registers d program) y fits.1 in
+    (z.0, z.1, same_answer _ y (tested-ok (desk.room d) _ y z.2).1)
 
 -- a collect has the tag that is the node's next
 pub collect_tag : (n later : NodeState) (a : Begun) → node.collect_begun n ≡ Ok (a, later) → a.tag ≡ n.operations
-collect_tag n later a h = sym (ap (λ (x : Begun × NodeState). x.0.tag) (same_answer _ (a, later) (tested_ok (node.opening n) _ (a, later) h).1))
+collect_tag n later a h = sym (ap (λ (x : Begun × NodeState). x.0.tag) (same_answer _ (a, later) (tested-ok (node.opening n) _ (a, later) h).1))
 
 -- ---- the job that is handed out
 
@@ -102,24 +102,24 @@ pub record IsReadyJob (d : DeskState) (node : ℕ) (j : Job) : Type 0 where
   pub certified : slice_get d.programs j.program ≡ Some j.certified
 
 module _ (d : DeskState) (node : ℕ) where
-  job_is : (k : ℕ) (q : Query) (p : Phase) (c : Option Certificate) (j : Job) → slice_get d.queries k ≡ Some q → q.phase ≡ p
+  job_on-some : (k : ℕ) (q : Query) (p : Phase) (c : Option Certificate) (j : Job) → slice_get d.queries k ≡ Some q → q.phase ≡ p
       → slice_get d.programs q.program ≡ c → desk.job_on node k q (desk.ready_view p) c ≡ Some j → IsReadyJob d node j
-  job_is k q (Ready view) (Some c) j at is named h = subst (IsReadyJob d node) (same_some _ j h) (record { query = q; at = at; phase = is; by = refl; program = refl; start = refl; certified = named })
-  job_is k q (Ready view) None j at is named h = absurd (no_some j h)
-  job_is k q Collecting c j at is named h = absurd (no_some j h)
-  job_is k q (Running view) c j at is named h = absurd (no_some j h)
-  job_is k q (Answered view ran) c j at is named h = absurd (no_some j h)
+  job_on-some k q (Ready view) (Some c) j at is named h = subst (IsReadyJob d node) (same_some _ j h) (record { query = q; at = at; phase = is; by = refl; program = refl; start = refl; certified = named })
+  job_on-some k q (Ready view) None j at is named h = absurd (no_some j h)
+  job_on-some k q Collecting c j at is named h = absurd (no_some j h)
+  job_on-some k q (Running view) c j at is named h = absurd (no_some j h)
+  job_on-some k q (Answered view ran) c j at is named h = absurd (no_some j h)
 
-  job_at-is : (k : ℕ) (o : Option Query) (j : Job) → slice_get d.queries k ≡ o → desk.job_at desk.ready_view d node k o ≡ Some j → IsReadyJob d node j
-  job_at-is k None j at h = absurd (no_some j h)
-  job_at-is k (Some q) j at h = job_is k q q.phase (slice_get d.programs q.program) j at refl refl h
+  job_at-some : (k : ℕ) (o : Option Query) (j : Job) → slice_get d.queries k ≡ o → desk.job_at desk.ready_view d node k o ≡ Some j → IsReadyJob d node j
+  job_at-some k None j at h = absurd (no_some j h)
+  job_at-some k (Some q) j at h = job_on-some k q q.phase (slice_get d.programs q.program) j at refl refl h
 
-  job_from-is : (o : Option ℕ) (j : Job) → desk.job_from d node o ≡ Some j → IsReadyJob d node j
-  job_from-is None j h = absurd (no_some j h)
-  job_from-is (Some k) j h = job_at-is k (slice_get d.queries k) j refl h
+  job_from-some : (o : Option ℕ) (j : Job) → desk.job_from d node o ≡ Some j → IsReadyJob d node j
+  job_from-some None j h = absurd (no_some j h)
+  job_from-some (Some k) j h = job_at-some k (slice_get d.queries k) j refl h
 
-  pub next_is : (j : Job) → desk.next_job d node ≡ Some j → IsReadyJob d node j
-  next_is j h = job_from-is (position (λ (q : Query). desk.is_ready q.phase) d.queries) j h
+  pub next_job-some : (j : Job) → desk.next_job d node ≡ Some j → IsReadyJob d node j
+  next_job-some j h = job_from-some (position (λ (q : Query). desk.is_ready q.phase) d.queries) j h
 
 -- ---- the answer that is recorded
 
@@ -138,12 +138,12 @@ pub record IsPosted (d : DeskState) (j : Job) (ran : Ran) (e : DeskState) : Type
   pub is : answered d j.query view ran ≡ e
 
 module _ (d : DeskState) (j : Job) (ran : Ran) (y : Unit {0} × DeskState) where
-  posted_to-is : (q : Query) (p : Phase) → slice_get d.queries j.query ≡ Some q → q.phase ≡ p → desk.posted_to d j ran q p ≡ Ok y → IsPosted d j ran y.1
-  posted_to-is q Collecting at is h = absurd (no_refusal _ y h)
-  posted_to-is q (Ready view) at is h = absurd (no_refusal _ y h)
-  posted_to-is q (Answered view old) at is h = absurd (no_refusal _ y h)
-  posted_to-is q (Running view) at is h =
-      let a = tested_ok ((desk.is_job_of d.programs j q view, reasons.Stranger) ∷ desk.room d) _ y h in
+  posted_to-ok : (q : Query) (p : Phase) → slice_get d.queries j.query ≡ Some q → q.phase ≡ p → desk.posted_to d j ran q p ≡ Ok y → IsPosted d j ran y.1
+  posted_to-ok q Collecting at is h = absurd (no_refusal _ y h)
+  posted_to-ok q (Ready view) at is h = absurd (no_refusal _ y h)
+  posted_to-ok q (Answered view old) at is h = absurd (no_refusal _ y h)
+  posted_to-ok q (Running view) at is h =
+      let a = tested-ok ((desk.is_job_of d.programs j q view, reasons.Stranger) ∷ desk.room d) _ y h in
       record {
         query = q;
         view = view;
@@ -154,15 +154,15 @@ module _ (d : DeskState) (j : Job) (ran : Ran) (y : Unit {0} × DeskState) where
         is = ap (λ (z : Unit {0} × DeskState). z.1) (same_answer _ y a.1);
       }
 
-  posted_at-is : (o : Option Query) → slice_get d.queries j.query ≡ o → desk.posted_at d j ran o ≡ Ok y → IsPosted d j ran y.1
-  posted_at-is None at h = absurd (no_refusal _ y h)
-  posted_at-is (Some q) at h = posted_to-is q q.phase at refl h
+  posted_at-ok : (o : Option Query) → slice_get d.queries j.query ≡ o → desk.posted_at d j ran o ≡ Ok y → IsPosted d j ran y.1
+  posted_at-ok None at h = absurd (no_refusal _ y h)
+  posted_at-ok (Some q) at h = posted_to-ok q q.phase at refl h
 
   -- the job is this node's, and its answer is recorded
-  pub posted_is : (node : ℕ) → desk.posted d node j ran ≡ Ok y → ((j.node == node) ≡ true) × IsPosted d j ran y.1
-  posted_is node h =
+  pub posted-ok : (node : ℕ) → desk.posted d node j ran ≡ Ok y → ((j.node == node) ≡ true) × IsPosted d j ran y.1
+  posted-ok node h =
       let own = passed (j.node == node) reasons.Stranger _ y h in
-      (own.0, posted_at-is (slice_get d.queries j.query) refl own.1)
+      (own.0, posted_at-ok (slice_get d.queries j.query) refl own.1)
 
 same_running : (v w : ViewMap) → Running v ≡ Running w → v ≡ w
 same_running v w h = cc

@@ -23,7 +23,7 @@ use Rattle.q_desk.specs.Desks as desk
 use Rattle.q_desk.specs.declared.journal.Entry.{Entry}
 use Rattle.q_desk.specs.declared.journal.Call.TheVariants as call
 use Rattle.q_desk.specs.declared.journal.Entry.TheVariants as entry
-use Rattle.q_desk.proofs.Accepted.{HasNone, Keeps, same_some, no_some, same_answer, passed, tested_ok, get_elsewhere, found, registered_is, IsReadyJob, next_is, posted_is}
+use Rattle.q_desk.proofs.Accepted.{HasNone, Keeps, same_some, no_some, same_answer, passed, tested-ok, get_elsewhere, found, registered-ok, IsReadyJob, next_job-some, posted-ok}
 use Rattle.q_desk.proofs.Lists.{get-front, get-snoc, get-written}
 
 -- ---- what is told of a call
@@ -180,14 +180,14 @@ module _ (d : DeskState) (node : ℕ) where
   pub registered_after : (program : Certificate) (y : ℕ × DeskState) → desk.registered d program ≡ Ok y
       → IsAfter d node (idle None) (entry.Call (call.Register program)) y.1 None
   registered_after program y h =
-      let z = registered_is d program y h in
+      let z = registered-ok d program y h in
       subst (λ (x : ℕ × DeskState). IsAfter d node (idle None) (entry.Call (call.Register program)) x.1 None) z.2
       (record { change = grows (more_programs program (table.id_of d.programs program.text) z.0 z.1) refl; lengths = refl; adds = refl })
 
   pub asked_after : (tag program start : ℕ) (a : Begun) (y : ℕ × DeskState) → a.tag ≡ tag → desk.asked d tag program start ≡ Ok y
       → IsAfter d node (began a) (entry.Call (call.Ask program start)) y.1 None
   asked_after tag program start a y tagged h =
-      subst (λ (x : ℕ × DeskState). IsAfter d node (began a) (entry.Call (call.Ask program start)) x.1 None) (same_answer _ y (tested_ok (desk.beginning d program) _ y h).1)
+      subst (λ (x : ℕ × DeskState). IsAfter d node (began a) (entry.Call (call.Ask program start)) x.1 None) (same_answer _ y (tested-ok (desk.beginning d program) _ y h).1)
       (record {
         change = begins (desk.begun tag program start) (record { by = a; told = refl; tagged = tagged; phase = refl }) refl refl;
         lengths = refl;
@@ -239,7 +239,7 @@ module _ (d : DeskState) (node : ℕ) where
   hands_after None y ready h = subst (λ (z : Option Job × DeskState). IsHanded z.1 z.0) (same_answer _ y h) refl
   hands_after (Some j) y ready h =
       let r = ready j refl in
-      subst (λ (z : Option Job × DeskState). IsHanded z.1 z.0) (same_answer _ y (tested_ok (desk.room d) _ y h).1)
+      subst (λ (z : Option Job × DeskState). IsHanded z.1 z.0) (same_answer _ y (tested-ok (desk.room d) _ y h).1)
       (record {
         change = rephased j.query r.query (Running j.view) r.at (handed j r refl refl refl) refl (ap (desk.in_phase d.queries j.query (Running j.view)) r.at);
         lengths = refl;
@@ -247,12 +247,12 @@ module _ (d : DeskState) (node : ℕ) where
       })
 
   pub handed_after : (y : Option Job × DeskState) → desk.handed_out d node ≡ Ok y → IsHanded y.1 y.0
-  handed_after y h = hands_after (desk.next_job d node) y (next_is d node) h
+  handed_after y h = hands_after (desk.next_job d node) y (next_job-some d node) h
 
   pub posted_after : (j : Job) (ran : Ran) (y : Unit {0} × DeskState) → desk.posted d node j ran ≡ Ok y
       → IsAfter d node (idle (Some (j, ran))) (entry.Post j.query ran) y.1 None
   posted_after j ran y h =
-      let p = (posted_is d j ran y node h).1 in
+      let p = (posted-ok d j ran y node h).1 in
       subst (λ (z : DeskState). IsAfter d node (idle (Some (j, ran))) (entry.Post j.query ran) z None) p.is
       (record {
         change = rephased j.query p.query (Answered p.view ran) p.at (recorded j p.view ran refl p.phase p.fits refl refl) refl

@@ -24,7 +24,7 @@ use Rattle.q_session.specs.Records.{HasRecordsWithin}
 use Rattle.q_desk.specs.Answers.{IsAnswered}
 use Rattle.q_desk.specs.Keeping.{IsDesk, ProgramsFit, ViewsFit, MayAllRun}
 use Rattle.q_desk.proofs.Running.{run-handed, run-some}
-use Rattle.q_desk.proofs.Accepted.{IsReadyJob, next_is, passed}
+use Rattle.q_desk.proofs.Accepted.{IsReadyJob, next_job-some, passed}
 use Rattle.q_desk.proofs.Keeps.{IsAppended, PhaseFits, desk-appended, desk-running, desk-with_phase}
 
 -- programs may run over views that have records of the lengths for which they were checked
@@ -57,7 +57,7 @@ pub desk-handed : (s : DeskState) (node : ℕ) (j : Job) (queries : List Query) 
     → IsAppended s (entry.Call call.HandOut) journal → ((view : ViewMap) → Moves s.queries queries j.query (Ready view) (Running view))
     → IsDesk (record s { queries = queries; journal = journal })
 desk-handed s node j queries journal d next a moves =
-    let f = next_is s node j (sym next) in
+    let f = next_job-some s node j (sym next) in
     subst (λ (x : List Query). IsDesk (record s { queries = x; journal = journal })) (sym (moves j.view f.query f.at f.phase))
     (desk-appended (record s { queries = with_phase s.queries j.query (Running j.view) }) (entry.Call call.HandOut) journal (record { room = a.room; is = a.is }) (desk-running s j.query j.view d (ready-fits s node j f d)))
 
@@ -65,7 +65,7 @@ pub handed : (s : DeskState) (node : ℕ) (j : Job) (queries : List Query) (jour
     → IsAppended s (entry.Call call.HandOut) journal → ((view : ViewMap) → Moves s.queries queries j.query (Ready view) (Running view))
     → handed_out s node ≡ Ok (Some j, record s { queries = queries; journal = journal })
 handed s node j queries journal next a moves =
-    let f = next_is s node j (sym next) in
+    let f = next_job-some s node j (sym next) in
     let room = a.room in
     let small : nat_lt (length s.journal) most_events ≡ true = search rules in
     rw (← next, small, moves j.view f.query f.at f.phase, a.is) refl
@@ -73,7 +73,7 @@ handed s node j queries journal next a moves =
 pub jobs-handed : (s : DeskState) (node : ℕ) (j : Job) (queries : List Query) → Some j ≡ next_job s node
     → ((view : ViewMap) → Moves s.queries queries j.query (Ready view) (Running view)) → how_many_run queries ≡ how_many_run s.queries + 1
 jobs-handed s node j queries next moves =
-    let f = next_is s node j (sym next) in
+    let f = next_job-some s node j (sym next) in
     run-handed s.queries queries j.query f.query j.view f.at f.phase (moves j.view f.query f.at f.phase)
 
 pub desk-posted : (s : DeskState) (j : Job) (ran : Ran) (q : Query) (view : ViewMap) (queries : List Query) (journal : List Entry) → IsDesk s

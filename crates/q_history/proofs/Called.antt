@@ -171,18 +171,18 @@ module _ (c : ClusterState) where
     is = is;
   })
 
-  enter_is : (id : ℕ) (o : Option BookState) (y : ClusterStep × ClusterState) → fin.get c.books id ≡ o → entered c id o ≡ Ok y → IsMade c y.1
-  enter_is id (Some b) y is h = absurd (no_refusal _ y h)
-  enter_is id None y is h = enters id is (ap (λ (z : ClusterStep × ClusterState). z.1) (same_answer _ y h))
+  entered-ok : (id : ℕ) (o : Option BookState) (y : ClusterStep × ClusterState) → fin.get c.books id ≡ o → entered c id o ≡ Ok y → IsMade c y.1
+  entered-ok id (Some b) y is h = absurd (no_refusal _ y h)
+  entered-ok id None y is h = enters id is (ap (λ (z : ClusterStep × ClusterState). z.1) (same_answer _ y h))
 
-  crash_is : (id : ℕ) (o : Option BookState) (y : ClusterStep × ClusterState) → live_at c id ≡ o → crashed c id o ≡ Ok y → IsMade c y.1
-  crash_is id None y is h = absurd (no_refusal _ y h)
-  crash_is id (Some b) y is h = crashes id b is (ap (λ (z : ClusterStep × ClusterState). z.1) (same_answer _ y h))
+  crashed-ok : (id : ℕ) (o : Option BookState) (y : ClusterStep × ClusterState) → live_at c id ≡ o → crashed c id o ≡ Ok y → IsMade c y.1
+  crashed-ok id None y is h = absurd (no_refusal _ y h)
+  crashed-ok id (Some b) y is h = crashes id b is (ap (λ (z : ClusterStep × ClusterState). z.1) (same_answer _ y h))
 
-  deliver_is : (number id : ℕ) (o : Option Message) (y : ClusterStep × ClusterState) → slice_get c.past.sent number ≡ o
+  delivered-ok : (number id : ℕ) (o : Option Message) (y : ClusterStep × ClusterState) → slice_get c.past.sent number ≡ o
       → at_node c id (λ b. delivered_as c number id b o) ≡ Ok y → IsMade c y.1
-  deliver_is number id None y is h = let a = at-ok c id (λ b. delivered_as c number id b None) y h in absurd (no_refusal _ y a.gives)
-  deliver_is number id (Some m) y is h =
+  delivered-ok number id None y is h = let a = at-ok c id (λ b. delivered_as c number id b None) y h in absurd (no_refusal _ y a.gives)
+  delivered-ok number id (Some m) y is h =
       let k = call-ok c id (delivers c number id) (λ b. book.delivered b m) y h in
       made id k (entry.Deliver m) (k.answer.0, k.called) (number, is) tt k.is
 
@@ -213,18 +213,18 @@ module _ (c : ClusterState) where
   call_is id d k x (reply.Asked a) is = noted_is id d k x (subst IsNoted (sym is) tt)
   call_is id d k x (reply.Stored value a) is = noted_is id d k x (subst IsNoted (sym is) tt)
 
-  finish_is : (number : ℕ) (ran : Ran) (o : Option Job) (y : ClusterStep × ClusterState) → slice_get c.jobs number ≡ o → IfSome o (λ j. Answers j ran)
+  finished-ok : (number : ℕ) (ran : Ran) (o : Option Job) (y : ClusterStep × ClusterState) → slice_get c.jobs number ≡ o → IfSome o (λ j. Answers j ran)
       → finished c ran o ≡ Ok y → IsMade c y.1
-  finish_is number ran None y is right h = absurd (no_refusal _ y h)
-  finish_is number ran (Some j) y is right h =
+  finished-ok number ran None y is right h = absurd (no_refusal _ y h)
+  finished-ok number ran (Some j) y is right h =
       let k = call-ok c j.node (posts c j ran) (λ b. book.posted b j ran) y h in
       made j.node k (entry.Post j.query ran) (j, refl, right, k.called) tt (record { number = number; at = is; by = refl; right = right }) k.is
 
   pub event_is : (e : ClusterEvent) (says : ClusterStep) (d : ClusterState) → Follows c e says d → IsMade c d
-  event_is (event.Enter id) says d f = enter_is id (fin.get c.books id) (says, d) refl f.stepped
-  event_is (event.Crash id) says d f = crash_is id (live_at c id) (says, d) refl f.stepped
+  event_is (event.Enter id) says d f = entered-ok id (fin.get c.books id) (says, d) refl f.stepped
+  event_is (event.Crash id) says d f = crashed-ok id (live_at c id) (says, d) refl f.stepped
   event_is (event.Call id k) says d f =
       let x = call-ok c id (replies c id) (λ b. called b k) (says, d) f.stepped in
       call_is id d k x x.answer.0 refl
-  event_is (event.Deliver number id) says d f = deliver_is number id (slice_get c.past.sent number) (says, d) refl f.stepped
-  event_is (event.Finish number) says d f = finish_is number f.ran (slice_get c.jobs number) (says, d) refl f.right f.stepped
+  event_is (event.Deliver number id) says d f = delivered-ok number id (slice_get c.past.sent number) (says, d) refl f.stepped
+  event_is (event.Finish number) says d f = finished-ok number f.ran (slice_get c.jobs number) (says, d) refl f.right f.stepped

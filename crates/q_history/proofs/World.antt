@@ -64,10 +64,10 @@ live_node false (Some b) = if_gone b.node.gone b
 pub world_live : (c : ClusterState) (id : ℕ) → world.live_at (world_in c) id ≡ option_map node_of (live_at c id)
 world_live c id = ap (world.live (set.contains c.past.crashed id)) (get-nodes c.books id) ∙ live_node (set.contains c.past.crashed id) (fin.get c.books id)
 
-live_is : (crashed : Bool) (o : Option BookState) (b : BookState) → live crashed o ≡ Some b → o ≡ Some b
-live_is true o b h = absurd (no_some b h)
-live_is false None b h = absurd (no_some b h)
-live_is false (Some x) b h = go x.node.gone refl
+live-some : (crashed : Bool) (o : Option BookState) (b : BookState) → live crashed o ≡ Some b → o ≡ Some b
+live-some true o b h = absurd (no_some b h)
+live-some false None b h = absurd (no_some b h)
+live-some false (Some x) b h = go x.node.gone refl
   where
     go : (gone : Bool) → x.node.gone ≡ gone → Some x ≡ Some b
     go true is = absurd (no_some b (ap (λ (g : Bool). let o : Option BookState = cond g None (Some x) in o) (sym is) ∙ h))
@@ -75,4 +75,4 @@ live_is false (Some x) b h = go x.node.gone refl
 
 -- a book of a node that is there is a book
 pub at_live : (c : ClusterState) (id : ℕ) (b : BookState) → live_at c id ≡ Some b → fin.get c.books id ≡ Some b
-at_live c id b h = live_is (set.contains c.past.crashed id) (fin.get c.books id) b h
+at_live c id b h = live-some (set.contains c.past.crashed id) (fin.get c.books id) b h

@@ -38,14 +38,14 @@ record IsBegun (h : Head) (o : Option (List ℕ)) (b : BookState) : Type 0 where
   is : new_book h.version h.id h.config o node ≡ b
   first : IsFirst (new_book h.version h.id h.config o node) node o
 
-founds_is : (version : Version) (id : ℕ) (config : Config) (ids : List ℕ) (r : Result NodeState Reason) (b : BookState)
+founds-ok : (version : Version) (id : ℕ) (config : Config) (ids : List ℕ) (r : Result NodeState Reason) (b : BookState)
     → founds version id config ids r ≡ Ok b → (n : NodeState) × (r ≡ Ok n) × (new_book version id config (Some ids) n ≡ b)
-founds_is version id config ids (Ok n) b h = (n, refl, same_answer {A = BookState} _ b h)
-founds_is version id config ids (Err e) b h = absurd (no_refusal _ b h)
+founds-ok version id config ids (Ok n) b h = (n, refl, same_answer {A = BookState} _ b h)
+founds-ok version id config ids (Err e) b h = absurd (no_refusal _ b h)
 
-begun_is : (h : Head) (o : Option (List ℕ)) (b : BookState) → begun h o ≡ Ok b → IsBegun h o b
-begun_is h (Some ids) b e = let f = founds_is h.version h.id h.config ids (node.founded h.config h.id ids) b e in record { node = f.0; is = f.2; first = f.1 }
-begun_is h None b e = record { node = (node.entered h.config h.id).0; is = same_answer {A = BookState} _ b e; first = refl }
+begun-ok : (h : Head) (o : Option (List ℕ)) (b : BookState) → begun h o ≡ Ok b → IsBegun h o b
+begun-ok h (Some ids) b e = let f = founds-ok h.version h.id h.config ids (node.founded h.config h.id ids) b e in record { node = f.0; is = f.2; first = f.1 }
+begun-ok h None b e = record { node = (node.entered h.config h.id).0; is = same_answer {A = BookState} _ b e; first = refl }
 
 -- ---- one version
 
@@ -56,7 +56,7 @@ takes_all-version (w ∷ ws) a b t = takes_all-version ws t.0 b t.2 ∙ takes-ve
 -- the book to which events lead has the version of the head
 pub leads-version : (bytes : List ℕ) (n : ℕ) (b : BookState) (rest : List ℕ) (l : Leads bytes n b rest) → b.version ≡ l.head.version
 leads-version bytes n b rest l =
-    takes_all-version l.events l.first b l.takes ∙ sym (ap (λ (x : BookState). x.version) (begun_is l.head l.head.founders l.first l.begins.book).is)
+    takes_all-version l.events l.first b l.takes ∙ sym (ap (λ (x : BookState). x.version) (begun-ok l.head l.head.founders l.first l.begins.book).is)
 
 -- ---- one more event
 
@@ -167,7 +167,7 @@ module _ (one_longest : OneLongest) (one_head : OneHead) (one_event : OneEvent) 
       let heads = one_head l.head k.head (flat_map (event_bytes version) l.events ++ rest) (flat_map (event_bytes k.head.version) k.events ++ more) l.legal k.legal (sym l.parts ∙ k.parts) in
       let head : k.head ≡ l.head = sym heads.0 in
       let firsts : l.first ≡ k.first = begins_one l.head l.first k.first l.begins (subst (λ (h : Head). Begins h k.first) head k.begins) in
-      let own : l.first.version ≡ version = sym (ap (λ (x : BookState). x.version) (begun_is l.head l.head.founders l.first l.begins.book).is) in
+      let own : l.first.version ≡ version = sym (ap (λ (x : BookState). x.version) (begun-ok l.head l.head.founders l.first l.begins.book).is) in
       let s = settle l.events k.events b c rest more
       (walk version l.events k.events l.first b c rest more own l.written (subst (λ (h : Head). AllByRecursion (IsWritten h.version) k.events) head k.written) l.takes
       (subst (λ (x : BookState). TakesAll x k.events c) (sym firsts) k.takes) (heads.1 ∙ ap (λ (h : Head). flat_map (event_bytes h.version) k.events ++ more) head)) stop halt in
@@ -254,7 +254,7 @@ taken version (w ∷ ws) s b own t =
 
 pub leads_journalled : (bytes : List ℕ) (n : ℕ) (b : BookState) → Leads bytes n b [] → AnswersAreRight b.desk → (bytes ≡ journal_of b) × IsJournalled b
 leads_journalled bytes n b l right =
-    let f = begun_is l.head l.head.founders l.first l.begins.book in
+    let f = begun-ok l.head l.head.founders l.first l.begins.book in
     let version : Version = l.head.version in
     let first : BookState = new_book version l.head.id l.head.config l.head.founders f.node in
     let t = taken version l.events first b refl (subst (λ (x : BookState). TakesAll x l.events b) (sym f.is) l.takes) in

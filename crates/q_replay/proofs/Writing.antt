@@ -3,7 +3,7 @@ use Rattle.std.proofs.Common.{◌≡◌, ℕ, ◌+◌, ◌<◌, ◌≤◌, List,
 use Rattle.std.proofs.lemmas.List.{flat_map_more, take_more, take_all, append-nil}
 use Rattle.std.proofs.lemmas.List.Elements.{All-from_recursion, All-drop, All-get_or}
 use Rattle.std.specs.List.{All, AllByRecursion}
-use Rattle.forms.proofs.Calls.{mapped_ok}
+use Rattle.forms.proofs.Calls.{mapped-ok}
 use Rattle.sc_members.specs.Members.{IsConfig}
 use Rattle.sc_msg.specs.declared.version.Version.{Version}
 use Rattle.q_desk.specs.Answers.{AnswersAreRight}
@@ -17,7 +17,7 @@ use Rattle.q_book.specs.Books as book
 use Rattle.q_book.specs.Books.{new_book, record_lengths}
 use Rattle.q_book.specs.declared.reply.Reply.TheVariants as reply
 use Rattle.q_book.specs.Replays.{Follows, Replays, IsReplay}
-use Rattle.q_book.proofs.Parts.{desk-parts}
+use Rattle.q_book.proofs.Parts.{desk-ok}
 use Rattle.q_book.proofs.Followed.{follows-accepted}
 use Rattle.q_replay.specs.Head.{Head}
 use Rattle.q_replay.specs.Spelling.{head_bytes, event_bytes, IsHead}
@@ -31,8 +31,8 @@ use Rattle.q_replay.proofs.Lists.{all_push}
 follows-checked : (version : Version) (b : BookState) (e : Entry) (c : BookState) → b.desk.lengths ≡ record_lengths version → Follows b e c
     → IsChecked version e
 follows-checked version b (entry.Call (call.Register program)) c lengths f =
-    let a = mapped_ok reply.Registered (book.registered b program) (f.0, c) f.1 in
-    let d = desk-parts b (desk.registered b.desk program) a.0 a.1 in
+    let a = mapped-ok reply.Registered (book.registered b program) (f.0, c) f.1 in
+    let d = desk-ok b (desk.registered b.desk program) a.0 a.1 in
     registered_checked b.desk program d.0 d.1 ∙ lengths
 follows-checked version b e c lengths f = tt
 

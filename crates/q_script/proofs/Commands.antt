@@ -1,9 +1,10 @@
 -- The table has all commands, and each word is that of one command.
-use Rattle.std.proofs.Common.{◌≡◌, ◌≢◌, ℕ, Bool, true, false, cond, eqb, not, List, [], ◌∷◌, Option, Some, None, refl, ap, sym, ◌∙◌, inl, inr, ◌⊎◌}
+use Rattle.std.proofs.Common.{◌≡◌, ◌≢◌, ℕ, Bool, true, true≢false, false, cond, eqb, not, List, [], ◌∷◌, Option, Some, None, refl, ap, sym, ◌∙◌, inl, inr, ◌⊎◌}
 use Rattle.std.specs.Prelude.{MatchOption, find, codes}
 use Rattle.std.specs.Str.{bytes_eq}
 use Rattle.std.specs.List.{list_all}
 use Rattle.std.proofs.lemmas.Bool.{and_parts, eq-eqb, not-true}
+use Rattle.std.proofs.lemmas.Option.{none-some}
 use Rattle.std.proofs.lemmas.Slice.Eq.{bytes_eq-Decides}
 use Rattle.q_script.specs.declared.command.TheConstants as consts
 use Rattle.q_script.specs.declared.command.Command.{Command}
@@ -33,9 +34,6 @@ unfolding command_at
 command_again Program = refl
 command_again _ = refl
 
-no_some : (c : Command) → None ≡ Some c → ⊥
-no_some c e = absurd cc
-
 -- no two commands have one word
 pub same_command : (c d : Command) → name c ≡ name d → c ≡ d
 same_command c d e = let found : Some c ≡ Some d = sym (command_again c) ∙ ap command_at e ∙ command_again d in cc
@@ -44,11 +42,8 @@ same_command c d e = let found : Some c ≡ Some d = sym (command_again c) ∙ a
 pub command_judged : (word : List ℕ) (r : Option Command) → r ≡ find (λ c. bytes_eq (name c) word) consts.COMMANDS
     → MatchOption r ((c : Command) → word ≢ name c) (λ c. word ≡ name c)
 unfolding command_at
-command_judged word None e = λ c is. no_some c (e ∙ ap command_at is ∙ command_again c)
+command_judged word None e = λ c is. none-some c (e ∙ ap command_at is ∙ command_again c)
 command_judged word (Some c) e = found word consts.COMMANDS c (sym e)
-
-true_false : (b : Bool) → b ≡ true → b ≡ false → ⊥
-true_false b h k = absurd cc
 
 -- no byte of these is c
 abbrev are_not : ℕ → List ℕ → Bool
@@ -56,7 +51,8 @@ are_not c s = list_all (λ d. not (eqb d c)) s
 
 lacks_by_test : (c : ℕ) (s : List ℕ) → are_not c s ≡ true → Lacks c s
 lacks_by_test c [] h = tt
-lacks_by_test c (d ∷ s) h = let p = and_parts _ _ h in ((λ e. let t : eqb d c ≡ true = eq-eqb d c e in let f : eqb d c ≡ false = not-true _ p.0 in true_false _ t f), lacks_by_test c s p.1)
+lacks_by_test c (d ∷ s) h =
+    let p = and_parts _ _ h in ((λ e. true≢false (sym (eq-eqb d c e) ∙ not-true (eqb d c) p.0)), lacks_by_test c s p.1)
 
 name_test : (c : Command) → are_not 32 (name c) ≡ true
 name_test Program = refl

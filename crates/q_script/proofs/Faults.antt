@@ -1,5 +1,5 @@
 -- The first faulty line of a list of records.
-use Rattle.std.proofs.Common.{◌≡◌, ℕ, ◌+◌, ◌≤◌, ◌<◌, ◌==◌, Bool, true, false, List, [], ◌∷◌, ◌++◌, length, take, drop, get_or, Option, Some, None, ap, sym, ◌∙◌, subst, arith, refl}
+use Rattle.std.proofs.Common.{◌≡◌, ℕ, ◌+◌, ◌≤◌, ◌<◌, ◌==◌, Bool, true≢false, false, List, [], ◌∷◌, ◌++◌, length, take, drop, get_or, Option, Some, None, ap, sym, ◌∙◌, subst, arith, refl}
 use Rattle.std.specs.FinMap as fin
 use Rattle.std.proofs.lemmas.Bool.{eq-eqb}
 use Rattle.bq_range.specs.Interval.{Interval}
@@ -12,9 +12,6 @@ use Rattle.q_script.specs.Records.{Record, IsRecord, IsAbove, IsEntry, IsGood, H
 use Rattle.q_script.proofs.Lines.{pieces_at}
 use Rattle.q_script.proofs.Learning.{len_learned, len_more, zip_length, learned_push, last_push, reading_push}
 
-true_false : (b : Bool) → b ≡ true → b ≡ false → ⊥
-true_false b h k = absurd cc
-
 pub lines_there : (source body : List ℕ) → (length source ≡ 0 → ⊥) → body ≡ without_last_feed source → record_lines source ≡ parts_of body
 lines_there [] body n e = absurd (n refl)
 lines_there (c ∷ cs) body n e = ap parts_of (sym e)
@@ -25,9 +22,10 @@ pub record Read (l : Interval) (done : List (List ℕ)) (last : Option ℕ) (vie
   pub learnt : view ≡ learned fin.empty records
   pub ends : last ≡ last_id None records
 
-pub fault_at : (l : Interval) (texts done : List (List ℕ)) (t : List ℕ) (i n : ℕ) (last : Option ℕ) (view : ViewMap) (records : List Record) (fault : RecordFault) → done ≡ take i texts → i < length texts → t ≡ get_or texts i t
-    → Read l done last view records → n ≡ fin.len view → HasFault l last (length records) t fault → IsFaultAt l texts (n + 1) fault
-fault_at l texts done t i n last view records fault f less e k c h = record {
+pub fault_at : {l : Interval} {texts done : List (List ℕ)} {t : List ℕ} (i : ℕ) {n : ℕ} {last : Option ℕ} {view : ViewMap} {records : List Record}
+    (fault : RecordFault) → done ≡ take i texts → i < length texts → t ≡ get_or texts i t → Read l done last view records → n ≡ fin.len view
+    → HasFault l last (length records) t fault → IsFaultAt l texts (n + 1) fault
+fault_at {l = l} {texts = texts} {done = done} {t = t} i {records = records} fault f less e k c h = record {
   before = done;
   text = t;
   after = drop (i + 1) texts;
@@ -39,7 +37,8 @@ fault_at l texts done t i n last view records fault f less e k c h = record {
 }
 
 -- a full view has 256 entries
-pub full_fault : (l : Interval) (done : List (List ℕ)) (t : List ℕ) (last : Option ℕ) (view : ViewMap) (records : List Record) (entry : ℕ × Stored) → Read l done last view records → fin.len view ≤ most_entries
+pub full_fault : (l : Interval) (done : List (List ℕ)) (t : List ℕ) (last : Option ℕ) (view : ViewMap) (records : List Record) (entry : ℕ × Stored)
+    → Read l done last view records → fin.len view ≤ most_entries
     → IsEntry l last t entry → most_entries < fin.len (put view entry.0 entry.1) → HasFault l last (length records) t Full
 full_fault l done t last view records entry k few h over =
     let r = h.0 in
@@ -47,13 +46,14 @@ full_fault l done t last view records entry k few h over =
     let more = len_more l records r k.reading.good (subst (λ o. IsAbove o r.id) k.ends h.2.0) in
     (r, h.1, h.2, omega (arith, is, more, over, few, ap fin.len k.learnt, len_learned l records k.reading.good))
 
-pub read_more : (l : Interval) (done : List (List ℕ)) (t : List ℕ) (last : Option ℕ) (view new : ViewMap) (records : List Record) (entry : ℕ × Stored) → Read l done last view records
-    → (h : IsEntry l last t entry) → new ≡ put view entry.0 entry.1 → Read l (done ++ (t ∷ [])) (Some entry.0) new (records ++ (h.0 ∷ []))
-read_more l done t last view new records entry k h p = record {
+pub read_more : {l : Interval} {done : List (List ℕ)} (t : List ℕ) {last : Option ℕ} {view new : ViewMap} {records : List Record} (entry : ℕ × Stored)
+    → Read l done last view records → (h : IsEntry l last t entry) → new ≡ put view entry.0 entry.1
+    → Read l (done ++ (t ∷ [])) (Some entry.0) new (records ++ (h.0 ∷ []))
+read_more {l = l} {done = done} t {view = view} {records = records} entry k h p = record {
   reading = reading_push l done records t h.0 k.reading h.1 (subst (λ o. IsGood l o h.0) k.ends h.2);
   learnt = p ∙ ap (λ (e : ℕ × Stored). put view e.0 e.1) h.3 ∙ ap (λ v. put v h.0.id (stored_of h.0)) k.learnt ∙ sym (learned_push fin.empty records h.0);
   ends = ap (λ (e : ℕ × Stored). Some e.0) h.3 ∙ sym (last_push None records h.0);
 }
 
 pub not_empty : (n : ℕ) (b : Bool) → b ≡ (n == 0) → b ≡ false → n ≡ 0 → ⊥
-not_empty n b e f z = true_false b (e ∙ eq-eqb n 0 z) f
+not_empty n b e f z = true≢false (sym (e ∙ eq-eqb n 0 z) ∙ f)

@@ -52,29 +52,31 @@ both_cut w s a b p f l e k h = (fraction_lacks h.beta f.1 h.is_beta, same_fracti
 
 -- ---- what is no such line
 
-pub no_word : (w s : List ℕ) → Lacks 32 w → Lacks 32 s → (f : First) → SpellsFirst w s f → ⊥
-no_word w s l e f h = never_cut 32 s w h.rest e (l, h.parts)
+pub no_word : {w s : List ℕ} → Lacks 32 w → Lacks 32 s → (f : First) → SpellsFirst w s f → ⊥
+no_word {w = w} {s = s} l e f h = never_cut 32 s w h.rest e (l, h.parts)
 
-pub other_word : (w s a b : List ℕ) → Lacks 32 w → IsCut 32 s a b → (a ≡ w → ⊥) → (f : First) → SpellsFirst w s f → ⊥
-other_word w s a b l e n f h = n (word_rest w s a b f l e h).0
+pub other_word : {w s : List ℕ} (a b : List ℕ) → Lacks 32 w → IsCut 32 s a b → (a ≡ w → ⊥) → (f : First) → SpellsFirst w s f → ⊥
+other_word {w = w} {s = s} a b l e n f h = n (word_rest w s a b f l e h).0
 
-pub no_number : (w s a b : List ℕ) → Lacks 32 w → IsCut 32 s a b → ((p : ℕ × List ℕ) → IsFollowed 32 b p → ⊥) → (f : First) → SpellsFirst w s f → ⊥
-no_number w s a b l e n f h = n (f.0, h.fractions) (behind w s a b f l e h)
+pub no_number : {w s : List ℕ} (a b : List ℕ) → Lacks 32 w → IsCut 32 s a b → ((p : ℕ × List ℕ) → IsFollowed 32 b p → ⊥)
+    → (f : First) → SpellsFirst w s f → ⊥
+no_number {w = w} {s = s} a b l e n f h = n (f.0, h.fractions) (behind w s a b f l e h)
 
-pub no_second : (w s a b : List ℕ) (p : ℕ × List ℕ) → Lacks 32 w → IsCut 32 s a b → IsFollowed 32 b p → Lacks 32 p.1 → (f : First) → SpellsFirst w s f → ⊥
-no_second w s a b p l e k none f h = never_cut 32 p.1 h.beta h.gamma none (both_cut w s a b p f l e k h)
+pub no_second : {w s : List ℕ} (a b : List ℕ) (p : ℕ × List ℕ) → Lacks 32 w → IsCut 32 s a b → IsFollowed 32 b p → Lacks 32 p.1
+    → (f : First) → SpellsFirst w s f → ⊥
+no_second {w = w} {s = s} a b p l e k none f h = never_cut 32 p.1 h.beta h.gamma none (both_cut w s a b p f l e k h)
 
 same_both : (w s a b x y : List ℕ) (p : ℕ × List ℕ) (f : First) → Lacks 32 w → IsCut 32 s a b → IsFollowed 32 b p → IsCut 32 p.1 x y
     → (h : SpellsFirst w s f) → (x ≡ h.beta) × (y ≡ h.gamma)
 same_both w s a b x y p f l e k c h = cut_once 32 p.1 x y h.beta h.gamma c (both_cut w s a b p f l e k h)
 
-pub no_beta : (w s a b x y : List ℕ) (p : ℕ × List ℕ) → Lacks 32 w → IsCut 32 s a b → IsFollowed 32 b p → IsCut 32 p.1 x y
+pub no_beta : {w s : List ℕ} (a b x y : List ℕ) (p : ℕ × List ℕ) → Lacks 32 w → IsCut 32 s a b → IsFollowed 32 b p → IsCut 32 p.1 x y
     → ((f : Fraction) → SpellsFraction x f → ⊥) → (f : First) → SpellsFirst w s f → ⊥
-no_beta w s a b x y p l e k c n f h = n f.1 (subst (λ t. SpellsFraction t f.1) (sym (same_both w s a b x y p f l e k c h).0) h.is_beta)
+no_beta {w = w} {s = s} a b x y p l e k c n f h = n f.1 (subst (λ t. SpellsFraction t f.1) (sym (same_both w s a b x y p f l e k c h).0) h.is_beta)
 
-pub no_gamma : (w s a b x y : List ℕ) (p : ℕ × List ℕ) → Lacks 32 w → IsCut 32 s a b → IsFollowed 32 b p → IsCut 32 p.1 x y
+pub no_gamma : {w s : List ℕ} (a b x y : List ℕ) (p : ℕ × List ℕ) → Lacks 32 w → IsCut 32 s a b → IsFollowed 32 b p → IsCut 32 p.1 x y
     → ((f : Fraction) → SpellsFraction y f → ⊥) → (f : First) → SpellsFirst w s f → ⊥
-no_gamma w s a b x y p l e k c n f h = n f.2 (subst (λ t. SpellsFraction t f.2) (sym (same_both w s a b x y p f l e k c h).1) h.is_gamma)
+no_gamma {w = w} {s = s} a b x y p l e k c n f h = n f.2 (subst (λ t. SpellsFraction t f.2) (sym (same_both w s a b x y p f l e k c h).1) h.is_gamma)
 
 -- ---- a line is one such line
 

@@ -4,6 +4,7 @@ use Rattle.std.specs.List.{AllZip}
 use Rattle.std.specs.FinMap as fin
 use Rattle.std.specs.Ordering.{nat_cmp}
 use Rattle.std.proofs.lemmas.Bool.{ne_eqb}
+use Rattle.std.proofs.lemmas.Option.{none-some, same_Some}
 use Rattle.bq_range.specs.Interval.{Interval, IsIn}
 use Rattle.sc_view.specs.declared.view.Stored.{Stored}
 use Rattle.sc_view.specs.Views.{ViewMap, put, newer}
@@ -74,15 +75,12 @@ len_fresh last v id e f a = len-put v id e ∙ ap (λ (o : Option Stored). cond 
 abbrev pub IsWithin : Interval → ViewMap → Type 0
 IsWithin l v = (id : ℕ) (e : Stored) → fin.get v id ≡ Some e → IsIn (16 + length e.value) l
 
-same_entry : (d e : Stored) → Some d ≡ Some e → d ≡ e
-same_entry d e h = cc
-
 within_put : (l : Interval) (last : Option ℕ) (v : ViewMap) (id : ℕ) (e : Stored) → Fresh last v → IsAbove last id → IsIn (16 + length e.value) l
     → IsWithin l v → IsWithin l (put v id e)
 within_put l last v id e f a new old q x has = at_either (q == id) q x (sym (get-put v id e q ∙ ap (λ o. cond (q == id) (Some (newer o e)) (fin.get v q)) (f id a)) ∙ has)
   where
     at_either : (b : Bool) (q : ℕ) (x : Stored) → cond b (Some e) (fin.get v q) ≡ Some x → IsIn (16 + length x.value) l
-    at_either true q x is = subst (λ (y : Stored). IsIn (16 + length y.value) l) (same_entry e x is) new
+    at_either true q x is = subst (λ (y : Stored). IsIn (16 + length y.value) l) (same_Some e x is) new
     at_either false q x is = old q x is
 
 -- each good record is one entry more, of one of the lengths
@@ -102,11 +100,8 @@ learned_all l last v (r ∷ rs) f h =
       within = λ w. more.within (within_put l last v r.id (stored_of r) f h.0.0 h.0.2 w);
     }
 
-no_entry : (e : Stored) → None ≡ Some e → ⊥
-no_entry e h = absurd cc
-
 pub within_empty : (l : Interval) → IsWithin l fin.empty
-within_empty l q e has = absurd (no_entry e (sym (fin.get-empty nat_cmp q) ∙ has))
+within_empty l q e has = absurd (none-some e (sym (fin.get-empty nat_cmp q) ∙ has))
 
 pub within_learned : (l : Interval) (rs : List Record) → AreGood l None rs → IsWithin l (learned fin.empty rs)
 within_learned l rs h = (learned_all l None fin.empty rs (λ q a. fin.get-empty nat_cmp q) h).within (within_empty l)

@@ -1,7 +1,7 @@
 -- The lines of a script, read one after another.
 use Rattle.std.proofs.Common.{◌≡◌, ℕ, suc, ◌+◌, ◌<◌, true, false, lit<, map, Option, Some, cond, List, [], ◌∷◌, ◌++◌, length, take, drop, get_or, ap, sym, ◌∙◌, subst, inl, inr, arith, refl}
-use Rattle.std.specs.Prelude.{Result, Ok, Err}
-use Rattle.std.specs.Result.{is_ok, is_err}
+use Rattle.std.specs.Prelude.{Result, Ok, Err, IfErr}
+use Rattle.std.specs.Result.{is_ok, is_err, IsErrAnd}
 use Rattle.std.specs.List.{AllZip, onto_first}
 use Rattle.std.specs.Iterator.{Yields}
 use Rattle.std.specs.Str.Iter.{split_steps, split_text, split_has_more, split_pattern}
@@ -13,8 +13,9 @@ use Rattle.std.proofs.lemmas.Bool.{ne_eqb}
 use Rattle.std.proofs.lemmas.List.{take-append-drop, drop_more}
 use Rattle.std.proofs.lemmas.List.Splits.{slice_split-cons_no, slice_split-cons_yes}
 use Rattle.q_script.specs.Words.{Lacks}
-use Rattle.q_script.specs.Lines.{parts_of, IsFirst}
+use Rattle.q_script.specs.Lines.{without_last_feed, parts_of, lines_of, IsFirst}
 use Rattle.q_script.specs.Script.{IsNone}
+use Rattle.q_script.proofs.Parts.{IsCut}
 
 -- ---- parts between line feeds
 
@@ -26,19 +27,34 @@ pub first_part : (xs ys : List ℕ) → Lacks 10 xs → parts_of (xs ++ (10 ∷ 
 first_part [] ys h = slice_split-cons_yes _ 10 ys refl
 first_part (d ∷ ds) ys h = slice_split-cons_no _ d (ds ++ (10 ∷ ys)) (ne_eqb d 10 h.0) ∙ ap (onto_first d) (first_part ds ys h.1)
 
+-- the lines of a text
+pub one_line : (text : List ℕ) {body : List ℕ} → body ≡ without_last_feed text → Lacks 10 body → lines_of text ≡ body ∷ []
+one_line text {body = body} e l = ap parts_of (sym e) ∙ one_part body l
+
+pub more_lines : (text : List ℕ) {body : List ℕ} (a b : List ℕ) → body ≡ without_last_feed text → IsCut 10 body a b → lines_of text ≡ a ∷ parts_of b
+more_lines text a b e l = ap parts_of (sym e ∙ l.1) ∙ first_part a b l.0
+
+-- what is passed on is what is wrong
+pub passed_on : {X E : Type 0} (P : E → Type 0) (r : Result X E) (fault : E) → IsErrAnd r (λ d. d ≡ fault) → P fault → IfErr r P
+passed_on P (Ok x) fault h p = tt
+passed_on P (Err d) fault h p = subst P (sym h) p
+
 -- ---- the loop over lines
 
 -- a loop over the parts of a text comes to all of them
 pub road_of : (s items : _) (text : List ℕ) → s ≡ items → split_text {P = ℕ} items ≡ text → split_has_more items ≡ true → split_pattern items ≡ 10
     → YieldsList (split_steps FindsChar (λ a b. b ≡ a)) (λ x. x.now) s (parts_of text)
-road_of s items text start is more pattern = YieldsList-from_str_split 10 text (lit< tt) (ap split_text start ∙ is) (ap split_has_more start ∙ more) (ap split_pattern start ∙ pattern)
+road_of s items text start is more pattern =
+    YieldsList-from_str_split 10 text (lit< tt) (ap split_text start ∙ is) (ap split_has_more start ∙ more) (ap split_pattern start ∙ pattern)
 
 -- what it has come to so far, and what comes now
-pub turn_of : {S A B : Type 0} {steps : S → Option A → S → Type 0} {v : A → B} {s : S} {all : List B} → YieldsList steps v s all → (xs : List A) (t : S) → Yields steps s xs t → (r : Option A) (u : S) (x : A) → r ≡ Some x → steps t r u
+pub turn_of : {S A B : Type 0} {steps : S → Option A → S → Type 0} {v : A → B} {s : S} {all : List B} → YieldsList steps v s all
+    → (xs : List A) (t : S) → Yields steps s xs t → (r : Option A) (u : S) (x : A) → r ≡ Some x → steps t r u
     → (map v xs ≡ take (length xs) all) × (length xs < length all) × (v x ≡ get_or all (length xs) (v x))
 turn_of road xs t y r u x is p = let now = YieldsList-turn road xs t y r u x is p in (YieldsList-so_far road xs t y, now.0, now.1)
 
-pub zip_push : {A B : Type 0} (R : A → B → Type 0) (xs : List A) (ys : List B) (x : A) (y : B) → AllZip R xs ys → R x y → AllZip R (xs ++ x ∷ []) (ys ++ y ∷ [])
+pub zip_push : {A B : Type 0} (R : A → B → Type 0) (xs : List A) (ys : List B) (x : A) (y : B) → AllZip R xs ys → R x y
+    → AllZip R (xs ++ x ∷ []) (ys ++ y ∷ [])
 zip_push R [] [] x y h r = (r, tt)
 zip_push R [] (z ∷ ys) x y h r = absurd h
 zip_push R (w ∷ xs) [] x y h r = absurd h
@@ -59,11 +75,12 @@ first_from spells b (x ∷ done) (y ∷ v) t rest h n =
     inr (λ f. f y h.0, subst (IsFirst (IsNone spells) (suc b) (done ++ t ∷ rest)) (omega arith) (first_from spells (suc b) done v t rest h.1 n))
 
 -- the least line that is of another form
-pub first_other : {L : Type 0} (spells : List ℕ → L → Type 0) (b : ℕ) (texts done : List (List ℕ)) (items : List L) (t : List ℕ) (i k : ℕ) → done ≡ take i texts → i < length texts → t ≡ get_or texts i t
-    → AllZip spells done items → IsNone spells b t → k ≡ length items → IsFirst (IsNone spells) b texts (b + k + 1)
+pub first_other : {L : Type 0} (spells : List ℕ → L → Type 0) (b : ℕ) (texts done : List (List ℕ)) (items : List L) (t : List ℕ) (i k : ℕ)
+    → done ≡ take i texts → i < length texts → t ≡ get_or texts i t → AllZip spells done items → IsNone spells b t → k ≡ length items → IsFirst (IsNone spells) b texts (b + k + 1)
 first_other spells b texts done items t i k f l e h n d =
     let here = first_from spells b done items t (drop (i + 1) texts) h n in
-    subst (λ u. IsFirst (IsNone spells) b u (b + k + 1)) (sym (pieces_at texts done i t f l e)) (subst (IsFirst (IsNone spells) b (done ++ t ∷ drop (i + 1) texts)) (omega (arith, d)) here)
+    subst (λ u. IsFirst (IsNone spells) b u (b + k + 1)) (sym (pieces_at texts done i t f l e))
+    (subst (IsFirst (IsNone spells) b (done ++ t ∷ drop (i + 1) texts)) (omega (arith, d)) here)
 
 pushed : {X E : Type 0} (items new : List X) (x : X) (r : Result (Unit {0}) E) → new ≡ cond (is_ok r) (items ++ x ∷ []) items → is_err r ≡ false
     → new ≡ items ++ x ∷ []
@@ -74,6 +91,7 @@ pub all_read : {L : Type 0} (spells : List ℕ → L → Type 0) (texts done : L
     → AllZip spells texts items
 all_read spells texts done items e h = subst (λ u. AllZip spells u items) e h
 
-pub read_more : {E L : Type 0} (spells : List ℕ → L → Type 0) (done : List (List ℕ)) (t : List ℕ) (items new : List L) (x : L) (r : Result (Unit {0}) E) → AllZip spells done items → spells t x
-    → new ≡ cond (is_ok r) (items ++ x ∷ []) items → is_err r ≡ false → AllZip spells (done ++ t ∷ []) new
-read_more spells done t items new x r h s p f = subst (AllZip spells (done ++ t ∷ [])) (sym (pushed items new x r p f)) (zip_push spells done items t x h s)
+pub read_more : {E L : Type 0} (spells : List ℕ → L → Type 0) (done : List (List ℕ)) (t : List ℕ) (items new : List L) (x : L) (r : Result (Unit {0}) E)
+    → AllZip spells done items → spells t x → new ≡ cond (is_ok r) (items ++ x ∷ []) items → is_err r ≡ false → AllZip spells (done ++ t ∷ []) new
+read_more spells done t items new x r h s p f =
+    subst (AllZip spells (done ++ t ∷ [])) (sym (pushed items new x r p f)) (zip_push spells done items t x h s)

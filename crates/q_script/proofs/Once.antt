@@ -20,7 +20,7 @@ use Rattle.q_script.proofs.Nodes.{node_cut}
 
 pub heading_once : (s : List ℕ) (d e : Heading) → SpellsHeading s d → SpellsHeading s e → d ≡ e
 heading_once s d e h k =
-    let same : (d.number, d.beta, d.gamma) ≡ (e.number, e.beta, e.gamma) = first_once (codes "cluster") s (d.number, d.beta, d.gamma) (e.number, e.beta, e.gamma) heading_word_lacks_space h k in
+    let same : (d.number, d.beta, d.gamma) ≡ (e.number, e.beta, e.gamma) = first_once (codes "cluster") s _ _ heading_word_lacks_space h k in
     ap (λ (f : ℕ × Fraction × Fraction). let x : Heading = record { number = f.0; beta = f.1; gamma = f.2 } in x) same
 
 word_once : (a b : Bool) → node_word a ≡ node_word b → a ≡ b
@@ -36,7 +36,7 @@ node_once s m n h k =
     let kn : IsFollowed 32 h.rest (n.id, k.address) = subst (λ x. IsFollowed 32 x (n.id, k.address)) (sym parts.1) k.id in
     let id : m.id ≡ n.id = number_once 32 h.rest (m.id, h.address) (n.id, k.address) (lit< tt) h.id kn in
     let text : h.address ≡ k.address = followed_once 32 h.rest (m.id, h.address) (n.id, k.address) (lit< tt) h.id kn in
-    let address : m.address ≡ n.address = IsSocketText_unique h.address m.address n.address h.is_address (subst (λ x. IsSocketText x n.address) (sym text) k.is_address) in
+    let address : m.address ≡ n.address = IsSocketText_unique h.address _ _ h.is_address (subst (λ x. IsSocketText x n.address) (sym text) k.is_address) in
     ap (λ i. let x : NodeLine = record { id = i; is_founder = m.is_founder; address = m.address } in x) id
     ∙ ap (λ f. let x : NodeLine = record { id = n.id; is_founder = f; address = m.address } in x) founder
     ∙ ap (λ a. let x : NodeLine = record { id = n.id; is_founder = n.is_founder; address = a } in x) address
@@ -51,15 +51,12 @@ nodes_once (l ∷ lines) [] ns h k = absurd h
 nodes_once (l ∷ lines) (m ∷ ms) [] h k = absurd k
 nodes_once (l ∷ lines) (m ∷ ms) (n ∷ ns) h k = ap (λ x. x ∷ ms) (node_once l m n h.0 k.0) ∙ ap (λ xs. n ∷ xs) (nodes_once lines ms ns h.1 k.1)
 
-same_first : (x y : List ℕ) (xs ys : List (List ℕ)) → x ∷ xs ≡ y ∷ ys → x ≡ y
-same_first x y xs ys e = cc
-
-same_others : (x y : List ℕ) (xs ys : List (List ℕ)) → x ∷ xs ≡ y ∷ ys → xs ≡ ys
-same_others x y xs ys e = cc
+same_lines : {x y : List ℕ} {xs ys : List (List ℕ)} → x ∷ xs ≡ y ∷ ys → (x ≡ y) × (xs ≡ ys)
+same_lines e = (cc, cc)
 
 pub list_once : (text : List ℕ) (d e : Heading) (ms ns : List NodeLine) → IsListOf text d ms → IsListOf text e ns → (d ≡ e) × (ms ≡ ns)
 list_once text d e ms ns h k =
-    let parts = sym h.parts ∙ k.parts in (
-      heading_once h.first d e h.heads (subst (λ x. SpellsHeading x e) (sym (same_first h.first k.first h.others k.others parts)) k.heads),
-      nodes_once h.others ms ns h.lists.each (subst (λ x. AllZip SpellsNode x ns) (sym (same_others h.first k.first h.others k.others parts)) k.lists.each),
+    let parts = same_lines (sym h.parts ∙ k.parts) in (
+      heading_once h.first d e h.heads (subst (λ x. SpellsHeading x e) (sym parts.0) k.heads),
+      nodes_once h.others ms ns h.lists.each (subst (λ x. AllZip SpellsNode x ns) (sym parts.1) k.lists.each),
     )

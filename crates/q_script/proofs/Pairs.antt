@@ -27,7 +27,7 @@ pub followed_once : (c : ℕ) (s : List ℕ) (p q : ℕ × List ℕ) → c < 48 
 followed_once c s p q l h k = (cut_once c s (decimal p.0) p.1 (decimal q.0) q.1 (followed_cut c s p l h) (followed_cut c s q l k)).1
 
 pub number_once : (c : ℕ) (s : List ℕ) (p q : ℕ × List ℕ) → c < 48 → IsFollowed c s p → IsFollowed c s q → p.0 ≡ q.0
-number_once c s p q l h k = decimal_injective p.0 q.0 h.0 k.0 (cut_once c s (decimal p.0) p.1 (decimal q.0) q.1 (followed_cut c s p l h) (followed_cut c s q l k)).0
+number_once c s p q l h k = decimal_injective _ _ h.0 k.0 (cut_once c s (decimal p.0) p.1 (decimal q.0) q.1 (followed_cut c s p l h) (followed_cut c s q l k)).0
 
 pub not_pair : (c : ℕ) (s : List ℕ) (p : ℕ × List ℕ) → c < 48 → IsFollowed c s p → ((n : ℕ) → IsNumeral p.1 n → ⊥) → (q : ℕ × ℕ) → IsPair c s q → ⊥
 not_pair c s p l h n q k = n q.1 (k.1, followed_once c s p (q.0, decimal q.1) l h (k.0, k.2))

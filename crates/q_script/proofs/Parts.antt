@@ -2,6 +2,7 @@
 use Rattle.std.proofs.Common.{◌≡◌, ◌≢◌, ℕ, suc, ◌<◌, cond, eqb, List, [], ◌∷◌, ◌++◌, length, get_or, Option, Some, None, refl, ap, sym, ◌∙◌, arith, Bor}
 use Rattle.std.specs.Prelude.{option_map, unwrap_or, MatchOption}
 use Rattle.std.proofs.lemmas.Bool.{cond-false, cond-true, eq-eqb, ne_eqb}
+use Rattle.std.proofs.lemmas.Option.{none-some, same_Some}
 use Rattle.q_script.specs.Words.{Lacks}
 use Rattle.q_script.specs.Lines.{without_last_feed}
 
@@ -31,12 +32,6 @@ pub parts_are : (c : ℕ) (s : List ℕ) (r : Option (Bor (List ℕ) × Bor (Lis
 parts_are c s None h = lacks_from c s h
 parts_are c s (Some x) h = (lacks_from c x.0.now h.1, h.0)
 
-same_pair : (p q : List ℕ × List ℕ) → Some p ≡ Some q → p ≡ q
-same_pair p q e = cc
-
-no_pair : (q : List ℕ × List ℕ) → None ≡ Some q → ⊥
-no_pair q e = absurd cc
-
 -- the text is a, the first c, and b
 abbrev pub IsCut : ℕ → List ℕ → List ℕ → List ℕ → Type 0
 IsCut c s a b = Lacks c a × (s ≡ a ++ (c ∷ b))
@@ -44,11 +39,11 @@ IsCut c s a b = Lacks c a × (s ≡ a ++ (c ∷ b))
 -- a text is cut in one way
 pub cut_once : (c : ℕ) (s a b xs ys : List ℕ) → IsCut c s a b → IsCut c s xs ys → (a ≡ xs) × (b ≡ ys)
 cut_once c s a b xs ys h k =
-    let t = same_pair (a, b) (xs, ys) (sym (cut_at c a b h.0) ∙ ap (cut c) (sym h.1 ∙ k.1) ∙ cut_at c xs ys k.0) in
+    let t = same_Some _ _ (sym (cut_at c a b h.0) ∙ ap (cut c) (sym h.1 ∙ k.1) ∙ cut_at c xs ys k.0) in
     (ap (λ (p : List ℕ × List ℕ). p.0) t, ap (λ (p : List ℕ × List ℕ). p.1) t)
 
 pub never_cut : (c : ℕ) (s xs ys : List ℕ) → Lacks c s → IsCut c s xs ys → ⊥
-never_cut c s xs ys h k = no_pair (xs, ys) (sym (cut_none c s h) ∙ ap (cut c) k.1 ∙ cut_at c xs ys k.0)
+never_cut c s xs ys h k = none-some _ (sym (cut_none c s h) ∙ ap (cut c) k.1 ∙ cut_at c xs ys k.0)
 
 -- ---- a line feed at the end
 

@@ -22,10 +22,8 @@ use Rattle.q_script.specs.declared.line.LineFault.TheVariants.{Form, OutOfMemory
 -- ---- hexadecimal digits
 
 digit_by_range : (a b d : Bool) (x y z : ℕ) → ((d || a) || b) ≡ is_some (if a then Some x else if b then Some y else if d then Some z else None)
-digit_by_range true true true x y z = refl
-digit_by_range true true false x y z = refl
-digit_by_range true false true x y z = refl
-digit_by_range true false false x y z = refl
+digit_by_range true b true x y z = refl
+digit_by_range true b false x y z = refl
 digit_by_range false true true x y z = refl
 digit_by_range false true false x y z = refl
 digit_by_range false false true x y z = refl

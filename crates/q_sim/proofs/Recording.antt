@@ -10,11 +10,11 @@ use Rattle.q_session.specs.declared.query.Query.{Query}
 use Rattle.q_session.specs.declared.job.Job.{Job}
 use Rattle.q_desk.specs.State.{DeskState}
 use Rattle.q_desk.specs.Desks as desks
-use Rattle.q_desk.proofs.Accepted.{answered as with_answer, posted_is}
+use Rattle.q_desk.proofs.Accepted.{answered as with_answer, posted-ok}
 use Rattle.q_book.specs.State.{BookState}
 use Rattle.q_book.specs.Books as book
 use Rattle.reasons.specs.declared.Reason.{Reason}
-use Rattle.q_book.proofs.Parts.{desk-parts}
+use Rattle.q_book.proofs.Parts.{desk-ok}
 use Rattle.q_history.specs.declared.event.ClusterStep.{ClusterStep}
 use Rattle.q_history.specs.declared.event.EventAnswer.TheVariants as told
 use Rattle.q_history.specs.Headline.{ClusterState}
@@ -52,8 +52,8 @@ posted_recorded : (c : ClusterState) (ran : Ran) (j : Job) (x : BookState) (r : 
     → lift (posts c j ran) r ≡ Ok y → IsRecorded y.0 y.1
 posted_recorded c ran j x (Err e) y is h = absurd (no_refusal _ y h)
 posted_recorded c ran j x (Ok a) y is h =
-    let b = desk-parts x (desks.posted x.desk x.id j ran) a is in
-    let p = (posted_is x.desk j ran b.0 x.id b.1).1 in
+    let b = desk-ok x (desks.posted x.desk x.id j ran) a is in
+    let p = (posted-ok x.desk j ran b.0 x.id b.1).1 in
     let same : with_answer x.desk j.query p.view ran ≡ a.1.desk = p.is ∙ ap (λ (z : Unit {0} × BookState). z.1.desk) b.2 in
     subst (λ (z : ClusterStep × ClusterState). IsRecorded z.0 z.1) (same_answer _ y h)
     (record {

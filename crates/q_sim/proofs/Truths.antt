@@ -20,7 +20,7 @@ use Rattle.q_told.specs.declared.refusal.Refusal.TheVariants.{Cluster}
 use Rattle.q_told.specs.Printing.{told_lines, message_lines, printed}
 use Rattle.q_sim.specs.Simulates.{SimState, Writing, at_next_line, is_any, or_refused, Does, Plays, Simulates, founders_of}
 use Rattle.q_sim.specs.Truths.{IsTrueAnswer, IsTrueLine, AreTrueLines}
-use Rattle.q_sim.proofs.Leading.{Leads, any_with, leads_itself, leads_on, IsLed, acts_led, does_led, plays_led, founded_is}
+use Rattle.q_sim.proofs.Leading.{Leads, any_with, leads_itself, leads_on, IsLed, acts_led, does_led, plays_led, founded-ok}
 use Rattle.q_sim.proofs.Recording.{IsRecorded, finish_recorded}
 
 -- what is printed of it is its line alone
@@ -86,7 +86,7 @@ printed_true stay writes script before text unsaved refused after s =
     let config = config_of script.founding.beta script.founding.gamma in
     let ids = founders_of script.founding in
     let first = start Second config ids in
-    let begun = founded_is Second config ids (are_founders ids) s.first.cluster s.begins.started in
+    let begun = founded-ok Second config ids (are_founders ids) s.first.cluster s.begins.started in
     subst (λ (b : Bool). AreTrueLines s.last.cluster b script.lines.items text) (sym s.shown)
     (lines_true first s.last (λ c h k. stay Second config ids h.0 k.0 c s.last.cluster h.1 k.1) s.answers writes script.lines.items s.first before text after
     (subst (Leads first) begun (leads_itself first)) s.plays)

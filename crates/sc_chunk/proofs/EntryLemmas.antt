@@ -1,6 +1,6 @@
 -- Entries in rising id order.
-use Rattle.std.proofs.Common.{◌≡◌, ℕ, suc, ◌+◌, ◌≤◌, ◌<◌, true, false, cond, ◌==◌, nat_lt, nat_le, List, [], ◌∷◌, ◌++◌, length, take, drop, get_or, set, Some, None, refl, sym, ap, subst, ◌∙◌, arith, append_assoc}
-use Rattle.std.proofs.lemmas.Bool.{ltb-true, lt-ltb, eqb-true, eqb-false, eq-eqb, leb-true, leb-false}
+use Rattle.std.proofs.Common.{◌≡◌, ℕ, suc, ◌+◌, ◌≤◌, ◌<◌, true, false, cond, ◌==◌, nat_lt, nat_le, List, [], ◌∷◌, ◌++◌, length, take, drop, get_or, set, Some, None, refl, sym, ap, subst, ◌∙◌, arith, append_assoc, Ordering}
+use Rattle.std.proofs.lemmas.Bool.{cond_both, ltb-true, lt-ltb, eqb-true, eqb-false, eq-eqb, leb-true, leb-false}
 use Rattle.std.proofs.lemmas.List.{drop_more, drop_all, set_split}
 use Rattle.std.specs.declared.cmp.Ordering.TheVariants.{Less, Equal, Greater}
 use Rattle.std.specs.Ordering.{nat_cmp, is_eq}
@@ -13,21 +13,24 @@ cmp_less x y h = ap (λ b. cond b Less (cond (x == y) Equal Greater)) (lt-ltb x 
 
 pub cmp_greater : (x y : ℕ) → y < x → nat_cmp x y ≡ Greater
 cmp_greater x y h =
-    elim (nat_lt x y) as (λ b. nat_lt x y ≡ b → cond b Less (cond (x == y) Equal Greater) ≡ Greater) [
-      | true ↦ λ p. absurd (omega (arith, ltb-true x y p))
-      | false ↦ λ p. elim (x == y) as (λ c. (x == y) ≡ c → cond c Equal Greater ≡ Greater) [
-        | true ↦ λ q. absurd (omega (arith, eqb-true x y q))
-        | false ↦ λ q. refl
-      ] refl
-    ] refl
+    cond_both (nat_lt x y) Less (cond (x == y) Equal Greater) (λ o. o ≡ Greater) (λ p. absurd (omega (arith, ltb-true x y p, h)))
+    (λ p. cond_both (x == y) Equal Greater (λ o. o ≡ Greater) (λ q. absurd (omega (arith, eqb-true x y q, h))) (λ q. refl))
 
 pub over_lower : {X : Type 0} (x y : ℕ) (es : List (ℕ × X)) → x ≤ y → Over y es → Over x es
 over_lower x y [] h o = tt
 over_lower x y (e ∷ es) h o = (omega (arith, h, o.0), over_lower x y es h o.1)
 
+-- a put and a find at the head, by how the id compares with the head's
+module _ {X : Type 0} (id : ℕ) (e : ℕ × X) (es : List (ℕ × X)) {o : Ordering} (is : nat_cmp id e.0 ≡ o) where
+  put_as : (x : X) → put nat_cmp id x (e ∷ es) ≡ by_order o ((id, x) ∷ e ∷ es) ((e.0, x) ∷ es) (e ∷ put nat_cmp id x es)
+  put_as x = ap (λ r. by_order r ((id, x) ∷ e ∷ es) ((e.0, x) ∷ es) (e ∷ put nat_cmp id x es)) is
+
+  find_as : find nat_cmp id (e ∷ es) ≡ cond (is_eq o) (Some e.1) (find nat_cmp id es)
+  find_as = ap (λ r. cond (is_eq r) (Some e.1) (find nat_cmp id es)) is
+
 pub find_none : {X : Type 0} (id : ℕ) (es : List (ℕ × X)) → Over id es → find nat_cmp id es ≡ None
 find_none id [] o = refl
-find_none id (e ∷ es) o = ap (λ r. cond (is_eq r) (Some e.1) (find nat_cmp id es)) (cmp_less id e.0 o.0) ∙ find_none id es o.1
+find_none id (e ∷ es) o = find_as id e es (cmp_less id e.0 o.0) ∙ find_none id es o.1
 
 pub before_step : {X : Type 0} (id : ℕ) (es : List (ℕ × X)) (k : ℕ) (d : ℕ × X) → k < length es
     → before id (drop k es) ≡ cond (nat_le id (get_or es k d).0) 0 (suc (before id (drop (k + 1) es)))
@@ -36,42 +39,34 @@ before_step id es k d h = ap (before id) (drop_more es k d h)
 pub before_fits : {X : Type 0} (id : ℕ) (es : List (ℕ × X)) → before id es ≤ length es
 before_fits id [] = omega arith
 before_fits id (e ∷ es) =
-    let rest = before_fits id es in
-    elim (nat_le id e.0) as (λ b. cond b 0 (suc (before id es)) ≤ suc (length es)) [ true ↦ omega arith | false ↦ omega (arith, rest) ]
+    cond_both (nat_le id e.0) 0 (suc (before id es)) (λ n. n ≤ suc (length es)) (λ _. omega arith) (λ _. omega (arith, before_fits id es))
 
 pub cmp_equal : (x y : ℕ) → x ≡ y → nat_cmp x y ≡ Equal
 cmp_equal x y h =
-    elim (nat_lt x y) as (λ b. nat_lt x y ≡ b → cond b Less (cond (x == y) Equal Greater) ≡ Equal) [
-      | true ↦ λ p. absurd (omega (arith, ltb-true x y p, h))
-      | false ↦ λ p. ap (λ c. cond c Equal Greater) (eq-eqb x y h)
-    ] refl
+    cond_both (nat_lt x y) Less (cond (x == y) Equal Greater) (λ o. o ≡ Equal) (λ p. absurd (omega (arith, ltb-true x y p, h)))
+    (λ p. ap (λ c. cond c Equal Greater) (eq-eqb x y h))
 
 put_first : {X : Type 0} (id : ℕ) (x : X) (e : ℕ × X) (es : List (ℕ × X)) → id ≤ e.0 → put nat_cmp id x (e ∷ es) ≡ (id, x) ∷ without_first id (e ∷ es)
 put_first id x e es h =
-    elim (e.0 == id) as (λ b. (e.0 == id) ≡ b → put nat_cmp id x (e ∷ es) ≡ (id, x) ∷ cond b es (e ∷ es)) [
-      | true ↦ λ p. let same : e.0 ≡ id = eqb-true e.0 id p in
-          ap (λ o. by_order o ((id, x) ∷ e ∷ es) ((e.0, x) ∷ es) (e ∷ put nat_cmp id x es)) (cmp_equal id e.0 (sym same)) ∙ ap (λ n. (n, x) ∷ es) same
-      | false ↦ λ p. ap (λ o. by_order o ((id, x) ∷ e ∷ es) ((e.0, x) ∷ es) (e ∷ put nat_cmp id x es)) (cmp_less id e.0 (omega (arith, h, eqb-false e.0 id p)))
-    ] refl
+    cond_both (e.0 == id) es (e ∷ es) (λ r. put nat_cmp id x (e ∷ es) ≡ (id, x) ∷ r)
+    (λ p. let same : e.0 ≡ id = eqb-true e.0 id p in put_as id e es (cmp_equal id e.0 (sym same)) x ∙ ap (λ n. (n, x) ∷ es) same)
+    (λ p. put_as id e es (cmp_less id e.0 (omega (arith, h, eqb-false e.0 id p))) x)
 
 pub put_parts : {X : Type 0} (id : ℕ) (x : X) (es : List (ℕ × X))
     → put nat_cmp id x es ≡ take (before id es) es ++ (id, x) ∷ without_first id (drop (before id es) es)
 put_parts id x [] = refl
 put_parts id x (e ∷ es) =
-    elim (nat_le id e.0) as (λ b. nat_le id e.0 ≡ b → put nat_cmp id x (e ∷ es) ≡ take (cond b 0 (suc (before id es))) (e ∷ es) ++ (id, x) ∷ without_first id (drop (cond b 0 (suc (before id es))) (e ∷ es))) [
-      | true ↦ λ p. put_first id x e es (leb-true id e.0 p)
-      | false ↦ λ p. ap (λ o. by_order o ((id, x) ∷ e ∷ es) ((e.0, x) ∷ es) (e ∷ put nat_cmp id x es)) (cmp_greater id e.0 (leb-false id e.0 p)) ∙ ap (λ r. e ∷ r) (put_parts id x es)
-    ] refl
+    cond_both (nat_le id e.0) 0 (suc (before id es)) (λ n. put nat_cmp id x (e ∷ es) ≡ take n (e ∷ es) ++ (id, x) ∷ without_first id (drop n (e ∷ es)))
+    (λ p. put_first id x e es (leb-true id e.0 p))
+    (λ p. put_as id e es (cmp_greater id e.0 (leb-false id e.0 p)) x ∙ ap (λ r. e ∷ r) (put_parts id x es))
 
 find_first : {X : Type 0} (id : ℕ) (e : ℕ × X) (es : List (ℕ × X)) → id ≤ e.0 → Over e.0 es → find nat_cmp id (e ∷ es) ≡ cond (e.0 == id) (Some e.1) None
 find_first id e es h o =
-    elim (e.0 == id) as (λ b. (e.0 == id) ≡ b → find nat_cmp id (e ∷ es) ≡ cond b (Some e.1) None) [
-      | true ↦ λ p. ap (λ r. cond (is_eq r) (Some e.1) (find nat_cmp id es)) (cmp_equal id e.0 (sym (eqb-true e.0 id p)))
-      | false ↦ λ p. ap (λ r. cond (is_eq r) (Some e.1) (find nat_cmp id es)) (cmp_less id e.0 (omega (arith, h, eqb-false e.0 id p))) ∙ find_none id es (over_lower id e.0 es h o)
-    ] refl
+    cond_both (e.0 == id) (Some e.1) None (λ r. find nat_cmp id (e ∷ es) ≡ r) (λ p. find_as id e es (cmp_equal id e.0 (sym (eqb-true e.0 id p))))
+    (λ p. find_as id e es (cmp_less id e.0 (omega (arith, h, eqb-false e.0 id p))) ∙ find_none id es (over_lower id e.0 es h o))
 
 pub find_later : {X : Type 0} (id : ℕ) (e : ℕ × X) (es : List (ℕ × X)) → e.0 < id → find nat_cmp id (e ∷ es) ≡ find nat_cmp id es
-find_later id e es h = ap (λ r. cond (is_eq r) (Some e.1) (find nat_cmp id es)) (cmp_greater id e.0 h)
+find_later id e es h = find_as id e es (cmp_greater id e.0 h)
 
 pub find_at : {X : Type 0} (id : ℕ) (es : List (ℕ × X)) (d : ℕ × X) → Rises es → before id es < length es
     → find nat_cmp id es ≡ cond ((get_or es (before id es) d).0 == id) (Some (get_or es (before id es) d).1) None
@@ -86,19 +81,20 @@ find_at id (e ∷ es) d r h =
 pub find_past : {X : Type 0} (id : ℕ) (es : List (ℕ × X)) → length es ≤ before id es → find nat_cmp id es ≡ None
 find_past id [] h = refl
 find_past id (e ∷ es) h =
-    elim (nat_le id e.0) as (λ b. nat_le id e.0 ≡ b → suc (length es) ≤ cond b 0 (suc (before id es)) → find nat_cmp id (e ∷ es) ≡ None) [
-      | true ↦ λ p h. absurd (omega (arith, h))
-      | false ↦ λ p h. find_later id e es (leb-false id e.0 p) ∙ find_past id es (omega (arith, h))
-    ] refl h
+    cond_both (nat_le id e.0) 0 (suc (before id es)) (λ n. suc (length es) ≤ n → find nat_cmp id (e ∷ es) ≡ None)
+    (λ p h. absurd (omega (arith, h))) (λ p h. find_later id e es (leb-false id e.0 p) ∙ find_past id es (omega (arith, h))) h
 
-pub put_by_one : {X : Type 0} (id : ℕ) (x : X) (es : List (ℕ × X)) → length (put nat_cmp id x es) ≤ length es + 1
-put_by_one id x [] = omega arith
-put_by_one id x (e ∷ es) =
-    let rest = put_by_one id x es in
-    elim (nat_cmp id e.0) as (λ o. length (by_order o ((id, x) ∷ e ∷ es) ((e.0, x) ∷ es) (e ∷ put nat_cmp id x es)) ≤ suc (length es) + 1) [
-      | Less ↦ omega arith
-      | Equal ↦ omega arith
-      | Greater ↦ omega (arith, rest)
+-- a put adds at most one entry
+pub put_length : {X : Type 0} (id : ℕ) (x : X) (es : List (ℕ × X))
+    → (length es ≤ length (put nat_cmp id x es)) × (length (put nat_cmp id x es) ≤ length es + 1)
+put_length id x [] = (omega arith, omega arith)
+put_length id x (e ∷ es) =
+    let rest = put_length id x es in
+    let put_as = λ (o : Ordering). by_order o ((id, x) ∷ e ∷ es) ((e.0, x) ∷ es) (e ∷ put nat_cmp id x es) in
+    elim (nat_cmp id e.0) as (λ o. (suc (length es) ≤ length (put_as o)) × (length (put_as o) ≤ suc (length es) + 1)) [
+      | Less ↦ (omega arith, omega arith)
+      | Equal ↦ (omega arith, omega arith)
+      | Greater ↦ (omega (arith, rest.0), omega (arith, rest.1))
     ]
 
 tested : {X : Type 0} (a b : ℕ) (x y : X) → a ≡ b → cond (a == b) x y ≡ x
@@ -107,24 +103,20 @@ tested a b x y h = ap (λ t. cond t x y) (eq-eqb a b h)
 failed : {X : Type 0} (a b : ℕ) (x y : X) → (a ≡ b → ⊥) → cond (a == b) x y ≡ y
 failed a b x y h = elim (a == b) as (λ t. (a == b) ≡ t → cond t x y ≡ y) [ true ↦ λ p. absurd (h (eqb-true a b p)) | false ↦ λ p. refl ] refl
 
-pub find_found : {X : Type 0} (id : ℕ) (es : List (ℕ × X)) (n : ℕ) (d : ℕ × X) → n ≡ before id es → n < length es → Rises es → (get_or es n d).0 ≡ id
-    → Some (get_or es n d).1 ≡ find nat_cmp id es
-find_found id es n d is h r same =
-    sym (find_at id es d r (subst (λ m. m < length es) is h) ∙ ap (λ m. cond ((get_or es m d).0 == id) (Some (get_or es m d).1) None) (sym is)
-    ∙ tested (get_or es n d).0 id (Some (get_or es n d).1) None same)
+module _ {X : Type 0} (id : ℕ) (es : List (ℕ × X)) (n : ℕ) (d : ℕ × X) (is : n ≡ before id es) (h : n < length es) (r : Rises es) where
+  found_at : find nat_cmp id es ≡ cond ((get_or es n d).0 == id) (Some (get_or es n d).1) None
+  found_at =
+      find_at id es d r (subst (λ m. m < length es) is h) ∙ ap (λ m. cond ((get_or es m d).0 == id) (Some (get_or es m d).1) None) (sym is)
 
-pub find_other : {X : Type 0} (id : ℕ) (es : List (ℕ × X)) (n : ℕ) (d : ℕ × X) → n ≡ before id es → n < length es → Rises es
-    → ((get_or es n d).0 ≡ id → ⊥) → None ≡ find nat_cmp id es
-find_other id es n d is h r other =
-    sym (find_at id es d r (subst (λ m. m < length es) is h) ∙ ap (λ m. cond ((get_or es m d).0 == id) (Some (get_or es m d).1) None) (sym is)
-    ∙ failed (get_or es n d).0 id (Some (get_or es n d).1) None other)
+  pub find_found : (get_or es n d).0 ≡ id → Some (get_or es n d).1 ≡ find nat_cmp id es
+  find_found same = sym (found_at ∙ tested (get_or es n d).0 id (Some (get_or es n d).1) None same)
+
+  pub find_other : ((get_or es n d).0 ≡ id → ⊥) → None ≡ find nat_cmp id es
+  find_other other = sym (found_at ∙ failed (get_or es n d).0 id (Some (get_or es n d).1) None other)
 
 pub put_built : {X : Type 0} (id : ℕ) (x : X) (es : List (ℕ × X))
     → (([] ++ take (before id es) es) ++ (id, x) ∷ []) ++ without_first id (drop (before id es) es) ≡ put nat_cmp id x es
 put_built id x es = append_assoc (take (before id es) es) ((id, x) ∷ []) (without_first id (drop (before id es) es)) ∙ sym (put_parts id x es)
-
-head_kept : {X : Type 0} (id : ℕ) (e : ℕ × X) (es : List (ℕ × X)) → (e.0 ≡ id → ⊥) → without_first id (e ∷ es) ≡ e ∷ es
-head_kept id e es other = failed e.0 id es (e ∷ es) other
 
 pub put_over_known : {X : Type 0} (id : ℕ) (x : X) (es : List (ℕ × X)) (n : ℕ) (d : ℕ × X) → n ≡ before id es → n < length es → (get_or es n d).0 ≡ id
     → set es n (id, x) ≡ put nat_cmp id x es
@@ -137,7 +129,7 @@ put_over_known id x es n d is l same =
 pub put_between : {X : Type 0} (id : ℕ) (x : X) (es : List (ℕ × X)) (n : ℕ) (d : ℕ × X) → n ≡ before id es → n < length es
     → ((get_or es n d).0 ≡ id → ⊥) → insert es n (id, x) ≡ put nat_cmp id x es
 put_between id x es n d is l other =
-    let later : without_first id (drop n es) ≡ drop n es = ap (without_first id) (drop_more es n d l) ∙ head_kept id (get_or es n d) (drop (n + 1) es) other ∙ sym (drop_more es n d l) in
+    let later : without_first id (drop n es) ≡ drop n es = ap (without_first id) (drop_more es n d l) ∙ failed (get_or es n d).0 id (drop (n + 1) es) (get_or es n d ∷ drop (n + 1) es) other ∙ sym (drop_more es n d l) in
     ap (λ r. take n es ++ (id, x) ∷ r) (sym later) ∙ ap (λ m. take m es ++ (id, x) ∷ without_first id (drop m es)) is ∙ sym (put_parts id x es)
 
 pub put_behind : {X : Type 0} (id : ℕ) (x : X) (es : List (ℕ × X)) (n : ℕ) → n ≡ before id es → length es ≤ n → insert es n (id, x) ≡ put nat_cmp id x es

@@ -1,25 +1,21 @@
 -- A list of entries has one spelling and at most one fault, and what is spelled has none.
-use Rattle.std.proofs.Common.{◌≡◌, ℕ, suc, ◌+◌, ◌<◌, ◌≤◌, ◌^◌, ◌==◌, true, false, nat_lt, List, [], ◌∷◌, ◌++◌, length, map, drop, Option, Some, None, refl, sym, ap, subst, ◌∙◌, arith, append_assoc, length-append, inl, inr}
-use Rattle.std.proofs.lemmas.Bool.{le-ltb, ne_eqb}
+use Rattle.std.proofs.Common.{◌≡◌, ℕ, suc, ◌+◌, ◌<◌, ◌≤◌, ◌^◌, ◌⊎◌, true, false, nat_lt, List, [], ◌∷◌, ◌++◌, length, map, Option, Some, None, refl, sym, ap, ◌∙◌, arith, append_assoc, length-append, inl, inr}
+use Rattle.std.proofs.lemmas.Bool.{le-ltb, cases_order}
+use Rattle.std.proofs.lemmas.Option.{none-some, same_Some}
 use Rattle.std.specs.List.{flat_map, AllByRecursion}
 use Rattle.sc_view.specs.declared.view.Stored.{Stored}
 use Rattle.sc_msg.specs.declared.fault.MessageFault.{MessageFault}
 use Rattle.sc_msg.specs.declared.version.Version.{Version}
 use Rattle.sc_msg.specs.declared.version.Version.TheVariants.{First, Second}
 use Rattle.spelling.specs.Numbers.{number_bytes, first_number}
-use Rattle.sc_msg.specs.Values.{value_bytes, value_fault, first_of, IsLength}
-use Rattle.sc_msg.specs.Entries.{Layout, ids_layout, view_layout, IsStored, stored_bytes, stored_fault, entry_bytes, list_bytes, IsEntry, IsRising, last_of, is_above, count_fault, entry_fault}
+use Rattle.sc_msg.specs.Values.{value_bytes, value_fault, IsLength}
+use Rattle.sc_msg.specs.Entries.{Layout, ids_layout, view_layout, IsStored, stored_bytes, stored_fault, entry_bytes, list_bytes, IsEntry, IsRising, last_of, is_above, count_fault, entry_fault, IsEntryFault}
 use Rattle.sc_msg.specs.Fields.{IsListFault}
 use Rattle.spelling.specs.Codes.{IsPrefixCode}
-use Rattle.spelling.proofs.Numbers.{length-number_bytes, first_number-number_bytes}
-use Rattle.spelling.proofs.Codes.{one_byte, same_front, number_front, once}
-use Rattle.sc_msg.proofs.Lists.{id_sound, behind_id}
-
-no_fault : (e : MessageFault) → None ≡ Some e → ⊥
-no_fault e h = cc
-
-pub some_is : (d e : MessageFault) → Some d ≡ Some e → d ≡ e
-some_is d e h = cc
+use Rattle.spelling.proofs.Numbers.{first_number-number_bytes}
+use Rattle.spelling.proofs.Codes.{one_byte, same_front, number_front, number_then, once}
+use Rattle.sc_msg.proofs.Lists.{value_faulty}
+use Rattle.sc_msg.proofs.Parts.{stored_fault_is}
 
 -- what a list of entries needs of what stands behind its ids
 pub record IsLayout {A : Type 0} (layout : Layout A) : Type 0 where
@@ -28,19 +24,22 @@ pub record IsLayout {A : Type 0} (layout : Layout A) : Type 0 where
       → layout.value_bytes a ++ x ≡ layout.value_bytes b ++ y → (a ≡ b) × (x ≡ y)
   pub sound : (a : A) (x : List ℕ) → layout.IsValue a → layout.value_fault (layout.value_bytes a ++ x) ≡ None
 
+-- what stands behind a number
+number_both : (width m n : ℕ) (a b x y : List ℕ) → (number_bytes width m ++ a) ++ x ≡ (number_bytes width n ++ b) ++ y
+    → m < 256 ^ width → n < 256 ^ width → (m ≡ n) × (a ++ x ≡ b ++ y)
+number_both width m n a b x y e p q =
+    number_front width m n (a ++ x) (b ++ y) p q (sym (append_assoc (number_bytes width m) a x) ∙ e ∙ append_assoc (number_bytes width n) b y)
+
 module _ {A : Type 0} (layout : Layout A) (law : IsLayout layout) where
-  entry_front : (a b : A) (x y : List ℕ) → IsEntry layout a → IsEntry layout b → entry_bytes layout a ++ x ≡ entry_bytes layout b ++ y → (a ≡ b) × (x ≡ y)
-  entry_front a b x y p q e =
-      let id = number_front 8 (layout.id_of a) (layout.id_of b) (layout.value_bytes a ++ x) (layout.value_bytes b ++ y) p.0 q.0 (sym (append_assoc (number_bytes 8 (layout.id_of a)) (layout.value_bytes a) x) ∙ e ∙ append_assoc (number_bytes 8 (layout.id_of b)) (layout.value_bytes b) y) in
-      law.front a b x y id.0 p.1 q.1 id.1
+  entry_front : (a b : A) (x y : List ℕ) → IsEntry layout a → IsEntry layout b → entry_bytes layout a ++ x ≡ entry_bytes layout b ++ y
+      → (a ≡ b) × (x ≡ y)
+  entry_front a b x y p q e = let id = number_both 8 _ _ _ _ _ _ e p.0 q.0 in law.front a b x y id.0 p.1 q.1 id.1
 
   entry_sound : (last : Option ℕ) (a : A) (x : List ℕ) → IsEntry layout a → is_above last (layout.id_of a) ≡ true
       → entry_fault layout last (entry_bytes layout a ++ x) ≡ None
   entry_sound last a x p above =
-      let parts : entry_bytes layout a ++ x ≡ number_bytes 8 (layout.id_of a) ++ (layout.value_bytes a ++ x) = append_assoc (number_bytes 8 (layout.id_of a)) (layout.value_bytes a) x in
-      ap (λ o. first_of o (layout.value_fault (drop 8 (entry_bytes layout a ++ x)))) (id_sound last (layout.id_of a) (entry_bytes layout a ++ x) (layout.value_bytes a ++ x) p.0 above parts)
-      ∙ ap layout.value_fault (behind_id (layout.id_of a) (entry_bytes layout a ++ x) (layout.value_bytes a ++ x) parts)
-      ∙ law.sound a x p.1
+      let parts = append_assoc (number_bytes 8 (layout.id_of a)) (layout.value_bytes a) x in
+      value_faulty (record { fits = p.0; above = above; parts = parts }) layout ∙ law.sound a x p.1
 
   abbrev all_bytes : List A → List ℕ
   all_bytes es = flat_map (entry_bytes layout) es
@@ -59,58 +58,65 @@ module _ {A : Type 0} (layout : Layout A) (law : IsLayout layout) where
   pub list_front : (es fs : List A) (x y : List ℕ) → AllByRecursion (IsEntry layout) es → AllByRecursion (IsEntry layout) fs → length es ≤ layout.most
       → length fs ≤ layout.most → list_bytes layout es ++ x ≡ list_bytes layout fs ++ y → (es ≡ fs) × (x ≡ y)
   list_front es fs x y p q few fewer e =
-      let count = number_front 2 (length es) (length fs) (all_bytes es ++ x) (all_bytes fs ++ y) (omega (arith, law.few)) (omega (arith, law.few)) (sym (counted es x) ∙ e ∙ counted fs y) in
+      let count = number_both 2 (length es) (length fs) _ _ _ _ e (omega (arith, law.few)) (omega (arith, law.few)) in
       once (entry_bytes layout) (IsEntry layout) entries_are_code es fs x y p q count.0 count.1
 
   -- ---- no fault in what is spelled
 
+  -- the fault behind some entries
+  abbrev behind : Option ℕ → List A → List ℕ → Option MessageFault
+  behind last es rest = entry_fault layout (last_of last (map layout.id_of es)) rest
+
   no_entry_fault : (last : Option ℕ) (before es : List A) (rest x : List ℕ) (e : MessageFault) → AllByRecursion (IsEntry layout) before
       → AllByRecursion (IsEntry layout) es → IsRising last (map layout.id_of es) → length before < length es
-      → all_bytes before ++ rest ≡ all_bytes es ++ x → entry_fault layout (last_of last (map layout.id_of before)) rest ≡ Some e → ⊥
+      → all_bytes before ++ rest ≡ all_bytes es ++ x → behind last before rest ≡ Some e → ⊥
   no_entry_fault last [] [] rest x e p q r fewer parts faulty = omega arith
   no_entry_fault last [] (a ∷ es) rest x e p q r fewer parts faulty =
-      no_fault e (sym (entry_sound last a (all_bytes es ++ x) q.0 r.0) ∙ ap (entry_fault layout last) (sym (parts ∙ on a es x)) ∙ faulty)
+      none-some e (sym (entry_sound last a (all_bytes es ++ x) q.0 r.0) ∙ ap (entry_fault layout last) (sym (parts ∙ on a es x)) ∙ faulty)
   no_entry_fault last (b ∷ before) [] rest x e p q r fewer parts faulty = omega arith
   no_entry_fault last (b ∷ before) (a ∷ es) rest x e p q r fewer parts faulty =
       let h = entry_front b a (all_bytes before ++ rest) (all_bytes es ++ x) p.0 q.0 (sym (on b before rest) ∙ parts ∙ on a es x) in
-      no_entry_fault (Some (layout.id_of a)) before es rest x e p.1 q.1 r.1 (omega (arith, fewer)) h.1 (ap (λ (c : A). entry_fault layout (last_of (Some (layout.id_of c)) (map layout.id_of before)) rest) (sym h.0) ∙ faulty)
+      let bad = ap (λ (c : A). behind (Some (layout.id_of c)) before rest) (sym h.0) ∙ faulty in
+      no_entry_fault (Some (layout.id_of a)) before es rest x e p.1 q.1 r.1 (omega (arith, fewer)) h.1 bad
 
-  no_count_fault : (bytes rest : List ℕ) (count : ℕ) → count ≤ layout.most → bytes ≡ number_bytes 2 count ++ rest → count_fault layout.most bytes ≡ None
+  no_count_fault : (bytes rest : List ℕ) (count : ℕ) → count ≤ layout.most → bytes ≡ number_bytes 2 count ++ rest
+      → count_fault layout.most bytes ≡ None
   no_count_fault bytes rest count few parts =
-      let long : nat_lt (length bytes) 2 ≡ false = le-ltb _ _ (omega (arith, ap length parts, length-append (number_bytes 2 count) rest, length-number_bytes 2 count)) in
+      let long : nat_lt (length bytes) 2 ≡ false = le-ltb _ _ (omega (arith, number_then 2 count bytes rest parts)) in
       let first : first_number 2 bytes ≡ count = ap (first_number 2) parts ∙ first_number-number_bytes 2 count rest (omega (arith, law.few)) in
       let low : nat_lt layout.most (first_number 2 bytes) ≡ false = ap (nat_lt layout.most) first ∙ le-ltb _ _ few in
       rw (long, low) refl
 
   pub no_list_fault : (es : List A) (x : List ℕ) (e : MessageFault) → AllByRecursion (IsEntry layout) es → IsRising None (map layout.id_of es)
       → length es ≤ layout.most → IsListFault layout (list_bytes layout es ++ x) e → ⊥
-  no_list_fault es x e p r few (inl h) = no_fault e (sym (no_count_fault _ (all_bytes es ++ x) (length es) few (counted es x)) ∙ h)
+  no_list_fault es x e p r few (inl h) = none-some e (sym (no_count_fault _ (all_bytes es ++ x) (length es) few (counted es x)) ∙ h)
   no_list_fault es x e p r few (inr h) =
-      let count = number_front 2 h.count (length es) (all_bytes h.before ++ h.rest) (all_bytes es ++ x) (omega (arith, law.few, h.few)) (omega (arith, law.few)) (sym h.parts ∙ counted es x) in
+      let same = sym h.parts ∙ counted es x in
+      let count = number_front 2 h.count (length es) _ _ (omega (arith, law.few, h.few)) (omega (arith, law.few)) same in
       no_entry_fault None h.before es h.rest x e h.entries p r (omega (arith, h.fewer, count.0)) count.1 h.faulty
 
   -- ---- one fault
 
-  same_place : (last : Option ℕ) (before fs : List A) (x y : List ℕ) (d e : MessageFault) → AllByRecursion (IsEntry layout) before
-      → AllByRecursion (IsEntry layout) fs → IsRising last (map layout.id_of before) → IsRising last (map layout.id_of fs)
-      → all_bytes before ++ x ≡ all_bytes fs ++ y → entry_fault layout (last_of last (map layout.id_of before)) x ≡ Some d
-      → entry_fault layout (last_of last (map layout.id_of fs)) y ≡ Some e → d ≡ e
-  same_place last [] [] x y d e p q r s parts bad worse = some_is d e (sym bad ∙ ap (entry_fault layout last) parts ∙ worse)
-  same_place last [] (f ∷ fs) x y d e p q r s parts bad worse =
-      absurd (no_fault d (sym (entry_sound last f (all_bytes fs ++ y) q.0 s.0) ∙ ap (entry_fault layout last) (sym (parts ∙ on f fs y)) ∙ bad))
-  same_place last (b ∷ before) [] x y d e p q r s parts bad worse =
-      absurd (no_fault e (sym (entry_sound last b (all_bytes before ++ x) p.0 r.0) ∙ ap (entry_fault layout last) (sym (on b before x) ∙ parts) ∙ worse))
-  same_place last (b ∷ before) (f ∷ fs) x y d e p q r s parts bad worse =
-      let h = entry_front b f (all_bytes before ++ x) (all_bytes fs ++ y) p.0 q.0 (sym (on b before x) ∙ parts ∙ on f fs y) in
-      same_place (Some (layout.id_of b)) before fs x y d e p.1 q.1 r.1 (subst (λ (c : A). IsRising (Some (layout.id_of c)) (map layout.id_of fs)) (sym h.0) s.1) h.1 bad (ap (λ (c : A). entry_fault layout (last_of (Some (layout.id_of c)) (map layout.id_of fs)) y) h.0 ∙ worse)
+  same_place : (bytes : List ℕ) (d e : MessageFault) (p : IsEntryFault layout bytes d) (q : IsEntryFault layout bytes e)
+      → all_bytes p.before ++ p.rest ≡ all_bytes q.before ++ q.rest
+      → (length p.before ≡ length q.before) ⊎ ((length p.before < length q.before) ⊎ (length q.before < length p.before)) → d ≡ e
+  same_place bytes d e p q parts (inl same) =
+      let h = once (entry_bytes layout) (IsEntry layout) entries_are_code p.before q.before p.rest q.rest p.entries q.entries same parts in
+      let fault : behind None p.before p.rest ≡ behind None q.before q.rest = λ i. behind None (h.0 i) (h.1 i) in
+      same_Some d e (sym p.faulty ∙ fault ∙ q.faulty)
+  same_place bytes d e p q parts (inr (inl less)) =
+      absurd (no_entry_fault None p.before q.before p.rest q.rest d p.entries q.entries q.rising less parts p.faulty)
+  same_place bytes d e p q parts (inr (inr less)) =
+      absurd (no_entry_fault None q.before p.before q.rest p.rest e q.entries p.entries p.rising less (sym parts) q.faulty)
 
   pub one_list_fault : (bytes : List ℕ) (d e : MessageFault) → IsListFault layout bytes d → IsListFault layout bytes e → d ≡ e
-  one_list_fault bytes d e (inl p) (inl q) = some_is d e (sym p ∙ q)
-  one_list_fault bytes d e (inl p) (inr q) = absurd (no_fault d (sym (no_count_fault bytes _ q.count q.few q.parts) ∙ p))
-  one_list_fault bytes d e (inr p) (inl q) = absurd (no_fault e (sym (no_count_fault bytes _ p.count p.few p.parts) ∙ q))
+  one_list_fault bytes d e (inl p) (inl q) = same_Some d e (sym p ∙ q)
+  one_list_fault bytes d e (inl p) (inr q) = absurd (none-some d (sym (no_count_fault bytes _ q.count q.few q.parts) ∙ p))
+  one_list_fault bytes d e (inr p) (inl q) = absurd (none-some e (sym (no_count_fault bytes _ p.count p.few p.parts) ∙ q))
   one_list_fault bytes d e (inr p) (inr q) =
-      let count = number_front 2 p.count q.count (all_bytes p.before ++ p.rest) (all_bytes q.before ++ q.rest) (omega (arith, law.few, p.few)) (omega (arith, law.few, q.few)) (sym p.parts ∙ q.parts) in
-      same_place None p.before q.before p.rest q.rest d e p.entries q.entries p.rising q.rising count.1 p.faulty q.faulty
+      let same = sym p.parts ∙ q.parts in
+      let count = number_front 2 p.count q.count _ _ (omega (arith, law.few, p.few)) (omega (arith, law.few, q.few)) same in
+      same_place bytes d e p q count.1 (cases_order (length p.before) (length q.before))
 
 -- ---- the two layouts
 
@@ -138,22 +144,14 @@ value_sound Second v x p =
 stored_front : (version : Version) (d e : Stored) (x y : List ℕ) → IsStored version d → IsStored version e
     → stored_bytes version d ++ x ≡ stored_bytes version e ++ y → (d ≡ e) × (x ≡ y)
 stored_front version d e x y p q same =
-    let a = value_bytes version d.value in
-    let b = value_bytes version e.value in
-    let n = number_front 8 d.number e.number (a ++ x) (b ++ y) p.fits q.fits (sym (append_assoc (number_bytes 8 d.number) a x) ∙ same ∙ append_assoc (number_bytes 8 e.number) b y) in
+    let n = number_both 8 d.number e.number _ _ _ _ same p.fits q.fits in
     let v = value_front version d.value e.value x y p.whole q.whole n.1 in
     (stored_is d e n.0 v.0, v.1)
 
 stored_sound : (version : Version) (e : Stored) (x : List ℕ) → IsStored version e → stored_fault version (stored_bytes version e ++ x) ≡ None
 stored_sound version e x p =
-    let bytes = stored_bytes version e ++ x in
-    let behind = value_bytes version e.value ++ x in
-    let parts : bytes ≡ number_bytes 8 e.number ++ behind = append_assoc (number_bytes 8 e.number) (value_bytes version e.value) x in
-    let long : nat_lt (length bytes) 8 ≡ false = le-ltb _ _ (omega (arith, ap length parts, length-append (number_bytes 8 e.number) behind, length-number_bytes 8 e.number)) in
-    let first : first_number 8 bytes ≡ e.number = ap (first_number 8) parts ∙ first_number-number_bytes 8 e.number behind p.fits in
-    let positive : (first_number 8 bytes == 0) ≡ false = ap (λ n. n == 0) first ∙ ne_eqb e.number 0 (λ z. omega (arith, z, p.positive)) in
-    let rest : drop 8 bytes ≡ behind = behind_id e.number bytes behind parts in
-    rw (long, positive, rest) (value_sound version e.value x p.whole)
+    let parts = append_assoc (number_bytes 8 e.number) (value_bytes version e.value) x in
+    stored_fault_is version _ e.number p.fits (λ z. omega (arith, z, p.positive)) parts ∙ value_sound version e.value x p.whole
 
 pub view_law : (version : Version) → IsLayout (view_layout version)
 view_law version = record {

@@ -1,6 +1,7 @@
 -- Rising ids, and the sets and views that are made of them.
 use Rattle.std.proofs.Common.{◌≡◌, ℕ, ◌<◌, ◌≤◌, Bool, true, false, cond, ◌==◌, List, [], ◌∷◌, ◌++◌, length, map, Option, Some, None, T, refl, sym, ap, ◌∙◌, arith, nat_lt}
 use Rattle.std.proofs.lemmas.Bool.{eqb-true, ltb-true, lt-ltb}
+use Rattle.std.proofs.lemmas.Option.{none-some}
 use Rattle.std.specs.declared.cmp.Ordering.TheVariants.{Less, Equal, Greater}
 use Rattle.std.specs.Ordering.{nat_cmp, is_lt, eq_by_cmp}
 use Rattle.std.specs.Cmp.{nat_cmp_is, nat_cmp_total, unsigned_tied}
@@ -109,16 +110,13 @@ each_found Q last [] r h = tt
 each_found {X = X} Q last (e ∷ es) r h = (
   h e.0 e.1 (rw (equal e.0) refl),
   each_found Q (Some e.0) es r.1 (λ id x f. h id x (elim (eq_by_cmp nat_cmp id e.0) as (λ b. eq_by_cmp nat_cmp id e.0 ≡ b → cond b (Some e.1) (find nat_cmp id es) ≡ Some x) [
-    | true ↦ λ is. absurd (other x (sym (missing_low e.0 es (above_all e.0 (map (λ e. e.0) es) r.1)) ∙ ap (λ k. find nat_cmp k es) (sym (eqb-true id e.0 (sym (unsigned_tied id e.0) ∙ is))) ∙ f))
+    | true ↦ λ is. absurd (none-some x (sym (missing_low e.0 es (above_all e.0 (map (λ e. e.0) es) r.1)) ∙ ap (λ k. find nat_cmp k es) (sym (eqb-true id e.0 (sym (unsigned_tied id e.0) ∙ is))) ∙ f))
     | false ↦ λ is. f
   ] refl)),
 )
   where
     equal : (x : ℕ) → nat_cmp x x ≡ Equal
     equal x = sym (nat_cmp_is x x Equal refl)
-
-    other : {X : Type 0} (x : X) → None ≡ Some x → ⊥
-    other x e = cc
 
 -- each entry of a view is counted from 1
 pub entries_counted : (v : ViewMap) → IsView v → AllByRecursion (λ e. 1 ≤ e.1.number) (fin.entries v)

@@ -65,7 +65,8 @@ pub too_many : (n : NodeState) (from : ℕ) (e : EchoFields) → n.gone ≡ fals
 too_many n from e here room over =
     let said = EnterEcho e in
     let taken : Result (Delivered × NodeState) Reason = Ok (delivery n from said, node_after n from said) in
-    tested_pass ((not n.gone, reasons.Gone) ∷ fitting (merge n.view e.view)) (tested ((not (is_overfull (facts_after n from said)), reasons.FactsFull) ∷ []) taken)
+    tested_pass ((not n.gone, reasons.Gone) ∷ fitting (merge n.view e.view))
+    (tested ((not (is_overfull (facts_after n from said)), reasons.FactsFull) ∷ []) taken)
     (ap not here, (ap not (is_room most_entries (fin.len (merge n.view e.view)) room), tt))
     ∙ ap (λ b. cond (not b) taken (Err reasons.FactsFull)) (overfull_after (joins n from said) (union_facts n.facts e.facts) n.id over)
 

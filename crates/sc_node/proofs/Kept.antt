@@ -7,7 +7,7 @@ use Rattle.std.specs.Ordering.{nat_cmp, eq_by_cmp}
 use Rattle.std.specs.Cmp.{nat_cmp_total}
 use Rattle.std.specs.FinMap as fin
 use Rattle.forms.specs.Calls.{Tests, tested}
-use Rattle.forms.proofs.Calls.{same_answer, tested_ok}
+use Rattle.forms.proofs.Calls.{same_answer, tested-ok}
 use Rattle.sc_view.specs.Values.{Lengths, IsWithin}
 use Rattle.sc_view.specs.Views.{ViewMap, HasValuesWithin, merge}
 use Rattle.sc_view.proofs.LengthLemmas.{empty_within, put_within, merge_within}
@@ -31,7 +31,12 @@ use Rattle.sc_node.specs.Lengths.{SessionHasValuesWithin, TableHasValuesWithin, 
 
 -- a call that passed its tests does this
 does : {A E : Type 0} (ts : Tests E) (x y : A) → tested ts (Ok x) ≡ Ok y → x ≡ y
-does ts x y is = same_answer x y (tested_ok ts (Ok x) y is).1
+does ts x y is = same_answer x y (tested-ok ts (Ok x) y is).1
+
+-- what is true of both is true of the one that is taken
+either : {X : Type 0} (P : X → Type 0) (b : Bool) (x y : X) → P x → P y → P (cond b x y)
+either P true x y h k = h
+either P false x y h k = k
 
 -- ---- the open operations
 
@@ -56,7 +61,8 @@ module _ (l : Lengths) where
 
   table_with : (m : fin.FinMap nat_cmp Session) (tag : ℕ) (o : Session) → TableHasValuesWithin l m → SessionHasValuesWithin l o
       → TableHasValuesWithin l (fin.insert m tag o)
-  table_with m tag o table new = record { at = λ q p has. inserted (eq_by_cmp nat_cmp q tag) m q o p table new (sym (fin.get-insert nat_cmp_total m tag o q) ∙ has) }
+  table_with m tag o table new =
+      record { at = λ q p has. inserted (eq_by_cmp nat_cmp q tag) m q o p table new (sym (fin.get-insert nat_cmp_total m tag o q) ∙ has) }
 
   removed : (b : Bool) (m : fin.FinMap nat_cmp Session) (q : ℕ) (p : Session) → TableHasValuesWithin l m → cond b None (fin.get m q) ≡ Some p
       → SessionHasValuesWithin l p
@@ -76,15 +82,13 @@ module _ (l : Lengths) where
   advanced from (advance.Turned threshold view) o new h = h
   advanced from a o new h = with_phase_within o (count_sender (open_phase o) from) h
 
-  moved_by : (b : Bool) (m : fin.FinMap nat_cmp Session) (tag : ℕ) (o : Session) → TableHasValuesWithin l m → SessionHasValuesWithin l o
-      → TableHasValuesWithin l (cond b (fin.remove m tag) (fin.insert m tag o))
-  moved_by true m tag o table new = table_without m tag table
-  moved_by false m tag o table new = table_with m tag o table new
-
   moved_at : (m : fin.FinMap nat_cmp Session) (p : Progress) (o : Option Session) → TableHasValuesWithin l m → ProgressHasValuesWithin l p
       → fin.get m p.tag ≡ o → TableHasValuesWithin l (session_moved m p o)
   moved_at m p None table new is = table
-  moved_at m p (Some o) table new is = moved_by (ends p.advance) m p.tag (apply p o) table (advanced p.sender p.advance o new (table.at p.tag o is))
+  moved_at m p (Some o) table new is =
+      let next = advanced p.sender p.advance o new (table.at p.tag o is) in
+      either (TableHasValuesWithin l) (ends p.advance) (fin.remove m p.tag) (fin.insert m p.tag (apply p o))
+      (table_without m p.tag table) (table_with m p.tag (apply p o) table next)
 
   table_after : (m : fin.FinMap nat_cmp Session) (p : Option Progress) → TableHasValuesWithin l m → IfSome p (ProgressHasValuesWithin l)
       → TableHasValuesWithin l (sessions_after m p)
@@ -113,40 +117,35 @@ module _ (l : Lengths) where
 
   -- ---- a message
 
-  view_if : (b : Bool) (v w : ViewMap) → HasValuesWithin l v → HasValuesWithin l w → HasValuesWithin l (cond b v w)
-  view_if true v w h k = h
-  view_if false v w h k = k
-
   view_kept : (s : NodeState) (b : Body) → NodeHasValuesWithin l s → BodyHasValuesWithin l b → HasValuesWithin l (view_after s b)
   view_kept s (EnterEcho e) h told = merge_within l s.view e.view h.view told
   view_kept s (Store t) h told = merge_within l s.view t.view h.view told
   view_kept s (StoreEcho v) h told = merge_within l s.view v h.view told
-  view_kept s (CollectReply r) h told = view_if (is_reply s r) (merge s.view r.view) s.view (merge_within l s.view r.view h.view told) h.view
+  view_kept s (CollectReply r) h told = either (HasValuesWithin l) (is_reply s r) (merge s.view r.view) s.view (merge_within l s.view r.view h.view told) h.view
   view_kept s b h told = h.view
-
-  advance_if : (b : Bool) (x y : Advance) → AdvanceHasValuesWithin l x → AdvanceHasValuesWithin l y → AdvanceHasValuesWithin l (cond b x y)
-  advance_if true x y h k = h
-  advance_if false x y h k = k
-
-  progress_if : (b : Bool) (p : Option Progress) → IfSome p (ProgressHasValuesWithin l) → IfSome (cond b p None) (ProgressHasValuesWithin l)
-  progress_if true p h = h
-  progress_if false p h = tt
 
   acked : (from tag : ℕ) (p : Option Phase) → IfSome (ack_progress from tag p) (ProgressHasValuesWithin l)
   acked from tag None = tt
-  acked from tag (Some p) = advance_if (is_reached (count_sender p from)) advance.Ended advance.Counted tt tt
+  acked from tag (Some p) = either (AdvanceHasValuesWithin l) (is_reached (count_sender p from)) advance.Ended advance.Counted tt tt
 
   replied : (from tag : ℕ) (view : ViewMap) (next : ℕ) (p : Option Phase) → HasValuesWithin l view
       → IfSome (reply_progress from tag view next p) (ProgressHasValuesWithin l)
   replied from tag view next None h = tt
-  replied from tag view next (Some p) h = advance_if (is_reached (count_sender p from)) (advance.Turned next view) advance.Counted h tt
+  replied from tag view next (Some p) h = either (AdvanceHasValuesWithin l) (is_reached (count_sender p from)) (advance.Turned next view) advance.Counted h tt
+
+  abbrev IsProgressWithin : Option Progress → Type 0
+  IsProgressWithin p = IfSome p (ProgressHasValuesWithin l)
 
   progress_told : (s : NodeState) (from : ℕ) (b : Body) → NodeHasValuesWithin l s → BodyHasValuesWithin l b
       → IfSome (progress_of s from b) (ProgressHasValuesWithin l)
-  progress_told s from (StoreAck a) h told = progress_if (a.to == s.id) (ack_progress from a.tag (storing (fin.get s.sessions a.tag))) (acked from a.tag (storing (fin.get s.sessions a.tag)))
+  progress_told s from (StoreAck a) h told =
+      let p = storing (fin.get s.sessions a.tag) in
+      either IsProgressWithin (a.to == s.id) (ack_progress from a.tag p) None (acked from a.tag p) tt
   progress_told s from (CollectReply r) h told =
-      progress_if (r.to == s.id) (reply_progress from r.tag (merge s.view r.view) (beta_threshold s) (querying (fin.get s.sessions r.tag)))
-      (replied from r.tag (merge s.view r.view) (beta_threshold s) (querying (fin.get s.sessions r.tag)) (merge_within l s.view r.view h.view told))
+      let p = querying (fin.get s.sessions r.tag) in
+      let view : ViewMap = merge s.view r.view in
+      either IsProgressWithin (r.to == s.id) (reply_progress from r.tag view (beta_threshold s) p) None
+      (replied from r.tag view (beta_threshold s) p (merge_within l s.view r.view h.view told)) tt
   progress_told s from b h told = tt
 
   stored_back : (p : Option Progress) → IfSome p (ProgressHasValuesWithin l) → AllByRecursion (BodyHasValuesWithin l) (store_back p)
@@ -158,18 +157,19 @@ module _ (l : Lengths) where
       by_advance tag advance.Counted h = tt
       by_advance tag advance.Ended h = tt
 
-  bodies_if : (b : Bool) (bs : List Body) → AllByRecursion (BodyHasValuesWithin l) bs → AllByRecursion (BodyHasValuesWithin l) (cond b bs [])
-  bodies_if true bs h = h
-  bodies_if false bs h = tt
+  abbrev AreWithin : List Body → Type 0
+  AreWithin bodies = AllByRecursion (BodyHasValuesWithin l) bodies
 
   answers_told : (s : NodeState) (from : ℕ) (b : Body) → NodeHasValuesWithin l s → BodyHasValuesWithin l b
       → AllByRecursion (BodyHasValuesWithin l) (answers s from b)
   answers_told s from Enter h told = (h.view, tt)
-  answers_told s from (EnterEcho e) h told = bodies_if (joins s from (EnterEcho e)) (Join ∷ []) (tt, tt)
+  answers_told s from (EnterEcho e) h told = either AreWithin (joins s from (EnterEcho e)) (Join ∷ []) [] (tt, tt) tt
   answers_told s from Join h told = (tt, tt)
   answers_told s from Leave h told = (tt, tt)
-  answers_told s from (Store t) h told = bodies_if s.joined (StoreAck (ack_for from t.tag) ∷ StoreEcho (merge s.view t.view) ∷ []) (tt, (merge_within l s.view t.view h.view told, tt))
-  answers_told s from (CollectQuery t) h told = bodies_if s.joined (CollectReply (reply_for s from t) ∷ []) (h.view, tt)
+  answers_told s from (Store t) h told =
+      either AreWithin s.joined (StoreAck (ack_for from t.tag) ∷ StoreEcho (merge s.view t.view) ∷ []) []
+      (tt, (merge_within l s.view t.view h.view told, tt)) tt
+  answers_told s from (CollectQuery t) h told = either AreWithin s.joined (CollectReply (reply_for s from t) ∷ []) [] (h.view, tt) tt
   answers_told s from (CollectReply r) h told = stored_back (progress_of s from (CollectReply r)) (progress_told s from (CollectReply r) h told)
   answers_told s from b h told = tt
 

@@ -15,4 +15,5 @@ runs_push v w (d ∷ cs) (s ∷ rs) u c r new h a = (h.0, h.1, runs_push h.0 w c
 
 pub runs_next : (v w : ViewMap) (cs : List Command) (i : ℕ) (d : Command) (rs : List Reply) (u : ViewMap) (r : Reply) (new : ViewMap) → i < length cs
     → Runs v w (take i cs) rs u → Answers u w (get_or cs i d) r new → Runs v w (take (i + 1) cs) (rs ++ r ∷ []) new
-runs_next v w cs i d rs u r new l h a = subst (λ ds. Runs v w ds (rs ++ r ∷ []) new) (sym (take_more cs i d l)) (runs_push v w (take i cs) rs u (get_or cs i d) r new h a)
+runs_next v w cs i d rs u r new l h a =
+    subst (λ ds. Runs v w ds (rs ++ r ∷ []) new) (sym (take_more cs i d l)) (runs_push v w (take i cs) rs u (get_or cs i d) r new h a)

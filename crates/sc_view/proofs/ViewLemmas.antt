@@ -1,6 +1,6 @@
 -- What views answer after a put and after a merge, and the order on them.
 use Rattle.std.proofs.Common.{◌≡◌, ℕ, max, ◌+◌, ◌≤◌, ◌<◌, Bool, true, false, not, cond, ◌==◌, nat_lt, List, [], ◌∷◌, ◌++◌, map, length, Option, Some, None, is_some, IfSome, ◌⊎◌, inl, inr, refl, sym, subst, ap, ◌∙◌, arith, T, true≢false}
-use Rattle.std.proofs.lemmas.Bool.{eqb-true, eq-eqb}
+use Rattle.std.proofs.lemmas.Bool.{eqb-true, eq-eqb, cond_both}
 use Rattle.std.proofs.lemmas.Bool.Decides.{nat_tests}
 use Rattle.std.proofs.lemmas.List.{length-map}
 use Rattle.std.specs.Ordering.{nat_cmp}
@@ -14,9 +14,10 @@ use Rattle.std.specs.FinMap.Entries.{find, is_sorted}
 use Rattle.sc_view.specs.declared.view.Stored.{Stored}
 use Rattle.sc_view.specs.Values.{most_bytes}
 use Rattle.sc_view.specs.Views.{ViewMap, IsView, most_entries, is_newer, newer, newest, put, merge, number_of, number_at, IsBelow, IsCoveredBy, Agree}
+use Rattle.sc_view.proofs.EntryLemmas.{Entries}
 use Rattle.forms.proofs.Maps.{found, get_found, entries_found, one_written, missed, tail_rises, head_rises}
 
-no_entry : (e : Stored) → None ≡ Some e → ⊥
+pub no_entry : (e : Stored) → None ≡ Some e → ⊥
 no_entry e is = subst (λ (o : Option Stored). cond (is_some o) ⊥ (Unit {0})) is tt
 
 same_view : (v w : ViewMap) → ((q : ℕ) → fin.get v q ≡ fin.get w q) → v ≡ w
@@ -24,13 +25,10 @@ same_view v w h = fin.same_map nat_cmp_total fin.nat_cmp-IsAntisymmetric v w h
 
 -- ---- one value more
 
-number_newer_by : (old e : Stored) (b : Bool) → nat_lt old.number e.number ≡ b → (cond b e old).number ≡ max old.number e.number
-number_newer_by old e true is = grind (arith, nat_tests)
-number_newer_by old e false is = grind (arith, nat_tests)
-
 pub number-newer : (v : Option Stored) (e : Stored) → (newer v e).number ≡ max (number_of v) e.number
 number-newer None e = omega arith
-number-newer (Some old) e = number_newer_by old e (nat_lt old.number e.number) refl
+number-newer (Some old) e =
+    cond_both (nat_lt old.number e.number) e old (λ s. s.number ≡ max old.number e.number) (λ is. grind (arith, nat_tests)) (λ is. grind (arith, nat_tests))
 
 pub get-put : (v : ViewMap) (id : ℕ) (e : Stored) (q : ℕ) → fin.get (put v id e) q ≡ cond (q == id) (Some (newer (fin.get v id) e)) (fin.get v q)
 get-put v id e q =
@@ -57,7 +55,9 @@ pub below_put : (v : ViewMap) (id : ℕ) (e : Stored) → IsBelow v (put v id e)
 below_put v id e = record { at = λ q. omega (arith, number-put v id e q, grows (q == id) v q id e.number refl) }
 
 pub put_has : (v : ViewMap) (id : ℕ) (e : Stored) → e.number ≤ number_at (put v id e) id
-put_has v id e = let is : number_at (put v id e) id ≡ (newer (fin.get v id) e).number = ap number_of (get-put_same v id e) in omega (arith, is, number-newer (fin.get v id) e)
+put_has v id e =
+    let is : number_at (put v id e) id ≡ (newer (fin.get v id) e).number = ap number_of (get-put_same v id e) in
+    omega (arith, is, number-newer (fin.get v id) e)
 
 pub len-put : (v : ViewMap) (id : ℕ) (e : Stored) → fin.len (put v id e) ≡ cond (is_some (fin.get v id)) (fin.len v) (fin.len v + 1)
 len-put v id e = fin.len-insert nat_cmp_total v id (newer (fin.get v id) e)
@@ -84,10 +84,11 @@ kept false v q id o is same = refl
 
 -- a value that is no news changes nothing
 pub not_learned : (v : ViewMap) (id : ℕ) (e : Stored) → is_newer (fin.get v id) e ≡ false → v ≡ put v id e
-not_learned v id e is = sym (same_view (put v id e) v (λ q. get-put v id e q ∙ kept (q == id) v q id (Some (newer (fin.get v id) e)) refl (no_news (fin.get v id) e is)))
+not_learned v id e is = sym (same_view (put v id e) v (λ q.
+    get-put v id e q ∙ kept (q == id) v q id (Some (newer (fin.get v id) e)) refl (no_news (fin.get v id) e is)))
 
 -- a value that is news is written
-pub learned : (es fs : List (ℕ × Stored)) (id : ℕ) (e : Stored) → is_newer (fin.get (fin.from_entries {R = nat_cmp} es) id) e ≡ true
+pub learned : (es fs : Entries) (id : ℕ) (e : Stored) → is_newer (fin.get (fin.from_entries {R = nat_cmp} es) id) e ≡ true
     → ((q : ℕ) → found fs q ≡ cond (is_at (nat_cmp id) q) (Some e) (found es q)) → fin.from_entries fs ≡ put (fin.from_entries es) id e
 learned es fs id e is h = one_written es fs id e h ∙ ap (fin.insert (fin.from_entries es) id) (sym (news (fin.get (fin.from_entries es) id) e is))
 
@@ -97,7 +98,7 @@ learned es fs id e is h = one_written es fs id e h ∙ ap (fin.insert (fin.from_
 abbrev pub merged : Option Stored → Option Stored → Option Stored
 merged v w = newest v w
 
-step_merged : (v : Option Stored) (b : Bool) (e : Stored) (rest : Option Stored) → cond b (Some (newer v e)) (merged v rest) ≡ merged v (cond b (Some e) rest)
+step_merged : (v : Option Stored) (b : Bool) (e : Stored) (o : Option Stored) → cond b (Some (newer v e)) (merged v o) ≡ merged v (cond b (Some e) o)
 step_merged v true e rest = refl
 step_merged v false e rest = refl
 
@@ -107,10 +108,10 @@ at_tied v q k e true x is = ap (λ n. Some (newer (fin.get v n) e)) (sym (eqb-tr
 at_tied v q k e false x is = refl
 
 -- the entries of a merge, as it makes them of w's
-abbrev pub merged_entries : ViewMap → List (ℕ × Stored) → List (ℕ × Stored)
+abbrev pub merged_entries : ViewMap → Entries → Entries
 merged_entries v es = map (λ e. (e.0, newer (fin.get v e.0) e.1)) es ++ fin.entries v
 
-find-merge : (v : ViewMap) (es : List (ℕ × Stored)) (q : ℕ) → find nat_cmp q (merged_entries v es) ≡ merged (fin.get v q) (find nat_cmp q es)
+find-merge : (v : ViewMap) (es : Entries) (q : ℕ) → find nat_cmp q (merged_entries v es) ≡ merged (fin.get v q) (find nat_cmp q es)
 find-merge v [] q = sym (fin.get-entries v q)
 find-merge v (e ∷ es) q =
     let rest : Option Stored = find nat_cmp q (merged_entries v es) in
@@ -120,7 +121,7 @@ find-merge v (e ∷ es) q =
     ∙ step_merged (fin.get v q) (q == e.0) e.1 (find nat_cmp q es)
     ∙ ap (λ b. merged (fin.get v q) (cond b (Some e.1) (find nat_cmp q es))) (sym (unsigned_tied q e.0))
 
-get-merged_entries : (v : ViewMap) (es : List (ℕ × Stored)) (q : ℕ)
+get-merged_entries : (v : ViewMap) (es : Entries) (q : ℕ)
     → fin.get (fin.from_entries {R = nat_cmp} (merged_entries v es)) q ≡ merged (fin.get v q) (find nat_cmp q es)
 get-merged_entries v es q = fin.get-from_entries nat_cmp_total (merged_entries v es) q ∙ find-merge v es q
 
@@ -155,13 +156,10 @@ empty_below v = record { at = λ id. let is : number_at fin.empty id ≡ 0 = ap 
 abbrev Covers : Stored → Option Stored → Type 0
 Covers e o = (o ≡ Some e) ⊎ (e.number < number_of o)
 
-newer_first : (e f : Stored) (b : Bool) → nat_lt e.number f.number ≡ b → Covers e (Some (cond b f e))
-newer_first e f true is = inr (grind (arith, nat_tests))
-newer_first e f false is = inl refl
-
 covers_first : (e : Stored) (w : Option Stored) → Covers e (merged (Some e) w)
 covers_first e None = inl refl
-covers_first e (Some f) = newer_first e f (nat_lt e.number f.number) refl
+covers_first e (Some f) =
+    cond_both (nat_lt e.number f.number) f e (λ s. Covers e (Some s)) (λ is. inr (grind (arith, nat_tests))) (λ is. inl refl)
 
 newer_second : (d e : Stored) (b c : Bool) → (d.number ≡ e.number → d ≡ e) → nat_lt d.number e.number ≡ b → nat_lt e.number d.number ≡ c
     → Covers e (Some (cond b e d))
@@ -186,18 +184,21 @@ from_newer : (d f e : Stored) (b : Bool) → Some (cond b f d) ≡ Some e → (S
 from_newer d f e true is = inr is
 from_newer d f e false is = inl is
 
-pub from_either : (v w : Option Stored) (e : Stored) → merged v w ≡ Some e → (v ≡ Some e) ⊎ (w ≡ Some e)
+from_either : (v w : Option Stored) (e : Stored) → merged v w ≡ Some e → (v ≡ Some e) ⊎ (w ≡ Some e)
 from_either v None e is = inl is
 from_either None (Some f) e is = inr is
 from_either (Some d) (Some f) e is = from_newer d f e (nat_lt d.number f.number) is
 
-pub by_cases : (P : Type 0) {A B : Type 0} → (A → P) → (B → P) → A ⊎ B → P
-by_cases P f g (inl a) = f a
-by_cases P f g (inr b) = g b
+-- what holds of each value
+abbrev pub Each : (ℕ → Stored → Type 0) → ViewMap → Type 0
+Each P v = (q : ℕ) (e : Stored) → fin.get v q ≡ Some e → P q e
+
+pub merge_each : (P : ℕ → Stored → Type 0) (v w : ViewMap) → Each P v → Each P w → Each P (merge v w)
+merge_each P v w by_v by_w q e is =
+    elim (from_either (fin.get v q) (fin.get w q) e (sym (get-merge v w q) ∙ is)) as (λ s. P q e) [ inl a ↦ by_v q e a | inr b ↦ by_w q e b ]
 
 pub merge_least : (u v w : ViewMap) → IsCoveredBy v u → IsCoveredBy w u → IsCoveredBy (merge v w) u
-merge_least u v w by_v by_w id e is =
-    by_cases (Covers e (fin.get u id)) (by_v id e) (by_w id e) (from_either (fin.get v id) (fin.get w id) e (sym (get-merge v w id) ∙ is))
+merge_least u v w = merge_each (λ id e. Covers e (fin.get u id)) v w
 
 not_newer : (P : Type 0) (e : Stored) → Covers e None → P
 not_newer P e (inl is) = absurd (no_entry e is)
@@ -219,12 +220,8 @@ covered_antisymmetric v w g h = same_view v w (λ q. same_at (fin.get v q) (fin.
 
 -- ---- once more changes nothing
 
-cond_same : (b : Bool) (e : Stored) → cond b e e ≡ e
-cond_same true e = refl
-cond_same false e = refl
-
 newer_self : (e : Stored) → newer (Some e) e ≡ e
-newer_self e = cond_same (nat_lt e.number e.number) e
+newer_self e = cond_both (nat_lt e.number e.number) e e (λ s. s ≡ e) (λ _. refl) (λ _. refl)
 
 newer_again : (d f : Stored) (b : Bool) → nat_lt d.number f.number ≡ b → newer (Some (cond b f d)) f ≡ cond b f d
 newer_again d f true is = newer_self f
@@ -260,20 +257,23 @@ count_more : (b : Bool) (k : ℕ) (ks : List ℕ) (n m : ℕ) → n ≡ m + leng
 count_more true k ks n m is = is
 count_more false k ks n m is = omega (arith, is)
 
-len-merged_entries : (v : ViewMap) (es : List (ℕ × Stored)) → T (is_sorted nat_cmp es)
+len-merged_entries : (v : ViewMap) (es : Entries) → T (is_sorted nat_cmp es)
     → fin.len (fin.from_entries {R = nat_cmp} (merged_entries v es)) ≡ fin.len v + length (filter (lacks v) (map (λ e. e.0) es))
 len-merged_entries v [] h = ap fin.len (from_own_entries v) ∙ omega arith
 len-merged_entries v (e ∷ es) h =
     let before : ViewMap = fin.from_entries (merged_entries v es) in
-    fin.len-insert nat_cmp_total before e.0 (newer (fin.get v e.0) e.1)
-    ∙ ap (λ (o : Option Stored). cond (is_some o) (fin.len before) (fin.len before + 1)) (get-merged_entries v es e.0 ∙ ap (merged (fin.get v e.0)) (missed e.0 es (head_rises e es h)))
-    ∙ count_more (is_some (fin.get v e.0)) e.0 (filter (lacks v) (map (λ e. e.0) es)) (fin.len before) (fin.len v) (len-merged_entries v es (tail_rises e es h))
+    let known : Option Stored = fin.get v e.0 in
+    let same : fin.get before e.0 ≡ known = get-merged_entries v es e.0 ∙ ap (merged known) (missed e.0 es (head_rises e es h)) in
+    fin.len-insert nat_cmp_total before e.0 (newer known e.1)
+    ∙ ap (λ (o : Option Stored). cond (is_some o) (fin.len before) (fin.len before + 1)) same
+    ∙ count_more (is_some known) e.0 (filter (lacks v) (map (λ e. e.0) es)) (fin.len before) (fin.len v)
+    (len-merged_entries v es (tail_rises e es h))
 
 -- a merge has the ids of v, and those of w that v lacks
 pub len-merge : (v w : ViewMap) → fin.len (merge v w) ≡ fin.len v + length (filter (lacks v) (fin.keys w))
 len-merge v w = len-merged_entries v (fin.entries w) (fin.entries_sorted w)
 
-pub lacks_found : (es fs : List (ℕ × Stored)) (v w : ViewMap) → fin.from_entries es ≡ v → fin.from_entries fs ≡ w → IsStrictlySortedBy nat_cmp (keys_of fs)
+pub lacks_found : (es fs : Entries) (v w : ViewMap) → fin.from_entries es ≡ v → fin.from_entries fs ≡ w → IsStrictlySortedBy nat_cmp (keys_of fs)
     → length (filter (λ id. not (is_some (found es id))) (keys_of fs)) ≡ length (filter (lacks v) (fin.keys w))
 lacks_found es fs v w is others h =
     ap (λ (p : ℕ → Bool). length (filter p (keys_of fs))) (λ i id. not (is_some (sym (get_found es id) i)))
@@ -293,7 +293,7 @@ few_new v w valid = omega (arith, filter_shorter (lacks v) (fin.keys w), length-
 
 -- ---- values learned one after another
 
-abbrev pub put_all : ViewMap → List (ℕ × Stored) → ViewMap
+abbrev pub put_all : ViewMap → Entries → ViewMap
 put_all v [] = v
 put_all v (e ∷ es) = put_all (put v e.0 e.1) es
 
@@ -302,20 +302,23 @@ put_first : (b : Bool) (v : ViewMap) (q k : ℕ) (e : Stored) (rest : Option Sto
 put_first true v q k e rest is none = ap (merged (Some (newer (fin.get v k) e))) (none refl) ∙ ap (λ n. Some (newer (fin.get v n) e)) (sym (eqb-true q k is))
 put_first false v q k e rest is none = refl
 
-get-put_all : (v : ViewMap) (es : List (ℕ × Stored)) (q : ℕ) → T (is_sorted nat_cmp es) → fin.get (put_all v es) q ≡ merged (fin.get v q) (find nat_cmp q es)
+get-put_all : (v : ViewMap) (es : Entries) (q : ℕ) → T (is_sorted nat_cmp es) → fin.get (put_all v es) q ≡ merged (fin.get v q) (find nat_cmp q es)
 get-put_all v [] q h = refl
 get-put_all v (e ∷ es) q h =
+    let none : (q == e.0) ≡ true → find nat_cmp q es ≡ None =
+    λ same. ap (λ n. find nat_cmp n es) (eqb-true q e.0 same) ∙ missed e.0 es (head_rises e es h) in
     get-put_all (put v e.0 e.1) es q (tail_rises e es h)
     ∙ ap (λ o. merged o (find nat_cmp q es)) (get-put v e.0 e.1 q)
-    ∙ put_first (q == e.0) v q e.0 e.1 (find nat_cmp q es) refl (λ same. ap (λ n. find nat_cmp n es) (eqb-true q e.0 same) ∙ missed e.0 es (head_rises e es h))
+    ∙ put_first (q == e.0) v q e.0 e.1 (find nat_cmp q es) refl none
     ∙ ap (λ b. merged (fin.get v q) (cond b (Some e.1) (find nat_cmp q es))) (sym (unsigned_tied q e.0))
 
 -- to learn the entries of a view in order is to merge it
 pub put_all-is : (v w : ViewMap) → put_all v (fin.entries w) ≡ merge v w
-put_all-is v w = same_view (put_all v (fin.entries w)) (merge v w) (λ q. get-put_all v (fin.entries w) q (fin.entries_sorted w) ∙ ap (merged (fin.get v q)) (sym (fin.get-entries w q)) ∙ sym (get-merge v w q))
+put_all-is v w = same_view (put_all v (fin.entries w)) (merge v w) (λ q.
+    get-put_all v (fin.entries w) q (fin.entries_sorted w) ∙ ap (merged (fin.get v q)) (sym (fin.get-entries w q)) ∙ sym (get-merge v w q))
 
 -- the same of two trees
-pub put_all-found : (es fs : List (ℕ × Stored)) → IsStrictlySortedBy nat_cmp (keys_of fs)
+pub put_all-found : (es fs : Entries) → IsStrictlySortedBy nat_cmp (keys_of fs)
     → put_all (fin.from_entries es) fs ≡ merge (fin.from_entries es) (fin.from_entries fs)
 put_all-found es fs h = ap (put_all (fin.from_entries es)) (sym (entries_found fs h)) ∙ put_all-is (fin.from_entries es) (fin.from_entries fs)
 
@@ -333,39 +336,33 @@ pub counted_at : (v : ViewMap) (id : ℕ) (r : Option Stored) → IsView v → r
 counted_at v id None valid is = tt
 counted_at v id (Some e) valid is = valid.counted id e (sym is)
 
-counted_put : (b : Bool) (v : ViewMap) (q id : ℕ) (e f : Stored) → IsView v → 1 ≤ e.number
-    → cond b (Some (newer (fin.get v id) e)) (fin.get v q) ≡ Some f → 1 ≤ f.number
-counted_put true v q id e f valid counted is = omega (arith, ap number_of is, number-newer (fin.get v id) e, counted)
-counted_put false v q id e f valid counted is = valid.counted q f is
-
-short_newer : (o : Option Stored) (e : Stored) → ((x : Stored) → o ≡ Some x → length x.value ≤ most_bytes) → length e.value ≤ most_bytes
-    → length (newer o e).value ≤ most_bytes
-short_newer None e known short = short
-short_newer (Some old) e known short = by_test (nat_lt old.number e.number)
-  where
-    by_test : (b : Bool) → length (cond b e old).value ≤ most_bytes
-    by_test true = short
-    by_test false = known old refl
-
 same_stored : (x y : Stored) → Some x ≡ Some y → x ≡ y
 same_stored x y e = cc
 
-short_put : (b : Bool) (v : ViewMap) (q id : ℕ) (e f : Stored) → IsView v → length e.value ≤ most_bytes
-    → cond b (Some (newer (fin.get v id) e)) (fin.get v q) ≡ Some f → length f.value ≤ most_bytes
-short_put true v q id e f valid short is = subst (λ (x : Stored). length x.value ≤ most_bytes) (same_stored (newer (fin.get v id) e) f is) (short_newer (fin.get v id) e (λ x at. valid.short id x at) short)
-short_put false v q id e f valid short is = valid.short q f is
+-- a test finds x or what o has
+pub one_of : (P : Stored → Type 0) (b : Bool) (x y : Stored) (o : Option Stored) → P x → (o ≡ Some y → P y) → cond b (Some x) o ≡ Some y → P y
+one_of P true x y o here there is = subst P (same_stored x y is) here
+one_of P false x y o here there is = there is
 
-pub put_valid : (v : ViewMap) (id : ℕ) (e : Stored) → IsView v → 1 ≤ e.number → length e.value ≤ most_bytes → fin.len (put v id e) ≤ most_entries
-    → IsView (put v id e)
+newer_each : (P : Stored → Type 0) (o : Option Stored) (e : Stored) → ((d : Stored) → o ≡ Some d → P d) → P e → P (newer o e)
+newer_each P None e old new = new
+newer_each P (Some d) e old new = cond_both (nat_lt d.number e.number) e d P (λ _. new) (λ _. old d refl)
+
+pub put_each : (P : Stored → Type 0) (v : ViewMap) (id : ℕ) (e : Stored) → P e → Each (λ q. P) v → Each (λ q. P) (put v id e)
+put_each P v id e new old q f is =
+    one_of P (q == id) (newer (fin.get v id) e) f (fin.get v q) (newer_each P (fin.get v id) e (old id) new) (old q f) (sym (get-put v id e q) ∙ is)
+
+pub put_valid : (v : ViewMap) (id : ℕ) (e : Stored) → IsView v → 1 ≤ e.number → length e.value ≤ most_bytes
+    → fin.len (put v id e) ≤ most_entries → IsView (put v id e)
 put_valid v id e valid counted short few = record {
   few = few;
-  counted = λ q f is. counted_put (q == id) v q id e f valid counted (sym (get-put v id e q) ∙ is);
-  short = λ q f is. short_put (q == id) v q id e f valid short (sym (get-put v id e q) ∙ is);
+  counted = put_each (λ f. 1 ≤ f.number) v id e counted valid.counted;
+  short = put_each (λ f. length f.value ≤ most_bytes) v id e short valid.short;
 }
 
 pub merge_valid : (v w : ViewMap) → IsView v → IsView w → fin.len (merge v w) ≤ most_entries → IsView (merge v w)
 merge_valid v w valid other few = record {
   few = few;
-  counted = λ q e is. by_cases (1 ≤ e.number) (valid.counted q e) (other.counted q e) (from_either (fin.get v q) (fin.get w q) e (sym (get-merge v w q) ∙ is));
-  short = λ q e is. by_cases (length e.value ≤ most_bytes) (valid.short q e) (other.short q e) (from_either (fin.get v q) (fin.get w q) e (sym (get-merge v w q) ∙ is));
+  counted = merge_each (λ q e. 1 ≤ e.number) v w valid.counted other.counted;
+  short = merge_each (λ q e. length e.value ≤ most_bytes) v w valid.short other.short;
 }

@@ -26,8 +26,9 @@ use Rattle.std.specs.Prelude.{IsErrAnd}
 use Rattle.sc_world.specs.Worlds.{Outcome, live_at, by_live, took, acts, acted, of_entered, tag_of, crashes, enters, event_of, stepped, founder_nodes, founded_nodes}
 use Rattle.sc_world.specs.Acts.{begun_in, outcome, progress_in}
 
-pub act_step : (w : WorldState) (e : WorldEvent) (id : ℕ) (a : Act) (r : Report) (n : NodeState) (nodes : fin.FinMap nat_cmp NodeState) (past : Past) (tag : Option ℕ) (numbers : Sent)
-    → by_live (live_at w id) (acted w.sent a) ≡ Ok (outcome r n) → nodes ≡ fin.insert w.nodes id n → past ≡ recorded (past_of w) e id r.outs (progress_in r.change) (begun_in r.change)
+pub act_step : (w : WorldState) (e : WorldEvent) (id : ℕ) (a : Act) (r : Report) (n : NodeState) (nodes : fin.FinMap nat_cmp NodeState) (past : Past)
+    (tag : Option ℕ) (numbers : Sent) → by_live (live_at w id) (acted w.sent a) ≡ Ok (outcome r n) → nodes ≡ fin.insert w.nodes id n
+    → past ≡ recorded (past_of w) e id r.outs (progress_in r.change) (begun_in r.change)
     → tag ≡ tag_of (begun_in r.change) → numbers ≡ numbered (past_of w) r.outs
     → acts w e id (acted w.sent a) ≡ Ok (record { tag = tag; ended = r.ended; sent = numbers }, world_of nodes past)
 act_step w e id a r n nodes past tag numbers said hn hp ht hf =
@@ -40,8 +41,9 @@ act_stepped w id act.Collect = refl
 act_stepped w id (act.Deliver number) = refl
 
 -- an act that the node refuses, or for which memory was refused
-pub act_refused : (w new : WorldState) (id : ℕ) (a : Act) (said : Result Outcome Reason) (f : Reason) (r : Result WorldStep Reason) → by_live (live_at w id) (acted w.sent a) ≡ said → new ≡ w
-    → (f ≢ reasons.OutOfMemory → said ≡ Err f) → IsErrAnd r (λ e. e ≡ f) → Steps reasons.OutOfMemory (stepped w (event_of id a)) w new r
+pub act_refused : (w new : WorldState) (id : ℕ) (a : Act) (said : Result Outcome Reason) (f : Reason) (r : Result WorldStep Reason)
+    → by_live (live_at w id) (acted w.sent a) ≡ said → new ≡ w → (f ≢ reasons.OutOfMemory → said ≡ Err f) → IsErrAnd r (λ e. e ≡ f)
+    → Steps reasons.OutOfMemory (stepped w (event_of id a)) w new r
 act_refused w new id a said f (Ok s) is same told gives = absurd gives
 act_refused w new id a said f (Err e) is same told gives = (
   same,
@@ -54,8 +56,8 @@ by_absent w id None h = refl
 by_absent w id (Some n) h = absurd (cc)
 
 pub enter_step : (w : WorldState) (id : ℕ) (node : NodeState) (outs : List Message) (nodes : fin.FinMap nat_cmp NodeState) (past : Past) (numbers : Sent)
-    → is_some (fin.get w.nodes id) ≡ false → entered w.config id ≡ (node, outs) → nodes ≡ fin.insert w.nodes id node → past ≡ recorded (past_of w) (event.Enter id) id outs None None
-    → numbers ≡ numbered (past_of w) outs
+    → is_some (fin.get w.nodes id) ≡ false → entered w.config id ≡ (node, outs) → nodes ≡ fin.insert w.nodes id node
+    → past ≡ recorded (past_of w) (event.Enter id) id outs None None → numbers ≡ numbered (past_of w) outs
     → enters w id (fin.get w.nodes id) ≡ Ok (record { tag = None; ended = None; sent = numbers }, world_of nodes past)
 enter_step w id node outs nodes past numbers absent made hn hp hf =
     by_absent w id (fin.get w.nodes id) absent
@@ -70,7 +72,8 @@ live_node : (o : Option NodeState) → true ≡ is_some o → NodeState
 live_node (Some n) h = n
 live_node None h = absurd (cc)
 
-pub crash_step : (w : WorldState) (id : ℕ) (past : Past) (numbers : Sent) → true ≡ is_some (live_at w id) → past ≡ stopped (past_of w) id → numbers ≡ record { first = length w.sent; count = 0 }
+pub crash_step : (w : WorldState) (id : ℕ) (past : Past) (numbers : Sent) → true ≡ is_some (live_at w id) → past ≡ stopped (past_of w) id
+    → numbers ≡ record { first = length w.sent; count = 0 }
     → crashes w id (live_at w id) ≡ Ok (record { tag = None; ended = None; sent = numbers }, world_of w.nodes past)
 crash_step w id past numbers lives hp hf =
     by_live_node w id (live_at w id) (live_node (live_at w id) lives) lives
@@ -84,12 +87,14 @@ or_right false b h = h
 any_at : (ids : List ℕ) (k d : ℕ) → k < length ids → list_any (eq_by_cmp nat_cmp (get_or ids k d)) ids ≡ true
 any_at [] k d lt = absurd (omega (arith, lt))
 any_at (x ∷ ids) zero d lt = ap (λ b. b || list_any (eq_by_cmp nat_cmp x) ids) (unsigned_tied x x ∙ eq-eqb x x refl)
-any_at (x ∷ ids) (suc k) d lt = or_right (eq_by_cmp nat_cmp (get_or ids k d) x) (list_any (eq_by_cmp nat_cmp (get_or ids k d)) ids) (any_at ids k d (omega (arith, lt)))
+any_at (x ∷ ids) (suc k) d lt =
+    or_right (eq_by_cmp nat_cmp (get_or ids k d) x) (list_any (eq_by_cmp nat_cmp (get_or ids k d)) ids) (any_at ids k d (omega (arith, lt)))
 
 pub has_at : (ids : List ℕ) (k d : ℕ) → k < length ids → set.contains (set.from_list {R = nat_cmp} ids) (get_or ids k d) ≡ true
 has_at ids k d lt = set.contains-from_list nat_cmp_total ids (get_or ids k d) ∙ any_at ids k d lt
 
-by_founders : (c : Config) (ids : List ℕ) (x : ℕ) (f : Reason) (a b : Bool) → are_founders ids ≡ a → b ≡ true → (let r : Result NodeState Reason = cond (a && b) (Ok (founder c ids x)) (Err reasons.BadFounders) in r) ≡ Err f
+by_founders : (c : Config) (ids : List ℕ) (x : ℕ) (f : Reason) (a b : Bool) → are_founders ids ≡ a → b ≡ true
+    → (let r : Result NodeState Reason = cond (a && b) (Ok (founder c ids x)) (Err reasons.BadFounders) in r) ≡ Err f
     → founded_nodes c ids ≡ Err f
 by_founders c ids x f a false is has h = absurd (cc)
 by_founders c ids x f true true is has h = absurd (cc)

@@ -1,8 +1,7 @@
 -- What an event tells of an operation that ends is in the operation's record.
-use Rattle.std.proofs.Common.{◌≡◌, ℕ, [], map, Option, Some, None, refl, sym, ap, ◌∙◌, subst, inl, inr, slice_get, Result, Ok}
+use Rattle.std.proofs.Common.{◌≡◌, ℕ, [], map, Option, Some, None, refl, sym, ap, ◌∙◌, subst, inl, inr, Ok}
 use Rattle.std.specs.Ordering.{nat_cmp}
 use Rattle.std.specs.FinMap as fin
-use Rattle.std.specs.FinSet as set
 use Rattle.sc_view.specs.declared.view.Stored.{Stored}
 use Rattle.sc_view.specs.Views.{ViewMap}
 use Rattle.sc_msg.specs.declared.message.Message.{Message}
@@ -22,19 +21,18 @@ use Rattle.sc_node.specs.Nodes.{progress_of, ended_session}
 use Rattle.sc_world.specs.declared.event.WorldEvent.{WorldEvent}
 use Rattle.sc_world.specs.declared.event.WorldEvent.TheVariants as event
 use Rattle.sc_world.specs.declared.event.WorldStep.{WorldStep}
-use Rattle.reasons.specs.declared.Reason.{Reason}
 use Rattle.sc_world.specs.declared.op.Op.{Op}
 use Rattle.sc_world.specs.State.{WorldState}
-use Rattle.sc_world.specs.Worlds.{clock, Outcome, told, after, end_at, moved, advanced, live_at, crashes, enters, stores, collects, leaves, delivers, stepped}
+use Rattle.sc_world.specs.Worlds.{clock, Outcome, told, after, end_at, moved, advanced, stepped}
 use Rattle.sc_world.specs.Records.{Among}
 use Rattle.sc_world.specs.Regular.{HasReturned, HasStored, EndIsRecorded}
 use Rattle.sc_world.specs.Operations.{returned_by}
-use Rattle.sc_world.proofs.Links.{IsLinked, IsMove}
+use Rattle.sc_world.proofs.Links.{IsLinked, site_of, IsMove}
 use Rattle.sc_world.proofs.Steps.{among-left, among-image, advance_op, is_open}
-use Rattle.sc_world.proofs.Handlers.{heard, store_outcome, collect_outcome, left_outcome, heard_moves, moves}
+use Rattle.sc_world.proofs.Handlers.{heard, heard_moves, moves}
 use Rattle.sc_world.proofs.Telling.{kind_kept}
 use Rattle.sc_world.proofs.Tallies.{IsTallied}
-use Rattle.sc_world.proofs.Inverts.{same_answer, no_refusal, IsTaken, live_is, acts-ok, stores-ok, collects-ok, leaves-ok, delivers-ok}
+use Rattle.sc_world.proofs.Inverts.{by_event}
 
 -- at this delivery an operation ends, and this is told of it
 record IsEnding (sessions : fin.FinMap nat_cmp Session) (p : Option Progress) (x : Ended) : Type 0 where
@@ -69,11 +67,16 @@ record IsEnd (tag : ℕ) (s : Session) (x : Ended) : Type 0 where
   stored : x.what ≡ op_result.Stored → (e : Stored) × (kind_of s ≡ kind.Store e)
 
 is_end : (tag : ℕ) (s : Session) (x : Ended) → ended_with tag s ≡ Some x → IsEnd tag s x
-is_end tag (session.Store e b) x h = subst (IsEnd tag (session.Store e b)) (some_is h) (record { tagged = refl; returned = λ view is. absurd (cc); stored = λ is. (e, refl) })
+is_end tag (session.Store e b) x h =
+    subst (IsEnd tag (session.Store e b)) (some_is h) (record { tagged = refl; returned = λ view is. absurd (cc); stored = λ is. (e, refl) })
 is_end tag (session.Querying p) x h = absurd (cc)
 is_end tag (session.StoringBack p b) x h =
     subst (IsEnd tag (session.StoringBack p b)) (some_is h)
-    (record { tagged = refl; returned = λ view is. let same : b.view ≡ view = cc in (refl, ap (λ (y : ViewMap). let o : Option ViewMap = Some y in o) same); stored = λ is. absurd (cc) })
+    (record {
+      tagged = refl;
+      returned = λ view is. let same : b.view ≡ view = cc in (refl, ap (λ (y : ViewMap). let o : Option ViewMap = Some y in o) same);
+      stored = λ is. absurd (cc);
+    })
 
 -- the record of an operation that ended, as what it was and with what it held
 record HasEnded (w : WorldState) (place q tag : ℕ) (s : Session) : Type 0 where
@@ -105,15 +108,22 @@ module _ (w : WorldState) (place q tag : ℕ) (s : Session) (x : Ended) (h : Has
       let c = end.stored what in
       record { op = h.op; among = h.among; by = h.by; tagged = h.tagged ∙ sym end.tagged; ended = h.ended; entry = c.0; kind = h.kind ∙ c.1 }
 
-module _ (w : WorldState) (e : WorldEvent) (q : ℕ) (n : NodeState) (at : fin.get w.nodes q ≡ Some n) (linked : IsLinked w) (from : ℕ) (b : Body) where
-  open_by : (p : Option Progress) → IsMove n from b p → (o : Op) → Among o w.ops → (k : Progress) → p ≡ Some k → o.node ≡ q → o.tag ≡ k.tag → o.end ≡ None
+module _ (w : WorldState) (e : WorldEvent) (q : ℕ) (n : NodeState) (at : fin.get w.nodes q ≡ Some n) (linked : IsLinked w) (from : ℕ)
+    (b : Body) where
+  -- a session of the node is that of an operation which has not ended
+  session_open : (o : Op) (s : Session) (t : ℕ) → Among o w.ops → o.node ≡ q → o.tag ≡ t → fin.get n.sessions t ≡ Some s
+      → (o.end ≡ None) × (o.session ≡ s)
+  session_open = is_open (site_of w e q n at linked) (heard n from b) (heard_moves n from b)
+
+  open_by : (p : Option Progress) → IsMove n from b p → (o : Op) → Among o w.ops → (k : Progress) → p ≡ Some k → o.node ≡ q → o.tag ≡ k.tag
+      → o.end ≡ None
   open_by None m o in' k is by tagged = absurd (cc)
   open_by (Some p) m o in' k is by tagged =
       let same : k ≡ p = cc in
       let at_tag : o.tag ≡ p.tag = tagged ∙ ap (λ (x : Progress). x.tag) same in
       elim m [
-        | inl a ↦ (is_open w e q n (heard n from b) at linked (heard_moves n from b) o a.session p.tag in' by at_tag a.was).0
-        | inr a ↦ (is_open w e q n (heard n from b) at linked (heard_moves n from b) o (session.Querying a.phase) p.tag in' by at_tag a.was).0
+        | inl a ↦ (session_open o a.session p.tag in' by at_tag a.was).0
+        | inr a ↦ (session_open o (session.Querying a.phase) p.tag in' by at_tag a.was).0
       ]
 
   -- a message moves only operations that have not ended
@@ -125,14 +135,15 @@ module _ (w : WorldState) (e : WorldEvent) (q : ℕ) (n : NodeState) (at : fin.g
       → HasEnded (after w e q (heard n from b)) (clock w) q k.progress.tag k.session
   heard_ended x k o in' by tagged =
       let p = k.progress in
-      let o' : Op = advanced q (clock w) (progress_of n from b) o in
-      let f = is_open w e q n (heard n from b) at linked (heard_moves n from b) o k.session p.tag in' by tagged k.was in
+      let move : Op → Op = advanced q (clock w) (progress_of n from b) in
+      let o' : Op = move o in
+      let f = session_open o k.session p.tag in' by tagged k.was in
       let turns : moved (clock w) p o ≡ o' =
       advance_op q (clock w) p o (λ (y : Op). moved (clock w) p o ≡ y) (λ _ _. refl) (λ other. absurd (other by tagged))
       ∙ ap (λ (y : Option Progress). advanced q (clock w) y o) (sym k.is) in
       record {
         op = o';
-        among = among-left o' (map (advanced q (clock w) (progress_of n from b)) w.ops) [] (among-image (advanced q (clock w) (progress_of n from b)) o w.ops in');
+        among = among-left o' (map move w.ops) [] (among-image move o w.ops in');
         by = ap (λ (y : Op). y.node) (sym turns) ∙ by;
         tagged = ap (λ (y : Op). y.tag) (sym turns) ∙ tagged;
         ended = ap (λ (y : Op). y.end) (sym turns) ∙ ap (end_at (clock w)) k.ends;
@@ -174,44 +185,12 @@ module _ (w : WorldState) (linked : IsLinked w) (t : IsTallied w) where
           has_stored (after w e q r) (clock w) q k.progress.tag k.session x (ended_of x k) k.says what;
     }
 
-  -- after an outcome that is known
-  taken_recorded : (e : WorldEvent) (q : ℕ) (f : NodeState → Result Outcome Reason) (a : WorldStep) (w' : WorldState) (k : IsTaken w e q f a w')
-      → EndIsRecorded w e (told w k.outcome) (after w e q k.outcome) → EndIsRecorded w e a w'
-  taken_recorded e q f a w' k h = subst (λ (s : WorldStep). EndIsRecorded w e s w') k.says (subst (EndIsRecorded w e (told w k.outcome)) k.is h)
-
-  -- a node that begins an operation or leaves tells of no end
-  quiet_recorded : (e : WorldEvent) (q : ℕ) (f : NodeState → Result Outcome Reason) (a : WorldStep) (w' : WorldState) (k : IsTaken w e q f a w')
-      (x : Outcome) → x ≡ k.outcome → x.ended ≡ None → EndIsRecorded w e a w'
-  quiet_recorded e q f a w' k x same none =
-      taken_recorded e q f a w' k (no_end w e (told w k.outcome) (after w e q k.outcome) (ap (λ (y : Outcome). y.ended) (sym same) ∙ none))
-
-  delivered_recorded : (number q : ℕ) (n : NodeState) (m : Option Message) (x : Outcome) → fin.get w.nodes q ≡ Some n → delivers m n ≡ Ok x
-      → EndIsRecorded w (event.Deliver number q) (told w x) (after w (event.Deliver number q) q x)
-  delivered_recorded number q n None x at h = absurd (no_refusal _ x h)
-  delivered_recorded number q n (Some m) x at h =
-      subst (λ (y : Outcome). EndIsRecorded w (event.Deliver number q) (told w y) (after w (event.Deliver number q) q y)) (delivers-ok m n x h) (heard_recorded number q n at m)
-
-  crashed_recorded : (q : ℕ) (o : Option NodeState) (a : WorldStep) (w' : WorldState) → crashes w q o ≡ Ok (a, w') → EndIsRecorded w (event.Crash q) a w'
-  crashed_recorded q None a w' h = absurd (no_refusal _ (a, w') h)
-  crashed_recorded q (Some n) a w' h = no_end w (event.Crash q) a w' (ap (λ (z : WorldStep × WorldState). z.0.ended) (sym (same_answer _ (a, w') h)))
-
-  entered_recorded : (q : ℕ) (o : Option NodeState) (a : WorldStep) (w' : WorldState) → enters w q o ≡ Ok (a, w') → EndIsRecorded w (event.Enter q) a w'
-  entered_recorded q (Some n) a w' h = absurd (no_refusal _ (a, w') h)
-  entered_recorded q None a w' h = no_end w (event.Enter q) a w' (ap (λ (z : WorldStep × WorldState). z.0.ended) (sym (same_answer _ (a, w') h)))
-
   pub step_recorded : (e : WorldEvent) (a : WorldStep) (w' : WorldState) → stepped w e ≡ Ok (a, w') → EndIsRecorded w e a w'
-  step_recorded (event.Enter q) a w' h = entered_recorded q (fin.get w.nodes q) a w' h
-  step_recorded (event.Crash q) a w' h = crashed_recorded q (live_at w q) a w' h
-  step_recorded (event.Leave q) a w' h =
-      let k = acts-ok w (event.Leave q) q leaves a w' h in
-      quiet_recorded (event.Leave q) q leaves a w' k (left_outcome k.node) (leaves-ok k.node k.outcome k.gives) refl
-  step_recorded (event.Store q value) a w' h =
-      let k = acts-ok w (event.Store q value) q (stores value) a w' h in
-      quiet_recorded (event.Store q value) q (stores value) a w' k (store_outcome k.node value) (stores-ok value k.node k.outcome k.gives) refl
-  step_recorded (event.Collect q) a w' h =
-      let k = acts-ok w (event.Collect q) q collects a w' h in
-      quiet_recorded (event.Collect q) q collects a w' k (collect_outcome k.node) (collects-ok k.node k.outcome k.gives) refl
-  step_recorded (event.Deliver number q) a w' h =
-      let k = acts-ok w (event.Deliver number q) q (delivers (slice_get w.sent number)) a w' h in
-      taken_recorded (event.Deliver number q) q (delivers (slice_get w.sent number)) a w' k
-      (delivered_recorded number q k.node (slice_get w.sent number) k.outcome (live_is (set.contains w.crashed q) (fin.get w.nodes q) k.node k.at) k.gives)
+  step_recorded = by_event w (EndIsRecorded w) (record {
+    entered = λ q at. no_end w (event.Enter q) _ _ refl;
+    left = λ q n at. no_end w (event.Leave q) _ _ refl;
+    crashed = λ q. no_end w (event.Crash q) _ _ refl;
+    stored = λ q value n at. no_end w (event.Store q value) _ _ refl;
+    collected = λ q n at. no_end w (event.Collect q) _ _ refl;
+    delivered = λ number q n m at sent. heard_recorded number q n at m;
+  })

@@ -1,5 +1,5 @@
 -- An operation whose record ends at an event is told by that event.
-use Rattle.std.proofs.Common.{◌≡◌, ℕ, ◌<◌, Bool, true, false, cond, map, Option, Some, None, refl, sym, ap, ◌∙◌, subst, arith, inl, inr, slice_get, Result, Ok}
+use Rattle.std.proofs.Common.{◌≡◌, ℕ, ◌<◌, Bool, true, false, cond, Option, Some, None, refl, sym, ap, ◌∙◌, subst, arith, inl, inr, Ok}
 use Rattle.std.proofs.lemmas.Option.{slice_get_within}
 use Rattle.std.specs.FinMap as fin
 use Rattle.sc_view.specs.Views.{ViewMap, merge}
@@ -17,20 +17,18 @@ use Rattle.sc_operations.specs.declared.progress.Ended.{Ended}
 use Rattle.sc_node.specs.Sessions.{back_of, is_reached, count_sender, ended_with, ended_at, ended_by}
 use Rattle.sc_node.specs.State.{NodeState}
 use Rattle.sc_node.specs.Nodes.{beta_threshold, progress_of, ended_session}
-use Rattle.sc_world.specs.declared.act.BegunOp.{BegunOp}
 use Rattle.sc_world.specs.declared.event.WorldEvent.{WorldEvent}
 use Rattle.sc_world.specs.declared.event.WorldEvent.TheVariants as event
 use Rattle.sc_world.specs.declared.event.WorldStep.{WorldStep}
-use Rattle.reasons.specs.declared.Reason.{Reason}
 use Rattle.sc_world.specs.declared.op.Op.{Op}
 use Rattle.sc_world.specs.State.{WorldState}
-use Rattle.sc_world.specs.Worlds.{clock, node_of, Outcome, told, after, end_at, advanced, op_begun, live_at, crashes, enters, stores, collects, leaves, delivers, stepped}
+use Rattle.sc_world.specs.Worlds.{clock, node_of, Outcome, told, after, end_at, advanced, stores, stepped}
 use Rattle.sc_world.specs.Records.{Among, Answers, IsAck, IsUntil, IsPhase, HasCome, AreRecords}
 use Rattle.sc_world.specs.Regular.{EndIsTold}
 use Rattle.sc_world.proofs.Links.{IsMove}
-use Rattle.sc_world.proofs.Steps.{among-append, among-map, advance_op}
+use Rattle.sc_world.proofs.Steps.{each_after, advance_op}
 use Rattle.sc_world.proofs.Handlers.{heard, store_outcome, collect_outcome, left_outcome, entered_outcome, moves}
-use Rattle.sc_world.proofs.Inverts.{same_answer, no_refusal, IsTaken, acts-ok, stores-ok, collects-ok, leaves-ok, delivers-ok}
+use Rattle.sc_world.proofs.Inverts.{OfOutcome, by_event}
 
 -- ---- a record that has ended, ended before now
 
@@ -74,7 +72,8 @@ tells_by : (n : NodeState) (from : ℕ) (b : Body) (p : Progress) → IsMove n f
 tells_by n from b p (inl m) ends =
     subst (λ (a : Advance). Tells (ended_at p.tag a (fin.get n.sessions p.tag)) p.tag) (sym ends)
     (subst (λ (x : Option Session). Tells (ended_at p.tag advance.Ended x) p.tag) (sym m.was) (tells_with p.tag m.session m.back m.stores))
-tells_by n from b p (inr m) ends = absurd (reply_goes_on (is_reached (count_sender m.phase from)) (beta_threshold n) (merge n.view m.reply.view) (sym m.advance ∙ ends))
+tells_by n from b p (inr m) ends =
+    absurd (reply_goes_on (is_reached (count_sender m.phase from)) (beta_threshold n) (merge n.view m.reply.view) (sym m.advance ∙ ends))
 
 -- ---- each event
 
@@ -106,69 +105,28 @@ module _ (w : WorldState) (records : AreRecords w) where
     none_told : (p : Option Progress) (ended : Option Ended) → p ≡ None → AreToldOf p ended
     none_told p ended none o in' now = absurd (not_now w records o in' (ap (λ (x : Option Progress). (advanced q (clock w) x o).end) (sym none) ∙ now))
 
-    begun_open : (b : Option BegunOp) (o : Op) → Among o (op_begun q (clock w) b) → o.end ≡ Some (clock w) → ⊥
-    begun_open None o in' ended = absurd in'
-    begun_open (Some b) o (inr none) ended = absurd none
-    begun_open (Some b) o (inl same) ended = let k : None ≡ Some (clock w) = ap (λ (y : Op). y.end) (sym same) ∙ ended in absurd (cc)
-
     module _ (e : WorldEvent) (own : node_of e ≡ q) (r : Outcome) (old : AreToldOf r.progress r.ended) where
       record_told : (o : Op) → Among o (after w e q r).ops → o.end ≡ Some (clock w) → IsToldOf q r.ended o
-      record_told o in' ended =
-          elim (among-append o (map (advanced q (clock w) r.progress) w.ops) (op_begun q (clock w) r.begun) in') [
-            | inl h ↦
-                let k = among-map (advanced q (clock w) r.progress) o w.ops h in
-                subst (IsToldOf q r.ended) (sym k.2) (old k.0 k.1 (ap (λ (y : Op). y.end) (sym k.2) ∙ ended))
-            | inr h ↦ absurd (begun_open r.begun o h ended)
-          ]
+      record_told = each_after w e q r (λ o. o.end ≡ Some (clock w) → IsToldOf q r.ended o) old (λ y is now. absurd (cc))
 
       outcome_told : EndIsTold w e (told w r) (after w e q r)
       outcome_told = record { by = λ o in' ended. (record_told o in' ended).by ∙ sym own; told = λ o in' ended. (record_told o in' ended).told }
 
-    -- after an outcome that is known
-    taken_told : (e : WorldEvent) (f : NodeState → Result Outcome Reason) (a : WorldStep) (w' : WorldState) (k : IsTaken w e q f a w')
-        → EndIsTold w e (told w k.outcome) (after w e q k.outcome) → EndIsTold w e a w'
-    taken_told e f a w' k h = subst (λ (s : WorldStep). EndIsTold w e s w') k.says (subst (EndIsTold w e (told w k.outcome)) k.is h)
+    -- an event that moves no operation ends none
+    quiet_told : (e : WorldEvent) → node_of e ≡ q → (r : Outcome) → r.progress ≡ None → EndIsTold w e (told w r) (after w e q r)
+    quiet_told e own r none = outcome_told e own r (none_told r.progress r.ended none)
 
-    -- a node that begins an operation or leaves ends none
-    quiet_told : (e : WorldEvent) → node_of e ≡ q
-        → (f : NodeState → Result Outcome Reason) (a : WorldStep) (w' : WorldState) (k : IsTaken w e q f a w') (x : Outcome) → x ≡ k.outcome
-        → x.progress ≡ None → EndIsTold w e a w'
-    quiet_told e own f a w' k x same none =
-        taken_told e f a w' k
-        (outcome_told e own k.outcome (none_told k.outcome.progress k.outcome.ended (ap (λ (y : Outcome). y.progress) (sym same) ∙ none)))
-
-    delivered_told : (number : ℕ) (n : NodeState) (m : Option Message) (x : Outcome) → delivers m n ≡ Ok x
-        → EndIsTold w (event.Deliver number q) (told w x) (after w (event.Deliver number q) q x)
-    delivered_told number n None x h = absurd (no_refusal _ x h)
-    delivered_told number n (Some m) x h =
-        let e : WorldEvent = event.Deliver number q in
-        subst (λ (y : Outcome). EndIsTold w e (told w y) (after w e q y)) (delivers-ok m n x h)
-        (outcome_told e refl (heard n m.from m.body) (progress_told n m.from m.body (progress_of n m.from m.body) (moves n m.from m.body)))
-
-    crashed_told : (o : Option NodeState) (a : WorldStep) (w' : WorldState) → crashes w q o ≡ Ok (a, w') → EndIsTold w (event.Crash q) a w'
-    crashed_told None a w' h = absurd (no_refusal _ (a, w') h)
-    crashed_told (Some n) a w' h = none_ends (event.Crash q) a w' (ap (λ (z : WorldStep × WorldState). z.1.ops) (same_answer _ (a, w') h))
-
-    entered_told : (o : Option NodeState) (a : WorldStep) (w' : WorldState) → enters w q o ≡ Ok (a, w') → EndIsTold w (event.Enter q) a w'
-    entered_told (Some n) a w' h = absurd (no_refusal _ (a, w') h)
-    entered_told None a w' h =
-        let r : Outcome = entered_outcome w.config q in
-        subst (λ (z : WorldStep × WorldState). EndIsTold w (event.Enter q) z.0 z.1) (same_answer _ (a, w') h)
-        (outcome_told (event.Enter q) refl r (none_told None r.ended refl))
+    delivered_told : (number : ℕ) (n : NodeState) (m : Message) → OfOutcome (EndIsTold w) w (event.Deliver number q) q (heard n m.from m.body)
+    delivered_told number n m =
+        outcome_told (event.Deliver number q) refl (heard n m.from m.body)
+        (progress_told n m.from m.body (progress_of n m.from m.body) (moves n m.from m.body))
 
   pub step_told : (e : WorldEvent) (a : WorldStep) (w' : WorldState) → stepped w e ≡ Ok (a, w') → EndIsTold w e a w'
-  step_told (event.Enter q) a w' h = entered_told q (fin.get w.nodes q) a w' h
-  step_told (event.Crash q) a w' h = crashed_told q (live_at w q) a w' h
-  step_told (event.Leave q) a w' h =
-      let k = acts-ok w (event.Leave q) q leaves a w' h in
-      quiet_told q (event.Leave q) refl leaves a w' k (left_outcome k.node) (leaves-ok k.node k.outcome k.gives) refl
-  step_told (event.Store q value) a w' h =
-      let k = acts-ok w (event.Store q value) q (stores value) a w' h in
-      quiet_told q (event.Store q value) refl (stores value) a w' k (store_outcome k.node value) (stores-ok value k.node k.outcome k.gives) refl
-  step_told (event.Collect q) a w' h =
-      let k = acts-ok w (event.Collect q) q collects a w' h in
-      quiet_told q (event.Collect q) refl collects a w' k (collect_outcome k.node) (collects-ok k.node k.outcome k.gives) refl
-  step_told (event.Deliver number q) a w' h =
-      let k = acts-ok w (event.Deliver number q) q (delivers (slice_get w.sent number)) a w' h in
-      taken_told q (event.Deliver number q) (delivers (slice_get w.sent number)) a w' k
-      (delivered_told q number k.node (slice_get w.sent number) k.outcome k.gives)
+  step_told = by_event w (EndIsTold w) (record {
+    entered = λ q at. quiet_told q (event.Enter q) refl (entered_outcome w.config q) refl;
+    left = λ q n at. quiet_told q (event.Leave q) refl (left_outcome n) refl;
+    crashed = λ q. none_ends (event.Crash q) _ _ refl;
+    stored = λ q value n at. quiet_told q (event.Store q value) refl (store_outcome n value) refl;
+    collected = λ q n at. quiet_told q (event.Collect q) refl (collect_outcome n) refl;
+    delivered = λ number q n m at sent. delivered_told q number n m;
+  })

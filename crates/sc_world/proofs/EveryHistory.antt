@@ -75,7 +75,9 @@ module _ (w : WorldState) (l : IsLawful w) where
         record {
           begin = s.op.begin;
           earlier = s.begin;
-          event = (l.records.each s.op s.among).began ∙ ap (λ (k : OperationKind). let o : Option WorldEvent = Some (beginning_of s.op.node k) in o) s.kind ∙ ap (λ (i : ℕ). let o : Option WorldEvent = Some (beginning_of i (kind.Store e)) in o) s.node;
+          event = (l.records.each s.op s.among).began
+              ∙ ap (λ (k : OperationKind). let o : Option WorldEvent = Some (beginning_of s.op.node k) in o) s.kind
+              ∙ ap (λ (i : ℕ). let o : Option WorldEvent = Some (beginning_of i (kind.Store e)) in o) s.node;
           op = s.op;
           among = s.among;
           began = refl;

@@ -1,6 +1,6 @@
 -- What each call and each kind of message makes of a node.
 use Rattle.std.proofs.Common.{◌≡◌, ℕ, ◌+◌, ◌≤◌, ◌<◌, Bool, true, false, cond, ◌==◌, ◌&&◌, List, [], ◌∷◌, ◌++◌, map, Option, Some, None, is_some, refl, sym, ap, ◌∙◌, subst, arith, ◌⊎◌, inl, inr}
-use Rattle.std.proofs.lemmas.Bool.{eqb-true, eq-eqb}
+use Rattle.std.proofs.lemmas.Bool.{eqb-true}
 use Rattle.std.specs.Ordering.{nat_cmp}
 use Rattle.std.specs.FinMap as fin
 use Rattle.sc_view.specs.declared.view.Stored.{Stored}
@@ -27,21 +27,25 @@ use Rattle.sc_node.specs.Nodes.{message_from, is_reply, view_after, progress_of,
 use Rattle.sc_world.specs.declared.event.WorldEvent.{WorldEvent}
 use Rattle.sc_world.specs.declared.op.Op.{Op}
 use Rattle.sc_world.specs.State.{WorldState}
-use Rattle.sc_world.specs.Worlds.{clock, Outcome, of_entered, of_left, of_begun, of_delivered, end_at, advanced, op_begun, after}
+use Rattle.sc_world.specs.Worlds.{clock, Outcome, of_entered, of_left, of_begun, of_delivered, end_at, advanced, after}
 use Rattle.sc_world.specs.Records.{Among}
 use Rattle.sc_world.proofs.Changes.{view_of, view_at, Kept, IsAbout, IsSent, IsBodySent, IsChange}
-use Rattle.sc_world.proofs.Links.{IsLinked, session_moved, session_after, IsTransition, AckMakes, ReplyMakes, IsMove, IsProgress, Each, IsBodyKnown}
+use Rattle.sc_world.proofs.Links.{IsLinked, Site, session_moved, session_after, IsTransition, AckMakes, ReplyMakes, IsMove, IsProgress, Each, IsBodyKnown}
 use Rattle.sc_world.proofs.Finite.{get-insert, get-insert_same, get-remove}
 use Rattle.sc_view.proofs.ViewLemmas.{below_refl, below_merge, merge_above, below_put, put_has}
-use Rattle.sc_world.proofs.Steps.{among-append, among-map, length-more, advance_op, is_open, known_next, view_next, is_change, is_linked}
+use Rattle.sc_world.proofs.Steps.{among-append, length-more, advance_op, each_after, node_next, the_node, is_open, known_next, view_next, is_change, is_linked}
 
 -- what each event makes of a node, where it is accepted
 abbrev pub heard : NodeState → ℕ → Body → Outcome
 heard n from b = of_delivered (delivery n from b, node_after n from b)
 
+abbrev pub store_body : NodeState → List ℕ → Body
+store_body n value = Store (store_under n.operations (stored_view n value))
+
 abbrev pub store_outcome : NodeState → List ℕ → Outcome
 store_outcome n value =
-    of_begun (begun n (store_session n value) (Store (store_under n.operations (stored_view n value))), opened n (stored_view n value) (n.stores + 1) (store_session n value))
+    let s : Session = store_session n value in
+    of_begun (begun n s (store_body n value), opened n (stored_view n value) (n.stores + 1) s)
 
 abbrev pub collect_outcome : NodeState → Outcome
 collect_outcome n = of_begun (begun n (collect_session n) (CollectQuery n.operations), opened n n.view n.stores (collect_session n))
@@ -116,7 +120,8 @@ ack_makes false s b from is = ack_counted s b from is
 
 reply_makes : (c : Bool) (p : Phase) (from next : ℕ) (v v' : ViewMap) → v ≡ v'
     → ReplyMakes (session.Querying p) (advanced_by from (cond c (advance.Turned next v) advance.Counted) (session.Querying p)) from v'
-reply_makes true p from next v v' same = record { kind = refl; replied = refl; view = inr (ap (λ (y : ViewMap). let o : Option ViewMap = Some y in o) same, refl) }
+reply_makes true p from next v v' same =
+    record { kind = refl; replied = refl; view = inr (ap (λ (y : ViewMap). let o : Option ViewMap = Some y in o) same, refl) }
 reply_makes false p from next v v' same = record { kind = refl; replied = refl; view = inl refl }
 
 reply_stays : (c : Bool) (next : ℕ) (v : ViewMap) (place : ℕ) → end_at place (cond c (advance.Turned next v) advance.Counted) ≡ None
@@ -127,7 +132,9 @@ reply_stays false next v place = refl
 module _ (n : NodeState) (from : ℕ) where
   ack_at : (a : AckFields) (s : Session) (b : StoreBack) → (a.to == n.id) ≡ true → fin.get n.sessions a.tag ≡ Some s → back_of s ≡ Some b
       → IsMove n from (StoreAck a) (ack_progress from a.tag (Some (open_phase s)))
-  ack_at a s b is at back = inl (record { session = s; back = b; was = at; stores = back; ack = a; body = refl; to = eqb-true a.to n.id is; tag = refl; sender = refl; advance = refl })
+  ack_at a s b is at back =
+      let to : a.to ≡ n.id = eqb-true a.to n.id is in
+      inl (record { session = s; back = b; was = at; stores = back; ack = a; body = refl; to = to; tag = refl; sender = refl; advance = refl })
 
   ack_move : (a : AckFields) (c : Bool) (s : Option Session) → (a.to == n.id) ≡ c → fin.get n.sessions a.tag ≡ s
       → IsMove n from (StoreAck a) (cond c (ack_progress from a.tag (storing s)) None)
@@ -157,7 +164,13 @@ module _ (n : NodeState) (from : ℕ) where
   moves (CollectReply r) = reply_move r (r.to == n.id) (fin.get n.sessions r.tag) refl refl
   moves b = tt
 
-module _ (w : WorldState) (e : WorldEvent) (q : ℕ) (n : NodeState) (at : fin.get w.nodes q ≡ Some n) (linked : IsLinked w) (from : ℕ) where
+module _ (site : Site) (from : ℕ) where
+  open site use {world as w, event as e, id as q, node as n, at, linked}
+
+  -- the world after a message
+  abbrev heard_world : Body → WorldState
+  heard_world b = after w e q (heard n from b)
+
   -- the message, as its parts are known
   said : (b c : Body) (sender : ℕ) → b ≡ c → sender ≡ from → Among (message_from from b) w.sent → Among (message_from sender c) w.sent
   said b c sender body is sent =
@@ -180,8 +193,11 @@ module _ (w : WorldState) (e : WorldEvent) (q : ℕ) (n : NodeState) (at : fin.g
             (ack_makes (is_reached (count_sender (open_phase k.session) from)) k.session k.back p.sender k.stores);
       })
   progress_by b (Some p) (inr k) sent =
+      let s : Session = session.Querying k.phase in
+      let full : Bool = is_reached (count_sender k.phase from) in
+      let view : ViewMap = merge n.view k.reply.view in
       inr (record {
-        session = session.Querying k.phase;
+        session = s;
         was = k.was;
         held = refl;
         reply = k.reply;
@@ -189,37 +205,36 @@ module _ (w : WorldState) (e : WorldEvent) (q : ℕ) (n : NodeState) (at : fin.g
         to = k.to ∙ linked.named q n at;
         tag = k.tag;
         makes =
-            subst (λ (a : Advance). ReplyMakes (session.Querying k.phase) (advanced_by p.sender a (session.Querying k.phase)) p.sender (view_after n b)) (sym k.advance)
-            (reply_makes (is_reached (count_sender k.phase from)) k.phase p.sender (beta_threshold n) (merge n.view k.reply.view) (view_after n b) k.learned);
-        stays = λ place. ap (end_at place) k.advance ∙ reply_stays (is_reached (count_sender k.phase from)) (beta_threshold n) (merge n.view k.reply.view) place;
+            subst (λ (a : Advance). ReplyMakes s (advanced_by p.sender a s) p.sender (view_after n b)) (sym k.advance)
+            (reply_makes full k.phase p.sender (beta_threshold n) view (view_after n b) k.learned);
+        stays = λ place. ap (end_at place) k.advance ∙ reply_stays full (beta_threshold n) view place;
         learns = subst (λ (v : ViewMap). IsBelow k.reply.view v) k.learned (merge_above n.view k.reply.view);
       })
 
   pub progress_is : (b : Body) → Among (message_from from b) w.sent → IsProgress w q n (heard n from b) (progress_of n from b)
   progress_is b sent = progress_by b (progress_of n from b) (moves n from b) sent
 
+  abbrev HoldsAt : ℕ → ViewMap → Op → Type 0
+  HoldsAt tag v o = o.node ≡ q → o.tag ≡ tag → stored o.session ≡ Some v
+
   -- what a collect stores back is sent, and is what its record has
-  turned_sent : (p : Progress) (a : Advance) (f : ReplyFields) (r : Outcome) → r.progress ≡ Some p → r.begun ≡ None → IsTransition n r → IsMove n from (CollectReply f) (Some p) → p.advance ≡ a
-      → Each (IsBodySent w (after w e q r) q) (store_of p.tag a)
+  turned_sent : (p : Progress) (a : Advance) (f : ReplyFields) (r : Outcome) → r.progress ≡ Some p → r.begun ≡ None → IsTransition n r
+      → IsMove n from (CollectReply f) (Some p) → p.advance ≡ a → Each (IsBodySent w (after w e q r) q) (store_of p.tag a)
   turned_sent p advance.Counted f r moves begins x m is = tt
   turned_sent p advance.Ended f r moves begins x m is = tt
   turned_sent p (advance.Turned next v) f r moves begins x m is = (
-    (λ o in' nq tt'.
-        let all : Among o (map (advanced q (clock w) (Some p)) w.ops) =
-        elim (among-append o (map (advanced q (clock w) r.progress) w.ops) (op_begun q (clock w) r.begun) in') [
-          | inl h ↦ subst (λ (x : Option Progress). Among o (map (advanced q (clock w) x) w.ops)) moves h
-          | inr h ↦ absurd (subst (λ (x : Option BegunOp). Among o (op_begun q (clock w) x)) begins h)
-        ]
-        in let k = among-map (advanced q (clock w) (Some p)) o w.ops all in
-        advance_op q (clock w) p k.0 (λ (y : Op). o ≡ y → stored o.session ≡ Some v)
-        (λ a b e'. elim m [
+    each_after w e q r (HoldsAt p.tag v)
+        (λ o in'.
+        subst (λ (y : Option Progress). HoldsAt p.tag v (advanced q (clock w) y o)) (sym moves)
+        (advance_op q (clock w) p o (HoldsAt p.tag v)
+        (λ a b _ _. elim m [
           | inl ack ↦ let h : CollectReply f ≡ StoreAck ack.ack = ack.body in absurd (cc)
           | inr reply ↦
-              let turns = (is_open w e q n r at linked x k.0 (session.Querying reply.phase) p.tag k.1 a b reply.was).1 in
-              ap (λ (y : Op). stored y.session) e' ∙ (λ i. stored (advanced_by p.sender (is i) (turns i)))
+              let turns = (is_open site r x o (session.Querying reply.phase) p.tag in' a b reply.was).1 in
+              λ i. stored (advanced_by p.sender (is i) (turns i))
         ])
-        (λ other e. absurd (other (sym (ap (λ (y : Op). y.node) e) ∙ nq) (sym (ap (λ (y : Op). y.tag) e) ∙ tt')))
-        k.2),
+        (λ other nq tt'. absurd (other nq tt'))))
+        (λ y new. let none : None ≡ Some y = sym begins ∙ new in absurd (cc)),
     tt,
   )
 
@@ -228,20 +243,21 @@ module _ (w : WorldState) (e : WorldEvent) (q : ℕ) (n : NodeState) (at : fin.g
   back_sent None f r moves begins x m = tt
   back_sent (Some p) f r moves begins x m = turned_sent p p.advance f r moves begins x m refl
 
-  answers_sent : (b : Body) → Among (message_from from b) w.sent → Each (IsBodySent w (after w e q (heard n from b)) q) (answers n from b)
+  answers_sent : (b : Body) → Among (message_from from b) w.sent → Each (IsBodySent w (heard_world b) q) (answers n from b)
   answers_sent Enter sent = (tt, tt)
-  answers_sent (EnterEcho f) sent = each_if (IsBodySent w (after w e q (heard n from (EnterEcho f))) q) (joins n from (EnterEcho f)) (Join ∷ []) (tt, tt)
+  answers_sent (EnterEcho f) sent = each_if (IsBodySent w (heard_world (EnterEcho f)) q) (joins n from (EnterEcho f)) (Join ∷ []) (tt, tt)
   answers_sent Join sent = (tt, tt)
   answers_sent Leave sent = (tt, tt)
   answers_sent (Store s) sent =
-      let r : Outcome = heard n from (Store s) in
-      each_if (IsBodySent w (after w e q r) q) n.joined (StoreAck (ack_for from s.tag) ∷ StoreEcho (merge n.view s.view) ∷ [])
-      ((s, sent, refl, subst (λ (y : ViewMap). IsBelow s.view y) (sym (view_next w e q n r at linked (heard_moves n from (Store s)))) (merge_above n.view s.view)), (tt, tt))
+      let view : view_at (heard_world (Store s)) q ≡ merge n.view s.view = view_next site (heard n from (Store s)) (heard_moves n from (Store s)) in
+      each_if (IsBodySent w (heard_world (Store s)) q) n.joined (StoreAck (ack_for from s.tag) ∷ StoreEcho (merge n.view s.view) ∷ [])
+      ((s, sent, refl, subst (λ (y : ViewMap). IsBelow s.view y) (sym view) (merge_above n.view s.view)), (tt, tt))
   answers_sent (CollectQuery t) sent =
-      each_if (IsBodySent w (after w e q (heard n from (CollectQuery t))) q) n.joined (CollectReply (reply_for n from t) ∷ [])
+      each_if (IsBodySent w (heard_world (CollectQuery t)) q) n.joined (CollectReply (reply_for n from t) ∷ [])
       ((sent, subst (λ (y : ViewMap). IsBelow y n.view) (sym (ap view_of at)) (below_refl n.view)), tt)
   answers_sent (CollectReply r) sent =
-      back_sent (progress_of n from (CollectReply r)) r (heard n from (CollectReply r)) refl refl (heard_moves n from (CollectReply r)) (moves n from (CollectReply r))
+      let b : Body = CollectReply r in
+      back_sent (progress_of n from b) r (heard n from b) refl refl (heard_moves n from b) (moves n from b)
   answers_sent b sent = tt
 
   back_known : (p : Option Progress) (r r' : Outcome) → IsTransition n r → IsProgress w q n r' p → Each (IsBodyKnown (after w e q r) q) (store_back p)
@@ -258,24 +274,29 @@ module _ (w : WorldState) (e : WorldEvent) (q : ℕ) (n : NodeState) (at : fin.g
       go : (a : Advance) → Each (IsBodyKnown (after w e q r) q) (store_of p.tag a)
       go advance.Counted = tt
       go advance.Ended = tt
-      go (advance.Turned next v) = ((λ node tag about. let h = known_tag node tag about in known_next w e q n r at linked x node tag h.0 h.1 h.2), tt)
+      go (advance.Turned next v) = ((λ node tag about. let h = known_tag node tag about in known_next site r x node tag h.0 h.1 h.2), tt)
 
-  answers_known : (b : Body) → Among (message_from from b) w.sent → Each (IsBodyKnown (after w e q (heard n from b)) q) (answers n from b)
+  -- whom a message that was sent is about is known later too
+  still_known : (b : Body) (m : Message) → Among m w.sent → (node tag : ℕ) → IsAbout m node tag
+      → (m' : NodeState) × (fin.get (heard_world b).nodes node ≡ Some m') × (tag < m'.operations)
+  still_known b m sent node tag about =
+      let h = linked.known m sent node tag about in known_next site (heard n from b) (heard_moves n from b) node tag h.0 h.1 h.2
+
+  answers_known : (b : Body) → Among (message_from from b) w.sent → Each (IsBodyKnown (heard_world b) q) (answers n from b)
   answers_known Enter sent = ((λ p t about. absurd about), tt)
-  answers_known (EnterEcho f) sent = each_if (IsBodyKnown (after w e q (heard n from (EnterEcho f))) q) (joins n from (EnterEcho f)) (Join ∷ []) ((λ p t about. absurd about), tt)
+  answers_known (EnterEcho f) sent =
+      each_if (IsBodyKnown (heard_world (EnterEcho f)) q) (joins n from (EnterEcho f)) (Join ∷ []) ((λ p t about. absurd about), tt)
   answers_known Join sent = ((λ p t about. absurd about), tt)
   answers_known Leave sent = ((λ p t about. absurd about), tt)
   answers_known (Store s) sent =
-      let r : Outcome = heard n from (Store s) in
-      each_if (IsBodyKnown (after w e q r) q) n.joined (StoreAck (ack_for from s.tag) ∷ StoreEcho (merge n.view s.view) ∷ [])
-      ((λ node tag about. let h = linked.known (message_from from (Store s)) sent node tag about in known_next w e q n r at linked (heard_moves n from (Store s)) node tag h.0 h.1 h.2), ((λ p t about. absurd about), tt))
+      each_if (IsBodyKnown (heard_world (Store s)) q) n.joined (StoreAck (ack_for from s.tag) ∷ StoreEcho (merge n.view s.view) ∷ [])
+      ((λ node tag about. still_known (Store s) (message_from from (Store s)) sent node tag about), ((λ p t about. absurd about), tt))
   answers_known (CollectQuery t) sent =
-      let r : Outcome = heard n from (CollectQuery t) in
-      each_if (IsBodyKnown (after w e q r) q) n.joined (CollectReply (reply_for n from t) ∷ [])
-      ((λ node tag about. let h = linked.known (message_from from (CollectQuery t)) sent node tag about in known_next w e q n r at linked (heard_moves n from (CollectQuery t)) node tag h.0 h.1 h.2), tt)
+      each_if (IsBodyKnown (heard_world (CollectQuery t)) q) n.joined (CollectReply (reply_for n from t) ∷ [])
+      ((λ node tag about. still_known (CollectQuery t) (message_from from (CollectQuery t)) sent node tag about), tt)
   answers_known (CollectReply r) sent =
-      back_known (progress_of n from (CollectReply r)) (heard n from (CollectReply r)) (heard n from (CollectReply r))
-      (heard_moves n from (CollectReply r)) (progress_is (CollectReply r) sent)
+      let b : Body = CollectReply r in
+      back_known (progress_of n from b) (heard n from b) (heard n from b) (heard_moves n from b) (progress_is b sent)
   answers_known b sent = tt
 
   -- a node sends in its own name
@@ -284,11 +305,11 @@ module _ (w : WorldState) (e : WorldEvent) (q : ℕ) (n : NodeState) (at : fin.g
 
   pub delivery_change : (b : Body) → Among (message_from from b) w.sent → IsChange w (after w e q (heard n from b))
   delivery_change b sent =
-      is_change w e q n (heard n from b) at linked (heard_moves n from b) (progress_is b sent) tt (answers n from b) (sends (answers n from b)) (answers_sent b sent)
+      is_change site (heard n from b) (heard_moves n from b) (progress_is b sent) tt (answers n from b) (sends (answers n from b)) (answers_sent b sent)
 
   pub delivery_linked : (b : Body) → Among (message_from from b) w.sent → IsLinked (after w e q (heard n from b))
   delivery_linked b sent =
-      is_linked w e q n (heard n from b) at linked (heard_moves n from b) (progress_is b sent) (answers n from b) (sends (answers n from b)) (answers_known b sent)
+      is_linked site (heard n from b) (heard_moves n from b) (progress_is b sent) (answers n from b) (sends (answers n from b)) (answers_known b sent)
 
 other_tag : (m : fin.FinMap nat_cmp Session) (k : ℕ) (s : Session) (t : ℕ) (b : Bool) → (t == k) ≡ b → t < k → cond b (Some s) (fin.get m t) ≡ fin.get m t
 other_tag m k s t true is lt = let e : t ≡ k = eqb-true t k is in absurd (omega arith)
@@ -319,9 +340,8 @@ collect_moves n = record {
 pub left_moves : (n : NodeState) → IsTransition n (left_outcome n)
 left_moves n = record { id = refl; grows = below_refl n.view; more = omega arith; sessions = λ t lt. refl; begun = tt }
 
-module _ (w : WorldState) (e : WorldEvent) (q : ℕ) (n : NodeState) (at : fin.get w.nodes q ≡ Some n) (linked : IsLinked w) where
-  pub map_none : (o : Op) → Among o (map (advanced q (clock w) None) w.ops) → Among o w.ops
-  map_none o in' = let k = among-map (advanced q (clock w) None) o w.ops in' in subst (λ (y : Op). Among y w.ops) (sym k.2) k.1
+module _ (site : Site) where
+  open site use {world as w, event as e, id as q, node as n, at, linked}
 
   pub own_name : (b : Body) → message_from n.id b ∷ [] ≡ map (message_from q) (b ∷ [])
   own_name b = ap (λ (i : ℕ). message_from i b ∷ []) (linked.named q n at)
@@ -329,77 +349,63 @@ module _ (w : WorldState) (e : WorldEvent) (q : ℕ) (n : NodeState) (at : fin.g
   -- the store message has the view of its operation
   store_sent : (value : List ℕ) → (o : Op) → Among o (after w e q (store_outcome n value)).ops → o.node ≡ q → o.tag ≡ n.operations
       → stored o.session ≡ Some (stored_view n value)
-  store_sent value o in' nq tt' =
-      elim (among-append o (map (advanced q (clock w) None) w.ops) (op_begun q (clock w) (store_outcome n value).begun) in') [
-        | inl h ↦
-            let k = linked.owned o (map_none o h) in
-            let same : k.node ≡ n = (let e : Some k.node ≡ Some n = sym k.at ∙ ap (fin.get w.nodes) nq ∙ at in cc) in
-            absurd (omega (arith, k.tag, ap (λ (y : NodeState). y.operations) same))
-        | inr (inl e) ↦ ap (λ (y : Op). stored y.session) e
-        | inr (inr none) ↦ absurd none
-      ]
+  store_sent value =
+      let made : BegunOp = record { tag = n.operations; session = store_session n value } in
+      each_after w e q (store_outcome n value) (λ o. o.node ≡ q → o.tag ≡ n.operations → stored o.session ≡ Some (stored_view n value))
+      (λ o in' nq tt'.
+      let k = linked.owned o in' in
+      absurd (omega (arith, k.tag, tt', ap (λ (y : NodeState). y.operations) (the_node site o.node k.node nq k.at))))
+      (λ y is _ _. let same : made ≡ y = cc in ap (λ (z : BegunOp). stored z.session) (sym same))
 
   pub store_number : (value : List ℕ) (s : Stored) → kind.Store (next_stored n value) ≡ kind.Store s
       → (v : ViewMap) × (Some (stored_view n value) ≡ Some v) × (s.number ≤ number_at v q)
   store_number value s is =
       let entry : next_stored n value ≡ s = cc in
-      let name : n.id ≡ q = linked.named q n at in
-      (stored_view n value, refl, omega (arith, ap (λ (x : Stored). x.number) entry, put_has n.view n.id (next_stored n value), ap (number_at (stored_view n value)) name))
+      let name : number_at (stored_view n value) n.id ≡ number_at (stored_view n value) q = ap (number_at (stored_view n value)) (linked.named q n at) in
+      (stored_view n value, refl, omega (arith, ap (λ (x : Stored). x.number) entry, put_has n.view n.id (next_stored n value), name))
 
   pub store_change : (value : List ℕ) → IsChange w (after w e q (store_outcome n value))
   store_change value =
-      is_change w e q n (store_outcome n value) at linked (store_moves n value) tt (record { replied = refl; acked = refl; number = store_number value })
-      (Store (store_under n.operations (stored_view n value)) ∷ []) (own_name (Store (store_under n.operations (stored_view n value)))) (store_sent value, tt)
+      is_change site (store_outcome n value) (store_moves n value) tt (record { replied = refl; acked = refl; number = store_number value })
+      (store_body n value ∷ []) (own_name (store_body n value)) (store_sent value, tt)
 
   begun_known : (r : Outcome) (node tag : ℕ) → n.operations < r.node.operations → (q ≡ node) × (n.operations ≡ tag)
       → (m : NodeState) × (fin.get (after w e q r).nodes node ≡ Some m) × (tag < m.operations)
-  begun_known r node tag lt about = (r.node, ap (fin.get (fin.insert w.nodes q r.node)) (sym about.0) ∙ get-insert_same w.nodes q r.node, omega (arith, about.1, lt))
+  begun_known r node tag lt about =
+      (r.node, ap (fin.get (fin.insert w.nodes q r.node)) (sym about.0) ∙ get-insert_same w.nodes q r.node, omega (arith, about.1, lt))
 
   pub store_linked : (value : List ℕ) → IsLinked (after w e q (store_outcome n value))
   store_linked value =
-      is_linked w e q n (store_outcome n value) at linked (store_moves n value) tt (Store (store_under n.operations (stored_view n value)) ∷ []) (own_name (Store (store_under n.operations (stored_view n value))))
+      is_linked site (store_outcome n value) (store_moves n value) tt (store_body n value ∷ []) (own_name (store_body n value))
       ((λ p t about. begun_known (store_outcome n value) p t (omega arith) about), tt)
 
   pub collect_change : IsChange w (after w e q (collect_outcome n))
   collect_change =
-      is_change w e q n (collect_outcome n) at linked (collect_moves n) tt (record { replied = refl; acked = refl; number = λ e is. absurd (cc) })
+      is_change site (collect_outcome n) (collect_moves n) tt (record { replied = refl; acked = refl; number = λ e is. absurd (cc) })
       (CollectQuery n.operations ∷ []) (own_name (CollectQuery n.operations)) (tt, tt)
 
   pub collect_linked : IsLinked (after w e q (collect_outcome n))
   collect_linked =
-      is_linked w e q n (collect_outcome n) at linked (collect_moves n) tt (CollectQuery n.operations ∷ []) (own_name (CollectQuery n.operations))
+      is_linked site (collect_outcome n) (collect_moves n) tt (CollectQuery n.operations ∷ []) (own_name (CollectQuery n.operations))
       ((λ p t about. begun_known (collect_outcome n) p t (omega arith) about), tt)
 
   pub left_change : IsChange w (after w e q (left_outcome n))
-  left_change = is_change w e q n (left_outcome n) at linked (left_moves n) tt tt (Leave ∷ []) (own_name Leave) (tt, tt)
+  left_change = is_change site (left_outcome n) (left_moves n) tt tt (Leave ∷ []) (own_name Leave) (tt, tt)
 
   pub left_linked : IsLinked (after w e q (left_outcome n))
-  left_linked = is_linked w e q n (left_outcome n) at linked (left_moves n) tt (Leave ∷ []) (own_name Leave) ((λ p t about. absurd about), tt)
+  left_linked = is_linked site (left_outcome n) (left_moves n) tt (Leave ∷ []) (own_name Leave) ((λ p t about. absurd about), tt)
 
 module _ (w : WorldState) (e : WorldEvent) (q : ℕ) (linked : IsLinked w) where
   pub kept_op : (o : Op) → Among o (map (advanced q (clock w) None) w.ops ++ []) → Among o w.ops
-  kept_op o in' =
-      elim (among-append o (map (advanced q (clock w) None) w.ops) [] in') [
-        | inl h ↦ let k = among-map (advanced q (clock w) None) o w.ops h in subst (λ (y : Op). Among y w.ops) (sym k.2) k.1
-        | inr none ↦ absurd none
-      ]
+  kept_op = each_after w e q (entered_outcome w.config q) (λ o. Among o w.ops) (λ o in'. in') (λ y is. absurd (cc))
 
   module _ (c : Config) (absent : fin.get w.nodes q ≡ None) where
     abbrev entry_world : WorldState
     entry_world = after w e q (entered_outcome c q)
 
-    at_entry : (A : Option NodeState → Type 0) (id : ℕ) (b : Bool) → (id == q) ≡ b → (id ≡ q → A (Some (entering c q)))
-        → ((id ≡ q → ⊥) → A (fin.get w.nodes id)) → A (cond b (Some (entering c q)) (fin.get w.nodes id))
-    at_entry A id true is here there = here (eqb-true id q is)
-    at_entry A id false is here there = there (λ e. let k : (id == q) ≡ true = eq-eqb id q e in absurd (cc))
-
-    pub entry_at : (A : Option NodeState → Type 0) (id : ℕ) → (id ≡ q → A (Some (entering c q))) → ((id ≡ q → ⊥) → A (fin.get w.nodes id))
-        → A (fin.get entry_world.nodes id)
-    entry_at A id here there = subst A (sym (get-insert w.nodes q (entering c q) id)) (at_entry A id (id == q) refl here there)
-
     enter_grows : (id : ℕ) → IsBelow (view_at w id) (view_at entry_world id)
     enter_grows id =
-        entry_at (λ (o : Option NodeState). IsBelow (view_at w id) (view_of o)) id
+        node_next w e q (entered_outcome c q) (λ (o : Option NodeState). IsBelow (view_at w id) (view_of o)) id
         (λ here. subst (λ (v : ViewMap). IsBelow v fin.empty) (sym (ap view_of (ap (fin.get w.nodes) here ∙ absent))) (below_refl fin.empty))
         (λ there. below_refl _)
 
@@ -414,11 +420,13 @@ module _ (w : WorldState) (e : WorldEvent) (q : ℕ) (linked : IsLinked w) where
     enter_change = record { clock = length-more w.events e; grows = enter_grows; ops = λ o in'. Kept (kept_op o in'); sent = enter_sent }
 
     kept_node : (p : ℕ) (n : NodeState) → fin.get w.nodes p ≡ Some n → fin.get entry_world.nodes p ≡ Some n
-    kept_node p n is = entry_at (λ (o : Option NodeState). o ≡ Some n) p (λ here. let k : None ≡ Some n = sym absent ∙ ap (fin.get w.nodes) (sym here) ∙ is in absurd (cc)) (λ _. is)
+    kept_node p n is =
+        node_next w e q (entered_outcome c q) (λ (o : Option NodeState). o ≡ Some n) p
+        (λ here. let k : None ≡ Some n = sym absent ∙ ap (fin.get w.nodes) (sym here) ∙ is in absurd (cc)) (λ _. is)
 
     pub enter_linked : IsLinked entry_world
     enter_linked = record {
-      named = λ id n is. entry_at (λ (o : Option NodeState). o ≡ Some n → n.id ≡ id) id
+      named = λ id n is. node_next w e q (entered_outcome c q) (λ (o : Option NodeState). o ≡ Some n → n.id ≡ id) id
           (λ here e. let same : entering c q ≡ n = cc in sym (ap (λ (y : NodeState). y.id) same) ∙ sym here)
           (λ there e. linked.named id n e) is;
       owned = λ o in'. let h = linked.owned o (kept_op o in') in record { node = h.node; at = kept_node o.node h.node h.at; tag = h.tag; session = h.session };

@@ -1,9 +1,8 @@
 -- Every event keeps the records true, and one for each operation.
-use Rattle.std.proofs.Common.{◌≡◌, ℕ, zero, suc, ◌+◌, ◌<◌, true, false, List, [], ◌∷◌, ◌++◌, length, map, take, Option, Some, None, refl, sym, ap, ◌∙◌, subst, arith, ◌⊎◌, inl, inr, slice_get, Ok}
+use Rattle.std.proofs.Common.{◌≡◌, ℕ, zero, suc, ◌+◌, true, false, List, [], ◌∷◌, ◌++◌, length, map, take, Option, Some, None, refl, sym, ap, ◌∙◌, subst, arith, ◌⊎◌, inl, inr, slice_get, Ok}
 use Rattle.std.proofs.lemmas.Bool.{eq-eqb}
 use Rattle.std.proofs.Math.Seq.{take-append_seam}
 use Rattle.std.specs.FinMap as fin
-use Rattle.std.specs.FinSet as set
 use Rattle.sc_msg.specs.declared.message.Message.{Message}
 use Rattle.sc_view.specs.declared.view.Stored.{Stored}
 use Rattle.sc_operations.specs.declared.progress.Progress.{Progress}
@@ -17,16 +16,16 @@ use Rattle.sc_world.specs.declared.event.WorldEvent.TheVariants as event
 use Rattle.sc_world.specs.declared.event.WorldStep.{WorldStep}
 use Rattle.sc_world.specs.declared.op.Op.{Op}
 use Rattle.sc_world.specs.State.{WorldState}
-use Rattle.sc_world.specs.Worlds.{clock, Outcome, advanced, op_begun, after, live_at, crashes, enters, leaves, stores, collects, delivers, stepped, IsHistory}
+use Rattle.sc_world.specs.Worlds.{clock, Outcome, advanced, op_begun, after, stores, stepped, IsHistory}
 use Rattle.sc_world.specs.Records.{Among, beginning_of, begins, operations_of, stores_of, IsAck, IsReply, IsRecord, AreDistinct, HasBegun, AreRecords}
 use Rattle.sc_world.proofs.Changes.{IsSound}
-use Rattle.sc_world.proofs.Links.{IsLinked, IsMove}
-use Rattle.sc_world.proofs.Steps.{among-append, among-map, begun_among, advance_op}
+use Rattle.sc_world.proofs.Links.{IsLinked, site_of, new_op, IsMove}
+use Rattle.sc_world.proofs.Steps.{each_after, begun_among, advance_op, the_node}
 use Rattle.sc_world.proofs.Handlers.{heard, store_outcome, collect_outcome, left_outcome, entered_outcome, heard_moves, moves}
 use Rattle.sc_world.proofs.Telling.{same_start, persists}
 use Rattle.sc_world.proofs.Truths.{IsThere}
 use Rattle.sc_world.proofs.Tallies.{begun_at, stored_at, IsTallied}
-use Rattle.sc_world.proofs.Inverts.{same_answer, no_refusal, live_is, acts-ok, stores-ok, collects-ok, leaves-ok, delivers-ok}
+use Rattle.sc_world.proofs.Inverts.{OfOutcome, by_event}
 use Rattle.sc_world.proofs.Runs.{among_get}
 use Rattle.sc_world.proofs.Histories.{IsNext, step_next, was_now}
 use Rattle.sc_world.proofs.Recording.{record_kept, new_measured, new_open, event_new}
@@ -43,8 +42,8 @@ get_map f [] i a h = absurd (cc)
 get_map f (x ∷ xs) zero a h = (x, refl, (let e : f x ≡ a = cc in sym e))
 get_map f (x ∷ xs) (suc i) a h = get_map f xs i a h
 
-begun_tag : (b y : BegunOp) → Some b ≡ Some y → b.tag ≡ y.tag
-begun_tag b y is = let same : b ≡ y = cc in ap (λ (z : BegunOp). z.tag) same
+begun_is : (b y : BegunOp) → Some b ≡ Some y → b ≡ y
+begun_is b y is = cc
 
 -- a list of records, some of them moved, and at most one new
 module _ (q place : ℕ) (p : Option Progress) (ops : List Op) (b : Option BegunOp) (distinct : AreDistinct ops)
@@ -58,21 +57,26 @@ module _ (q place : ℕ) (p : Option Progress) (ops : List Op) (b : Option Begun
       → slice_get (op_begun q place y) j ≡ Some a → From i a
   begun_from i j a None is at h = absurd (cc)
   begun_from i zero a (Some y) is at h =
-      let e : (let o : Op = record { node = q; tag = y.tag; begin = place; end = None; session = y.session } in o) ≡ a = cc in
+      let e : new_op q place y ≡ a = cc in
       New y is (omega (arith, at)) (ap (λ (o : Op). o.node) (sym e)) (ap (λ (o : Op). o.tag) (sym e))
   begun_from i (suc j) a (Some y) is at h = absurd (cc)
 
   from : (i : ℕ) (a : Op) → slice_get (map (advanced q place p) ops ++ op_begun q place b) i ≡ Some a → From i a
   from i a h =
       elim (get_append (map (advanced q place p) ops) (op_begun q place b) i a h) [
-        | inl old ↦ let k = get_map (advanced q place p) ops i a old in let s = same_start q place p k.0 in Old k.0 k.1 (ap (λ (o : Op). o.node) k.2 ∙ s.node) (ap (λ (o : Op). o.tag) k.2 ∙ s.tag)
+        | inl old ↦
+            let k = get_map (advanced q place p) ops i a old in
+            let s = same_start q place p k.0 in
+            Old k.0 k.1 (ap (λ (o : Op). o.node) k.2 ∙ s.node) (ap (λ (o : Op). o.tag) k.2 ∙ s.tag)
         | inr new ↦ begun_from i new.0 a b refl new.1 new.2
       ]
 
   one_place : (i k : ℕ) (a c : Op) → From i a → From k c → a.node ≡ c.node → a.tag ≡ c.tag → i ≡ k
   one_place i k a c (Old x at nx tx) (Old y at' ny ty) node tag = distinct i k x y at at' (sym nx ∙ node ∙ ny) (sym tx ∙ tag ∙ ty)
-  one_place i k a c (Old x at nx tx) (New y is here ny ty) node tag = absurd (fresh y is x (among_get ops i x at) (sym nx ∙ node ∙ ny) (sym tx ∙ tag ∙ ty))
-  one_place i k a c (New y is here ny ty) (Old x at nx tx) node tag = absurd (fresh y is x (among_get ops k x at) (sym nx ∙ sym node ∙ ny) (sym tx ∙ sym tag ∙ ty))
+  one_place i k a c (Old x at nx tx) (New y is here ny ty) node tag =
+      absurd (fresh y is x (among_get ops i x at) (sym nx ∙ node ∙ ny) (sym tx ∙ tag ∙ ty))
+  one_place i k a c (New y is here ny ty) (Old x at nx tx) node tag =
+      absurd (fresh y is x (among_get ops k x at) (sym nx ∙ sym node ∙ ny) (sym tx ∙ sym tag ∙ ty))
   one_place i k a c (New y is here ny ty) (New z is' there nz tz) node tag = here ∙ sym there
 
   pub distinct_next : AreDistinct (map (advanced q place p) ops ++ op_begun q place b)
@@ -113,7 +117,8 @@ module _ (w : WorldState) (history : IsHistory w) (linked : IsLinked w) (sound :
     quiet_records same quiet = record {
       distinct = subst AreDistinct (sym same) records.distinct;
       each = λ o in'. kept o (subst (Among o) same in');
-      all = all_begun (λ o in'. record { op = o; among = subst (Among o) (sym same) in'; node = refl; kind = refl; begin = refl }) (λ node d is. absurd (none_begins e quiet node d is));
+      all = all_begun (λ o in'. record { op = o; among = subst (Among o) (sym same) in'; node = refl; kind = refl; begin = refl })
+          (λ node d is. absurd (none_begins e quiet node d is));
     }
 
   module _ (e : WorldEvent) (q : ℕ) (r : Outcome) (k : IsNext w e (after w e q r)) where
@@ -126,30 +131,37 @@ module _ (w : WorldState) (history : IsHistory w) (linked : IsLinked w) (sound :
     all_next new = all_begun e next k (persists w e q r) new
 
     module _ (moves_none : r.progress ≡ None) where
-      old_records : (o : Op) → Among o (map (advanced q (clock w) r.progress) w.ops) → IsRecord next o
-      old_records o in' =
-          let h = among-map (advanced q (clock w) r.progress) o w.ops in' in
-          let same : advanced q (clock w) r.progress h.0 ≡ h.0 = ap (λ (p : Option Progress). advanced q (clock w) p h.0) moves_none in
-          subst (IsRecord next) (sym (h.2 ∙ same)) (kept e next k h.0 h.1)
-
       -- an operation may begin
-      pub begun_records : ((y : BegunOp) → r.begun ≡ Some y → (o : Op) → Among o w.ops → o.node ≡ q → o.tag ≡ y.tag → ⊥)
-          → ((o : Op) → Among o (op_begun q (clock w) r.begun) → IsRecord next o) → ((node : ℕ) (d : OperationKind) → e ≡ beginning_of node d → HasBegun next (clock w)) → AreRecords next
+      begun_records : ((y : BegunOp) → r.begun ≡ Some y → (o : Op) → Among o w.ops → o.node ≡ q → o.tag ≡ y.tag → ⊥)
+          → ((y : BegunOp) → r.begun ≡ Some y → IsRecord next (new_op q (clock w) y))
+          → ((node : ℕ) (d : OperationKind) → e ≡ beginning_of node d → HasBegun next (clock w)) → AreRecords next
       begun_records fresh new begins_now = record {
         distinct = distinct_next q (clock w) r.progress w.ops r.begun records.distinct fresh;
-        each = λ o in'. elim (among-append o (map (advanced q (clock w) r.progress) w.ops) (op_begun q (clock w) r.begun) in') [
-          | inl old ↦ old_records o old
-          | inr new_op ↦ new o new_op
-        ];
+        each = each_after w e q r (IsRecord next)
+            (λ o in'. subst (λ (p : Option Progress). IsRecord next (advanced q (clock w) p o)) (sym moves_none) (kept e next k o in')) new;
         all = all_next begins_now;
       }
 
-  -- tags of a node's operations are below its count
-  tag_below : (q : ℕ) (n : NodeState) → fin.get w.nodes q ≡ Some n → (o : Op) → Among o w.ops → o.node ≡ q → o.tag < n.operations
-  tag_below q n at o in' nq =
-      let h = linked.owned o in' in
-      let same : h.node ≡ n = (let e : Some h.node ≡ Some n = sym h.at ∙ ap (fin.get w.nodes) nq ∙ at in cc) in
-      omega (arith, h.tag, ap (λ (y : NodeState). y.operations) same)
+      -- none begins
+      none_records : r.begun ≡ None → ((node : ℕ) → begins node e ≡ false) → AreRecords next
+      none_records none quiet =
+          let no : (y : BegunOp) → r.begun ≡ Some y → ⊥ = λ y is. (let h : None ≡ Some y = sym none ∙ is in absurd (cc)) in
+          begun_records (λ y is. absurd (no y is)) (λ y is. absurd (no y is)) (λ node d is. absurd (none_begins e quiet node d is))
+
+      -- one begins, with the node's next tag
+      one_records : (n : NodeState) → fin.get w.nodes q ≡ Some n → (b : BegunOp) → r.begun ≡ Some b → b.tag ≡ n.operations
+          → IsRecord next (new_op q (clock w) b) → AreRecords next
+      one_records n at b is tag new =
+          begun_records fresh (λ y is'. subst (λ (z : BegunOp). IsRecord next (new_op q (clock w) z)) (begun_is b y (sym is ∙ is')) new)
+          (λ node d same. record { op = new_op q (clock w) b; among = begun_among w e q r b is; at = refl })
+        where
+          -- tags of a node's operations are below its count
+          fresh : (y : BegunOp) → r.begun ≡ Some y → (o : Op) → Among o w.ops → o.node ≡ q → o.tag ≡ y.tag → ⊥
+          fresh y is' o in' nq tq =
+              let h = linked.owned o in' in
+              let same : h.node ≡ n = the_node (site_of w e q n at linked) o.node h.node nq h.at in
+              let here : b.tag ≡ y.tag = ap (λ (z : BegunOp). z.tag) (begun_is b y (sym is ∙ is')) in
+              absurd (omega (arith, h.tag, ap (λ (z : NodeState). z.operations) same, tq, here, tag))
 
   -- how many operations and stores a node has begun, by the events before this one
   module _ (q : ℕ) (n : NodeState) (at : fin.get w.nodes q ≡ Some n) (e : WorldEvent) where
@@ -159,125 +171,69 @@ module _ (w : WorldState) (history : IsHistory w) (linked : IsLinked w) (sound :
     stores_now : n.stores ≡ stores_of q (take (clock w) (w.events ++ e ∷ []))
     stores_now = sym (ap stored_at at) ∙ tallied.stores q ∙ ap (stores_of q) (sym (take-append_seam w.events (e ∷ [])))
 
-  -- the record of the operation that begins is there
-  begun_here : (e : WorldEvent) (q : ℕ) (r : Outcome) (b : BegunOp) → r.begun ≡ Some b → HasBegun (after w e q r) (clock w)
-  begun_here e q r b is =
-      record { op = record { node = q; tag = b.tag; begin = clock w; end = None; session = b.session }; among = begun_among w e q r b is; at = refl }
+  module _ (q : ℕ) (n : NodeState) (at : fin.get w.nodes q ≡ Some n) where
+    store_records : (value : List ℕ) → OfOutcome (λ e a w'. IsNext w e w' → AreRecords w') w (event.Store q value) q (store_outcome n value)
+    store_records value k =
+        let e : WorldEvent = event.Store q value in
+        let w' : WorldState = after w e q (store_outcome n value) in
+        let begun : BegunOp = record { tag = n.operations; session = store_session n value } in
+        one_records e q (store_outcome n value) k refl n at begun refl refl (record {
+          began = event_new w e w' k;
+          tagged = operations_now q n at e;
+          numbered = λ x is.
+              let stores_it : kind.Store (next_stored n value) ≡ kind.Store x = is in
+              let same : next_stored n value ≡ x = cc in
+              ap (λ (y : Stored). y.number) (sym same) ∙ ap (λ (count : ℕ). count + 1) (stores_now q n at e);
+          runs = record { measured = new_measured w e w' k q n (was_now w history) at; until = new_open w' (IsAck (new_op q (clock w) begun)) q (clock w) n };
+        })
 
-  pub store_records : (q : ℕ) (value : List ℕ) (n : NodeState) → fin.get w.nodes q ≡ Some n
-      → IsNext w (event.Store q value) (after w (event.Store q value) q (store_outcome n value))
-      → AreRecords (after w (event.Store q value) q (store_outcome n value))
-  store_records q value n at k =
-      begun_records (event.Store q value) q (store_outcome n value) k refl
-      (λ y is o in' nq tq. let tag : n.operations ≡ y.tag = begun_tag _ y is in absurd (omega (arith, tag_below q n at o in' nq, tq, tag)))
-      new_store (λ node d is. begun_here (event.Store q value) q (store_outcome n value) (record { tag = n.operations; session = store_session n value }) refl)
-    where
-      new_store : (o : Op) → Among o (op_begun q (clock w) (store_outcome n value).begun) → IsRecord (after w (event.Store q value) q (store_outcome n value)) o
-      new_store o (inr none) = absurd none
-      new_store o (inl is) =
-          let w' : WorldState = after w (event.Store q value) q (store_outcome n value) in
-          let made : Op = record { node = q; tag = n.operations; begin = clock w; end = None; session = store_session n value } in
-          subst (IsRecord w') (sym is) (record {
-            began = event_new w (event.Store q value) w' k;
-            tagged = operations_now q n at (event.Store q value);
-            numbered = λ x is.
-                let stores_it : kind.Store (next_stored n value) ≡ kind.Store x = is in
-                let same : next_stored n value ≡ x = cc in
-                ap (λ (y : Stored). y.number) (sym same) ∙ ap (λ (count : ℕ). count + 1) (stores_now q n at (event.Store q value));
-            runs = record { measured = new_measured w (event.Store q value) w' k q n (was_now w history) at; until = new_open w' (IsAck made) q (clock w) n };
-          })
-
-  pub collect_records : (q : ℕ) (n : NodeState) → fin.get w.nodes q ≡ Some n
-      → IsNext w (event.Collect q) (after w (event.Collect q) q (collect_outcome n)) → AreRecords (after w (event.Collect q) q (collect_outcome n))
-  collect_records q n at k =
-      begun_records (event.Collect q) q (collect_outcome n) k refl
-      (λ y is o in' nq tq. let tag : n.operations ≡ y.tag = begun_tag _ y is in absurd (omega (arith, tag_below q n at o in' nq, tq, tag)))
-      new_collect (λ node d is. begun_here (event.Collect q) q (collect_outcome n) (record { tag = n.operations; session = collect_session n }) refl)
-    where
-      new_collect : (o : Op) → Among o (op_begun q (clock w) (collect_outcome n).begun) → IsRecord (after w (event.Collect q) q (collect_outcome n)) o
-      new_collect o (inr none) = absurd none
-      new_collect o (inl is) =
-          let w' : WorldState = after w (event.Collect q) q (collect_outcome n) in
-          let made : Op = record { node = q; tag = n.operations; begin = clock w; end = None; session = collect_session n } in
-          subst (IsRecord w') (sym is) (record {
-            began = event_new w (event.Collect q) w' k;
-            tagged = operations_now q n at (event.Collect q);
-            numbered = λ x is. let collects_it : kind.Collect ≡ kind.Store x = is in absurd (cc);
-            runs = (refl, record { measured = new_measured w (event.Collect q) w' k q n (was_now w history) at; until = new_open w' (IsReply made) q (clock w) n });
-          })
+    collect_records : OfOutcome (λ e a w'. IsNext w e w' → AreRecords w') w (event.Collect q) q (collect_outcome n)
+    collect_records k =
+        let e : WorldEvent = event.Collect q in
+        let w' : WorldState = after w e q (collect_outcome n) in
+        let begun : BegunOp = record { tag = n.operations; session = collect_session n } in
+        let until = new_open w' (IsReply (new_op q (clock w) begun)) q (clock w) n in
+        one_records e q (collect_outcome n) k refl n at begun refl refl (record {
+          began = event_new w e w' k;
+          tagged = operations_now q n at e;
+          numbered = λ x is. let collects_it : kind.Collect ≡ kind.Store x = is in absurd (cc);
+          runs = (refl, record { measured = new_measured w e w' k q n (was_now w history) at; until = until });
+        })
 
   module _ (number q : ℕ) (n : NodeState) (m : Message) (at : fin.get w.nodes q ≡ Some n) (sent : slice_get w.sent number ≡ Some m)
       (k : IsNext w (event.Deliver number q) (after w (event.Deliver number q) q (heard n m.from m.body))) where
     abbrev heard_world : WorldState
     heard_world = after w (event.Deliver number q) q (heard n m.from m.body)
 
+    abbrev progress : Option Progress
+    progress = progress_of n m.from m.body
+
     advanced_record : (p : Option Progress) → IsMove n m.from m.body p → (o : Op) → Among o w.ops → IsRecord heard_world (advanced q (clock w) p o)
     advanced_record None x o in' = kept (event.Deliver number q) heard_world k o in'
     advanced_record (Some p) x o in' =
         advance_op q (clock w) p o (IsRecord heard_world)
-        (λ nq tq. moved_record w number q heard_world k history n at linked m sent o (sound.began o in') (records.each o in') nq (heard n m.from m.body) (heard_moves n m.from m.body) in' p tq x)
+        (λ nq tq.
+        moved_record w number q heard_world k history n at linked m sent o (sound.began o in') (records.each o in') nq
+        (heard n m.from m.body) (heard_moves n m.from m.body) in' p tq x)
         (λ _. kept (event.Deliver number q) heard_world k o in')
 
-    pub deliver_records : AreRecords heard_world
+    deliver_records : AreRecords heard_world
     deliver_records = record {
-      distinct = distinct_next q (clock w) (progress_of n m.from m.body) w.ops None records.distinct (λ y is. absurd (cc));
-      each = λ o in'. elim (among-append o (map (advanced q (clock w) (progress_of n m.from m.body)) w.ops) [] in') [
-        | inl old ↦
-            let h = among-map (advanced q (clock w) (progress_of n m.from m.body)) o w.ops old in
-            subst (IsRecord heard_world) (sym h.2) (advanced_record (progress_of n m.from m.body) (moves n m.from m.body) h.0 h.1)
-        | inr none ↦ absurd none
-      ];
-      all = all_next (event.Deliver number q) q (heard n m.from m.body) k (λ node d is. absurd (none_begins (event.Deliver number q) (λ _. refl) node d is));
+      distinct = distinct_next q (clock w) progress w.ops None records.distinct (λ y is. absurd (cc));
+      each = each_after w (event.Deliver number q) q (heard n m.from m.body) (IsRecord heard_world)
+          (advanced_record progress (moves n m.from m.body)) (λ y is. absurd (cc));
+      all =
+          all_next (event.Deliver number q) q (heard n m.from m.body) k
+          (λ node d is. absurd (none_begins (event.Deliver number q) (λ _. refl) node d is));
     }
 
-  left_records : (q : ℕ) (n : NodeState) → IsNext w (event.Leave q) (after w (event.Leave q) q (left_outcome n))
-      → AreRecords (after w (event.Leave q) q (left_outcome n))
-  left_records q n k = begun_records (event.Leave q) q (left_outcome n) k refl (λ y is. absurd (cc)) (λ o in'. absurd in') (λ node d is. absurd (none_begins (event.Leave q) (λ _. refl) node d is))
-
-  entered_records : (q : ℕ) → IsNext w (event.Enter q) (after w (event.Enter q) q (entered_outcome w.config q))
-      → AreRecords (after w (event.Enter q) q (entered_outcome w.config q))
-  entered_records q k = begun_records (event.Enter q) q (entered_outcome w.config q) k refl (λ y is. absurd (cc)) (λ o in'. absurd in') (λ node d is. absurd (none_begins (event.Enter q) (λ _. refl) node d is))
-
-  at_live : (q : ℕ) (n : NodeState) → live_at w q ≡ Some n → fin.get w.nodes q ≡ Some n
-  at_live q n h = live_is (set.contains w.crashed q) (fin.get w.nodes q) n h
-
-  -- after an outcome that is known
-  by_outcome : (e : WorldEvent) (q : ℕ) (x y : Outcome) (w' : WorldState) → x ≡ y → after w e q y ≡ w'
-      → (IsNext w e (after w e q x) → AreRecords (after w e q x)) → IsNext w e w' → AreRecords w'
-  by_outcome e q x y w' same is f k =
-      let h : after w e q x ≡ w' = ap (after w e q) same ∙ is in
-      subst AreRecords h (f (subst (IsNext w e) (sym h) k))
-
-  delivered_any : (number q : ℕ) (n : NodeState) (m : Option Message) (x : Outcome) (w' : WorldState) → fin.get w.nodes q ≡ Some n → slice_get w.sent number ≡ m → delivers m n ≡ Ok x
-      → after w (event.Deliver number q) q x ≡ w' → IsNext w (event.Deliver number q) w' → AreRecords w'
-  delivered_any number q n None x w' at sent h is k = absurd (no_refusal _ x h)
-  delivered_any number q n (Some m) x w' at sent h is k =
-      by_outcome (event.Deliver number q) q (heard n m.from m.body) x w' (delivers-ok m n x h) is (deliver_records number q n m at sent) k
-
-  crashed_any : (q : ℕ) (o : Option NodeState) (a : WorldStep) (w' : WorldState) → crashes w q o ≡ Ok (a, w') → IsNext w (event.Crash q) w' → AreRecords w'
-  crashed_any q None a w' h k = absurd (no_refusal _ (a, w') h)
-  crashed_any q (Some n) a w' h k = quiet_records (event.Crash q) w' k (ap (λ (z : WorldStep × WorldState). z.1.ops) (sym (same_answer _ (a, w') h))) (λ _. refl)
-
-  entered_any : (q : ℕ) (o : Option NodeState) (a : WorldStep) (w' : WorldState) → enters w q o ≡ Ok (a, w') → IsNext w (event.Enter q) w' → AreRecords w'
-  entered_any q (Some n) a w' h k = absurd (no_refusal _ (a, w') h)
-  entered_any q None a w' h k =
-      by_outcome (event.Enter q) q (entered_outcome w.config q) (entered_outcome w.config q) w' refl (ap (λ (z : WorldStep × WorldState). z.1) (same_answer _ (a, w') h)) (entered_records q) k
-
-  step_by : (e : WorldEvent) (a : WorldStep) (w' : WorldState) → stepped w e ≡ Ok (a, w') → IsNext w e w' → AreRecords w'
-  step_by (event.Enter q) a w' h k = entered_any q (fin.get w.nodes q) a w' h k
-  step_by (event.Leave q) a w' h k =
-      let t = acts-ok w (event.Leave q) q leaves a w' h in
-      by_outcome (event.Leave q) q (left_outcome t.node) t.outcome w' (leaves-ok t.node t.outcome t.gives) t.is (left_records q t.node) k
-  step_by (event.Crash q) a w' h k = crashed_any q (live_at w q) a w' h k
-  step_by (event.Store q value) a w' h k =
-      let t = acts-ok w (event.Store q value) q (stores value) a w' h in
-      by_outcome (event.Store q value) q (store_outcome t.node value) t.outcome w' (stores-ok value t.node t.outcome t.gives) t.is (store_records q value t.node (at_live q t.node t.at)) k
-  step_by (event.Collect q) a w' h k =
-      let t = acts-ok w (event.Collect q) q collects a w' h in
-      by_outcome (event.Collect q) q (collect_outcome t.node) t.outcome w' (collects-ok t.node t.outcome t.gives) t.is (collect_records q t.node (at_live q t.node t.at)) k
-  step_by (event.Deliver number q) a w' h k =
-      let t = acts-ok w (event.Deliver number q) q (delivers (slice_get w.sent number)) a w' h in
-      delivered_any number q t.node (slice_get w.sent number) t.outcome w' (at_live q t.node t.at) refl t.gives t.is k
-
   pub step_records : (e : WorldEvent) (a : WorldStep) (w' : WorldState) → stepped w e ≡ Ok (a, w') → AreRecords w'
-  step_records e a w' h = step_by e a w' h (step_next w e a w' h)
+  step_records e a w' h =
+      by_event w (λ e a w'. IsNext w e w' → AreRecords w') (record {
+        entered = λ q at k. none_records (event.Enter q) q (entered_outcome w.config q) k refl refl (λ _. refl);
+        left = λ q n at k. none_records (event.Leave q) q (left_outcome n) k refl refl (λ _. refl);
+        crashed = λ q k. quiet_records (event.Crash q) _ k refl (λ _. refl);
+        stored = λ q value n at k. store_records q n at value k;
+        collected = collect_records;
+        delivered = deliver_records;
+      }) e a w' h (step_next w e a w' h)

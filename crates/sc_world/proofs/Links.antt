@@ -20,6 +20,7 @@ use Rattle.sc_world.specs.declared.act.BegunOp.{BegunOp}
 use Rattle.sc_node.specs.Sessions.{kind_of, back_of, open_phase, stored, repliers, ackers, apply, ends, is_reached, count_sender}
 use Rattle.sc_node.specs.State.{NodeState}
 use Rattle.sc_node.specs.Nodes.{message_from, view_after, beta_threshold}
+use Rattle.sc_world.specs.declared.event.WorldEvent.{WorldEvent}
 use Rattle.sc_world.specs.declared.op.Op.{Op}
 use Rattle.sc_world.specs.State.{WorldState}
 use Rattle.sc_world.specs.Worlds.{Outcome, end_at}
@@ -40,6 +41,22 @@ pub record IsLinked (w : WorldState) : Type 0 where
   pub named : (q : ℕ) (n : NodeState) → fin.get w.nodes q ≡ Some n → n.id ≡ q
   pub owned : (o : Op) → Among o w.ops → HasOwner w o
   pub known : (m : Message) → Among m w.sent → (p t : ℕ) → IsAbout m p t → (n : NodeState) × (fin.get w.nodes p ≡ Some n) × (t < n.operations)
+
+-- an event at a node of a linked world
+pub record Site : Type 0 where
+  pub world : WorldState
+  pub event : WorldEvent
+  pub id : ℕ
+  pub node : NodeState
+  pub at : fin.get world.nodes id ≡ Some node
+  pub linked : IsLinked world
+
+abbrev pub site_of : (w : WorldState) (e : WorldEvent) (q : ℕ) (n : NodeState) → fin.get w.nodes q ≡ Some n → IsLinked w → Site
+site_of w e q n at linked = record { world = w; event = e; id = q; node = n; at = at; linked = linked }
+
+-- the record of an operation that begins at a node and a place
+abbrev pub new_op : ℕ → ℕ → BegunOp → Op
+new_op node place b = record { node = node; tag = b.tag; begin = place; end = None; session = b.session }
 
 abbrev pub session_moved : Progress → Option Session → Option Session
 session_moved p None = None

@@ -21,7 +21,8 @@ meeting : (num den : ℕ) (members : Ids) (p q : Phase) (least : Option ℕ) →
     → IsLeastCommon p.counted q.counted least → is_some least ≡ true
 meeting num den members p q (Some id) half a b l = refl
 meeting num den members p q None half a b l =
-    absurd (too-many num den (set.len members) (set.len p.counted) (set.len q.counted) half (omega (arith, a.waited, a.reached)) (apart_are_few p.counted q.counted members a.among b.among l.none)
+    absurd (too-many num den (set.len members) (set.len p.counted) (set.len q.counted) half (omega (arith, a.waited, a.reached))
+    (apart_are_few p.counted q.counted members a.among b.among l.none)
     (omega (arith, a.share, mul-le-mul_right den a.reached)) (omega (arith, b.share, mul-le-mul_right den b.reached)))
 
 pub meets : (num den : ℕ) (members : Ids) (a b : Op) (least : Option ℕ) → IsQuorumPair num den members a b → IsMeeting a b least → is_some least ≡ true

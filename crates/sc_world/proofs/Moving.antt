@@ -20,15 +20,15 @@ use Rattle.sc_world.specs.declared.act.Act.TheVariants as act
 use Rattle.sc_world.specs.declared.act.Report.{Report}
 use Rattle.sc_world.specs.declared.counting.Counting.{Counting}
 use Rattle.sc_world.specs.declared.op.Op.{Op}
-use Rattle.sc_world.specs.State.{WorldState}
+use Rattle.sc_world.specs.State.{WorldState, Past, past_of}
 use Rattle.sc_world.specs.Worlds.{clock, Outcome, of_delivered, by_node, moved, live, by_live, live_at, acted, delivers, IsHistory}
-use Rattle.sc_world.specs.Records.{Among, AreDistinct}
+use Rattle.sc_world.specs.Records.{Among}
 use Rattle.sc_world.specs.Acts.{outcome, answered, answered_at, answered_by, is_op, IsReady, put_moved, progress_in}
 use Rattle.sc_world.specs.Ledgers.{IsRight}
-use Rattle.sc_world.proofs.Links.{IsLinked, IsAckMove, IsReplyMove, IsMove}
+use Rattle.sc_world.proofs.Links.{IsAckMove, IsReplyMove, IsMove}
 use Rattle.sc_world.proofs.Steps.{and_left, and_right}
 use Rattle.sc_world.proofs.Handlers.{moves}
-use Rattle.sc_world.proofs.Inverts.{no_refusal, live_is, by_live-ok, stores-ok, collects-ok, leaves-ok, delivers-ok}
+use Rattle.sc_world.proofs.Inverts.{no_refusal, live-some, by_live-ok, stores-ok, collects-ok, leaves-ok, delivers-ok}
 use Rattle.sc_world.proofs.EveryHistory.{IsLawful, every_lawful}
 
 -- a record that no other matches
@@ -60,7 +60,10 @@ module _ (test : Op → Bool) (f : Op → Op) where
   one_changes [] k o at is only = absurd (cc)
   one_changes (x ∷ ops) zero o at is only =
       let same : x ≡ o = cc in
-      let rest : ops ≡ map change ops = none_change ops (λ y in'. not_tested (test y) (λ hit. let k = place_in ops y in' in let h : suc k.0 ≡ zero = only (suc k.0) y k.1 hit in absurd (omega (arith, h)))) in
+      let rest : ops ≡ map change ops = none_change ops (λ y in'. not_tested (test y) (λ hit.
+      let k = place_in ops y in' in
+      let h : suc k.0 ≡ zero = only (suc k.0) y k.1 hit in
+      absurd (omega (arith, h)))) in
       λ i. (on o is ∙ ap change (sym same)) i ∷ rest i
   one_changes (x ∷ ops) (suc k) o at is only =
       let head : test x ≡ false = not_tested (test x) (λ hit. let h : zero ≡ suc k = only zero x refl hit in absurd (omega (arith, h))) in
@@ -99,14 +102,15 @@ pub still : (ops : List Op) (id place : ℕ) (p : Option Progress) (c : Option C
 still ops id place None c is = record { fits = tt; moves = same_map ops }
 still ops id place (Some p) c is = absurd (cc)
 
-module _ (w : WorldState) (linked : IsLinked w) (distinct : AreDistinct w.ops) (id place : ℕ) (n : NodeState) (at : fin.get w.nodes id ≡ Some n) (from : ℕ) (b : Body) where
+module _ (w : WorldState) (l : IsLawful w) (id place : ℕ) (n : NodeState) (at : fin.get w.nodes id ≡ Some n) (from : ℕ) (b : Body) where
   name : n.id ≡ id
-  name = linked.named id n at
+  name = l.invariant.linked.named id n at
 
   own : (id == id) ≡ true
   own = eq-eqb id id refl
 
-  for_tag : (to tag : ℕ) (p : Progress) → to ≡ n.id → tag ≡ p.tag → p.sender ≡ from → (let r : Option (ℕ × ℕ) = cond (to == id) (Some (tag, from)) None in r) ≡ Some (p.tag, p.sender)
+  for_tag : (to tag : ℕ) (p : Progress) → to ≡ n.id → tag ≡ p.tag → p.sender ≡ from
+      → (let r : Option (ℕ × ℕ) = cond (to == id) (Some (tag, from)) None in r) ≡ Some (p.tag, p.sender)
   for_tag to tag p here tagged sender =
       ap (λ (i : ℕ). let r : Option (ℕ × ℕ) = cond (i == id) (Some (tag, from)) None in r) (here ∙ name)
       ∙ ap (λ (t : Bool). let r : Option (ℕ × ℕ) = cond t (Some (tag, from)) None in r) own
@@ -125,7 +129,8 @@ module _ (w : WorldState) (linked : IsLinked w) (distinct : AreDistinct w.ops) (
 
   ready_right : (p : Progress) → IsMove n from b (Some p) → (c : Option Counting) → IsReady w.ops id (Some (p.tag, p.sender)) c
       → IsRight w.ops id place (Some p) c
-  ready_right p k None h = record { fits = tt; moves = none_change (is_op id p.tag) (moved place p) w.ops (none_found (is_op id p.tag) (moved place p) w.ops h) }
+  ready_right p k None h =
+      record { fits = tt; moves = none_change (is_op id p.tag) (moved place p) w.ops (none_found (is_op id p.tag) (moved place p) w.ops h) }
   ready_right p k (Some c) h =
       let o = h.0 in
       let hit : is_op id p.tag o ≡ true = h.1 in
@@ -136,13 +141,19 @@ module _ (w : WorldState) (linked : IsLinked w) (distinct : AreDistinct w.ops) (
         moves =
             ap (put_moved w.ops c.at place p) h.2
             ∙ one_changes (is_op id p.tag) (moved place p) w.ops c.at o h.2 hit
-            (λ j x at' hit'. distinct j c.at x o at' h.2
-            (eqb-true x.node id (and_left (x.node == id) (x.tag == p.tag) hit') ∙ sym nq) (eqb-true x.tag p.tag (and_right (x.node == id) (x.tag == p.tag) hit') ∙ sym tq));
+            (λ j x at' hit'. l.records.distinct j c.at x o at' h.2
+            (eqb-true x.node id (and_left (x.node == id) (x.tag == p.tag) hit') ∙ sym nq)
+            (eqb-true x.tag p.tag (and_right (x.node == id) (x.tag == p.tag) hit') ∙ sym tq));
       }
 
-  pub move_right : (p : Option Progress) → IsMove n from b p → (c : Option Counting) → IsReady w.ops id (answered id from b) c → IsRight w.ops id place p c
+  move_right : (p : Option Progress) → IsMove n from b p → (c : Option Counting) → IsReady w.ops id (answered id from b) c → IsRight w.ops id place p c
   move_right None k c h = still w.ops id place None c refl
   move_right (Some p) k c h = ready_right p k c (subst (λ (a : Option (ℕ × ℕ)). IsReady w.ops id a c) (for_it p k) h)
+
+  -- what a message makes of the node's operations is right
+  heard_right : (p : Option Progress) → progress_of n from b ≡ p → (c : Option Counting) → IsReady w.ops id (answered id from b) c
+      → IsRight w.ops id place p c
+  heard_right p same = move_right p (subst (IsMove n from b) same (moves n from b))
 
 module _ (w : WorldState) (l : IsLawful w) (id place : ℕ) (r : Report) (n' : NodeState) (c : Option Counting) where
   still_by : (n : NodeState) (x : Outcome) → x.progress ≡ None → x ≡ outcome r n' → IsRight w.ops id place (progress_in r.change) c
@@ -152,8 +163,7 @@ module _ (w : WorldState) (l : IsLawful w) (id place : ℕ) (r : Report) (n' : N
       → IsReady w.ops id (answered_by id m) c → IsRight w.ops id place (progress_in r.change) c
   deliver_right n None at h ready = absurd (no_refusal _ (outcome r n') h)
   deliver_right n (Some m) at h ready =
-      let same : progress_of n m.from m.body ≡ (progress_in r.change) = ap (λ (y : Outcome). y.progress) (delivers-ok m n (outcome r n') h) in
-      move_right w l.invariant.linked l.records.distinct id place n at m.from m.body (progress_in r.change) (subst (IsMove n m.from m.body) same (moves n m.from m.body)) c ready
+      heard_right w l id place n at m.from m.body (progress_in r.change) (ap (λ (y : Outcome). y.progress) (delivers-ok m n (outcome r n') h)) c ready
 
   acted_right : (n : NodeState) (a : Act) → fin.get w.nodes id ≡ Some n → acted w.sent a n ≡ Ok (outcome r n')
       → IsReady w.ops id (answered_at id w.sent a) c → IsRight w.ops id place (progress_in r.change) c
@@ -167,23 +177,28 @@ module _ (w : WorldState) (l : IsLawful w) (id place : ℕ) (r : Report) (n' : N
       → IsRight w.ops id place (progress_in r.change) c
   right a h ready =
       let k = by_live-ok (live_at w id) (acted w.sent a) (outcome r n') h in
-      acted_right k.0 a (live_is (set.contains w.crashed id) (fin.get w.nodes id) k.0 k.1) k.2 ready
+      acted_right k.0 a (live-some (set.contains w.crashed id) (fin.get w.nodes id) k.0 k.1) k.2 ready
 
 -- a node takes a message
-pub delivery_right : (w : WorldState) → IsHistory w → (id : ℕ) (n n' : NodeState) (m : Message) (told : Delivered) (c : Option Counting) → fin.get w.nodes id ≡ Some n → delivered n m ≡ Ok (told, n')
+pub delivery_right : (w : WorldState) → IsHistory w → (id : ℕ) (n n' : NodeState) (m : Message) (told : Delivered) (c : Option Counting)
+    → fin.get w.nodes id ≡ Some n → delivered n m ≡ Ok (told, n')
     → IsReady w.ops id (answered id m.from m.body) c → IsRight w.ops id (clock w) told.progress c
 delivery_right w history id n n' m told c at is ready =
-    let l = every_lawful w.config w.founders w.events w history in
-    let same : progress_of n m.from m.body ≡ told.progress = ap (λ (y : Outcome). y.progress) (delivers-ok m n (of_delivered (told, n')) (ap (by_node of_delivered) is)) in
-    move_right w l.invariant.linked l.records.distinct id (clock w) n at m.from m.body told.progress (subst (IsMove n m.from m.body) same (moves n m.from m.body)) c ready
+    let same = ap (λ (y : Outcome). y.progress) (delivers-ok m n (of_delivered (told, n')) (ap (by_node of_delivered) is)) in
+    heard_right w (every_lawful w.config w.founders w.events w history) id (clock w) n at m.from m.body told.progress same c ready
 
 -- what the parts of a world saw is what the world has
-module _ (w : WorldState) (history : IsHistory w) (id : ℕ) (a : Act) (crashed : Bool) (sent : List Message) (gone : crashed ≡ set.contains w.crashed id) (all : sent ≡ w.sent) where
+module _ (w : WorldState) (history : IsHistory w) (p : Past) (is : p ≡ past_of w) (id : ℕ) (a : Act) (crashed : Bool) (sent : List Message)
+    (gone : crashed ≡ set.contains p.crashed id) (all : sent ≡ p.sent) where
   pub seen : by_live (live_at w id) (acted w.sent a) ≡ by_live (live crashed (fin.get w.nodes id)) (acted sent a)
-  seen = λ i. by_live (live (sym gone i) (fin.get w.nodes id)) (acted (sym all i) a)
+  seen =
+      let stopped : crashed ≡ set.contains w.crashed id = gone ∙ ap (λ (x : Past). set.contains x.crashed id) is in
+      let read : sent ≡ w.sent = all ∙ ap (λ (x : Past). x.sent) is in
+      λ i. by_live (live (sym stopped i) (fin.get w.nodes id)) (acted (sym read i) a)
 
-  pub seen_right : (r : Report) (n : NodeState) (c : Option Counting) (ops : List Op) (read : List Message) → by_live (live crashed (fin.get w.nodes id)) (acted sent a) ≡ Ok (outcome r n)
-      → ops ≡ w.ops → read ≡ w.sent → IsReady ops id (answered_at id read a) c → IsRight w.ops id (clock w) (progress_in r.change) c
-  seen_right r n c ops read said same same_sent ready =
-      right w (every_lawful w.config w.founders w.events w history) id (clock w) r n c a (seen ∙ said)
-      (subst (λ (xs : List Op). IsReady xs id (answered_at id w.sent a) c) same (subst (λ (ms : List Message). IsReady ops id (answered_at id ms a) c) same_sent ready))
+  pub seen_right : (r : Report) (n : NodeState) (c : Option Counting) → by_live (live crashed (fin.get w.nodes id)) (acted sent a) ≡ Ok (outcome r n)
+      → IsReady p.ops id (answered_at id p.sent a) c → IsRight p.ops id (length p.events) (progress_in r.change) c
+  seen_right r n c said ready =
+      subst (λ (x : Past). IsRight x.ops id (length x.events) (progress_in r.change) c) (sym is)
+      (right w (every_lawful w.config w.founders w.events w history) id (clock w) r n c a (seen ∙ said)
+      (subst (λ (x : Past). IsReady x.ops id (answered_at id x.sent a) c) is ready))

@@ -18,10 +18,13 @@ record HasOne (s : Ids) : Type 0 where
 
 one-of : (s : Ids) (n : ℕ) (ks : List ℕ) → set.items s ≡ ks → set.len s ≡ suc n → HasOne s
 one-of s n [] is many =
-    let none : s ≡ set.empty = set.same_set nat_cmp_total set.nat_cmp-IsAntisymmetric s set.empty (λ q. set.contains-items s q ∙ ap (list_any (same_id q)) is ∙ sym (set.contains-empty nat_cmp q)) in
+    let none : s ≡ set.empty =
+    set.same_set nat_cmp_total set.nat_cmp-IsAntisymmetric s set.empty
+    (λ q. set.contains-items s q ∙ ap (list_any (same_id q)) is ∙ sym (set.contains-empty nat_cmp q)) in
     absurd (omega (arith, many, ap set.len none, set.len-empty nat_cmp))
 one-of s n (k ∷ ks) is many =
-    record { id = k; has = set.contains-items s k ∙ ap (list_any (same_id k)) is ∙ ap (λ b. b || list_any (same_id k) ks) ((eq_by_cmp_equiv nat_cmp_total).refl k) }
+    let first : list_any (same_id k) (k ∷ ks) ≡ true = ap (λ b. b || list_any (same_id k) ks) ((eq_by_cmp_equiv nat_cmp_total).refl k) in
+    record { id = k; has = set.contains-items s k ∙ ap (list_any (same_id k)) is ∙ first }
 
 has-one : (s : Ids) (n : ℕ) → set.len s ≡ suc n → HasOne s
 has-one s n many = one-of s n (set.items s) refl many
@@ -39,7 +42,8 @@ taken-len s k has =
 
 kept : (s : Ids) (k q : ℕ) → (same_id q k ≡ true → ⊥) → Has s q → Has (set.remove s k) q
 kept s k q other has =
-    let differs : same_id q k ≡ false = elim (same_id q k) as (λ b. (b ≡ true → ⊥) → b ≡ false) [ true ↦ (λ no. absurd (no refl)) | false ↦ (λ no. refl) ] other in
+    let differs : same_id q k ≡ false =
+    elim (same_id q k) as (λ b. (b ≡ true → ⊥) → b ≡ false) [ true ↦ (λ no. absurd (no refl)) | false ↦ (λ no. refl) ] other in
     set.contains-remove nat_cmp_total s k q ∙ ap (λ b. not b && set.contains s q) differs ∙ has
 
 -- what is left was there, and is another

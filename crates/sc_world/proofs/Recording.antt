@@ -37,7 +37,9 @@ more_by_one true n = omega arith
 more_by_one false n = omega arith
 
 len_insert : (s : Ids) (id : ℕ) → set.len (set.insert s id) ≤ set.len s + 1
-len_insert s id = let h : set.len (set.insert s id) ≡ cond (set.contains s id) (set.len s) (set.len s + 1) = set.len-insert nat_cmp_total s id in omega (arith, h, more_by_one (set.contains s id) (set.len s))
+len_insert s id =
+    let h : set.len (set.insert s id) ≡ cond (set.contains s id) (set.len s) (set.len s + 1) = set.len-insert nat_cmp_total s id in
+    omega (arith, h, more_by_one (set.contains s id) (set.len s))
 
 -- what is said of a world stays so
 module _ (w : WorldState) (e : WorldEvent) (w' : WorldState) (k : IsNext w e w') where
@@ -58,14 +60,17 @@ module _ (w : WorldState) (e : WorldEvent) (w' : WorldState) (k : IsNext w e w')
   events_before place le = sym (ap (take place) k.events ∙ take-append-le place w.events (e ∷ []) le)
 
   delivered_kept : (P : Answers) (node place from : ℕ) → IsDelivered w P node place from → IsDelivered w' P node place from
-  delivered_kept P node place from d = record { number = d.number; message = d.message; event = event_kept place _ d.event; sent = sent_kept d.number d.message d.sent; answer = d.answer }
+  delivered_kept P node place from d =
+      record { number = d.number; message = d.message; event = event_kept place _ d.event; sent = sent_kept d.number d.message d.sent; answer = d.answer }
 
   answered_kept : (P : Answers) (node since until until' from : ℕ) → until ≤ until' → IsAnswered w P node since until from
       → IsAnswered w' P node since until' from
-  answered_kept P node since until until' from le a = record { place = a.place; after = a.after; before = omega (arith, a.before, le); delivered = delivered_kept P node a.place from a.delivered }
+  answered_kept P node since until until' from le a =
+      record { place = a.place; after = a.after; before = omega (arith, a.before, le); delivered = delivered_kept P node a.place from a.delivered }
 
   until_kept : (P : Answers) (node since : ℕ) (p : Phase) (end : Option ℕ) → IsUntil w P node since p end → IsUntil w' P node since p end
-  until_kept P node since p None u = record { few = u.few; answered = λ from h. answered_kept P node since (clock w) (clock w') from (omega (arith, clock_is)) (u.answered from h) }
+  until_kept P node since p None u =
+      record { few = u.few; answered = λ from h. answered_kept P node since (clock w) (clock w') from (omega (arith, clock_is)) (u.answered from h) }
   until_kept P node since p (Some end) u = record {
     later = u.later;
     others = u.others;
@@ -76,7 +81,8 @@ module _ (w : WorldState) (e : WorldEvent) (w' : WorldState) (k : IsNext w e w')
   }
 
   measured_kept : (node since : ℕ) (p : Phase) → since ≤ clock w → IsMeasured w node since p → IsMeasured w' node since p
-  measured_kept node since p le m = record { before = m.before; was = before_next w e w' since m.before k le m.was; state = m.state; at = m.at; threshold = m.threshold }
+  measured_kept node since p le m =
+      record { before = m.before; was = before_next w e w' since m.before k le m.was; state = m.state; at = m.at; threshold = m.threshold }
 
   pub phase_kept : (P : Answers) (node since : ℕ) (p : Phase) (end : Option ℕ) → since ≤ clock w → IsPhase w P node since p end → IsPhase w' P node since p end
   phase_kept P node since p end le h = record { measured = measured_kept node since p le h.measured; until = until_kept P node since p end h.until }
@@ -104,7 +110,8 @@ module _ (w : WorldState) (e : WorldEvent) (w' : WorldState) (k : IsNext w e w')
       }
 
   -- a phase in which one more answer is counted
-  module _ (P : Answers) (node since : ℕ) (p : Phase) (from : ℕ) (lt : since < clock w) (h : IsPhase w P node since p None) (d : IsDelivered w' P node (clock w) from) where
+  module _ (P : Answers) (node since : ℕ) (p : Phase) (from : ℕ) (lt : since < clock w) (h : IsPhase w P node since p None)
+      (d : IsDelivered w' P node (clock w) from) where
     counted_measured : IsMeasured w' node since (count_sender p from)
     counted_measured =
         let m : IsMeasured w' node since p = measured_kept node since p (omega (arith, lt)) h.measured in
@@ -121,14 +128,20 @@ module _ (w : WorldState) (e : WorldEvent) (w' : WorldState) (k : IsNext w e w')
         ]
 
     pub counted_phase : (c : Bool) → is_reached (count_sender p from) ≡ c → IsPhase w' P node since (count_sender p from) (cond c (Some (clock w)) None)
-    counted_phase false is = record { measured = counted_measured; until = record { few = missed_at p.threshold (set.len (set.insert p.counted from)) is; answered = all_answered } }
+    counted_phase false is =
+        let few = missed_at p.threshold (set.len (set.insert p.counted from)) is in
+        record { measured = counted_measured; until = record { few = few; answered = all_answered } }
     counted_phase true is = record {
       measured = counted_measured;
       until = record {
         later = lt;
         others = p.counted;
         last = from;
-        full = record { counted = refl; few = h.until.few; reached = omega (arith, len_insert p.counted from, h.until.few, reached_at p.threshold (set.len (set.insert p.counted from)) is) };
+        full = record {
+          counted = refl;
+          few = h.until.few;
+          reached = omega (arith, len_insert p.counted from, h.until.few, reached_at p.threshold (set.len (set.insert p.counted from)) is);
+        };
         answered = λ q is. answered_kept P node since (clock w) (clock w) q (omega arith) (h.until.answered q is);
         finish = d;
       };

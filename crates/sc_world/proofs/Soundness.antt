@@ -113,8 +113,10 @@ module _ (w w' : WorldState) (x : IsChange w w') (s : IsSound w) where
       → stored o.session ≡ Some m.view
   store_old p m sent o np tt' (Kept h) = s.stores p m sent o h np tt'
   store_old p m sent o np tt' (Begun b) = absurd (b.fresh (message_from p (Store m)) sent (sym np, sym tt'))
-  store_old p m sent o np tt' (Acknowledged o0 u q a k r) = let was : stored o0.session ≡ Some m.view = s.stores p m sent o0 a (sym r.same.node ∙ np) (sym r.same.tag ∙ tt') in cc
-  store_old p m sent o np tt' (Replied o0 u q a k r) = let was : stored o0.session ≡ Some m.view = s.stores p m sent o0 a (sym r.same.node ∙ np) (sym r.same.tag ∙ tt') in absurd (cc)
+  store_old p m sent o np tt' (Acknowledged o0 u q a k r) =
+      let was : stored o0.session ≡ Some m.view = s.stores p m sent o0 a (sym r.same.node ∙ np) (sym r.same.tag ∙ tt') in cc
+  store_old p m sent o np tt' (Replied o0 u q a k r) =
+      let was : stored o0.session ≡ Some m.view = s.stores p m sent o0 a (sym r.same.node ∙ np) (sym r.same.tag ∙ tt') in absurd (cc)
 
   stores' : (p : ℕ) (m : StoreFields) → Among (message_from p (Store m)) w'.sent → (o : Op) → Among o w'.ops → o.node ≡ p → o.tag ≡ m.tag
       → stored o.session ≡ Some m.view
@@ -128,7 +130,8 @@ module _ (w w' : WorldState) (x : IsChange w w') (s : IsSound w) where
       → (v : ViewMap) × (stored o.session ≡ Some v) × IsBelow v (view_at w' q)
   ack_old q a sent o np tt' (Kept h) = let k = s.acks q a sent o h np tt' in (k.0, k.1, grown k.0 q k.2)
   ack_old q a sent o np tt' (Begun b) = absurd (b.fresh (message_from q (StoreAck a)) sent (sym np, sym tt'))
-  ack_old q a sent o np tt' (Acknowledged o0 u f was m r) = let k = s.acks q a sent o0 was (sym r.same.node ∙ np) (sym r.same.tag ∙ tt') in (k.0, cc, grown k.0 q k.2)
+  ack_old q a sent o np tt' (Acknowledged o0 u f was m r) =
+      let k = s.acks q a sent o0 was (sym r.same.node ∙ np) (sym r.same.tag ∙ tt') in (k.0, cc, grown k.0 q k.2)
   ack_old q a sent o np tt' (Replied o0 u f was m r) = let k = s.acks q a sent o0 was (sym r.same.node ∙ np) (sym r.same.tag ∙ tt') in absurd (cc)
 
   acks' : (q : ℕ) (a : AckFields) → Among (message_from q (StoreAck a)) w'.sent → (o : Op) → Among o w'.ops → o.node ≡ a.to → o.tag ≡ a.tag
@@ -160,7 +163,9 @@ module _ (w w' : WorldState) (x : IsChange w w') (s : IsSound w) where
       → IsReplied c c' v (view_at w' c'.node) from → Has (repliers c'.session) q → KnownBy w' c' q (view_at w' c'.node)
   reply_known c c' v from q in_ops sent r h =
       known_kept w w' x s c c' q (view_at w' c'.node) r.same.begin in_ops (elim (counted _ _ from q r.repliers h) [
-        | inl is ↦ known_above w c q v (view_at w' c'.node) r.learns (subst (λ (n : ℕ). KnownBy w c n v) (sym is) (s.replies from (reply_of c v) sent c in_ops refl refl))
+        | inl is ↦
+            known_above w c q v (view_at w' c'.node) r.learns
+            (subst (λ (n : ℕ). KnownBy w c n v) (sym is) (s.replies from (reply_of c v) sent c in_ops refl refl))
         | inr is ↦
             known_above w c q (view_at w c.node) (view_at w' c'.node)
             (below_at _ _ _ (ap (view_at w') (sym r.same.node)) (x.grows c.node))
@@ -168,7 +173,9 @@ module _ (w w' : WorldState) (x : IsChange w w') (s : IsSound w) where
       ])
 
   gathering' : (c : Op) (q : ℕ) → OpFrom w w' c → stored c.session ≡ None → Has (repliers c.session) q → KnownBy w' c q (view_at w' c.node)
-  gathering' c q (Kept h) held k = known_kept w w' x s c c q (view_at w' c.node) refl h (known_above w c q (view_at w c.node) (view_at w' c.node) (x.grows c.node) (s.gathering c q h held k))
+  gathering' c q (Kept h) held k =
+      known_kept w w' x s c c q (view_at w' c.node) refl h
+      (known_above w c q (view_at w c.node) (view_at w' c.node) (x.grows c.node) (s.gathering c q h held k))
   gathering' c q (Begun b) held k = absurd (nobody _ q b.repliers k)
   gathering' c q (Acknowledged o0 v f a m r) held k = absurd (cc)
   gathering' c q (Replied o0 v f a m r) held k = reply_known o0 c v f q a m r k

@@ -44,10 +44,14 @@ written_back : (es : List (ℕ × NodeState)) (id q : ℕ) (n : NodeState) (b : 
 written_back es id q n false is at = refl
 written_back es id q n true is at = at ∙ ap (found es) (eqb-true id q (sym (unsigned_tied id q) ∙ is))
 
+-- what the entries of a table have of an id is what its nodes have
+pub get_of : (old : fin.FinMap nat_cmp NodeState) (id : ℕ) (es : List (ℕ × NodeState)) → fin.from_entries es ≡ old → found es id ≡ fin.get old id
+get_of old id es is = sym (get_found es id) ∙ ap (λ (m : fin.FinMap nat_cmp NodeState). fin.get m id) is
+
 module _ (es fs : List (ℕ × NodeState)) (old : fin.FinMap nat_cmp NodeState) (id : ℕ) (crashed : Bool) (f : NodeState → Result Outcome Reason) (n : NodeState)
     (is : fin.from_entries es ≡ old) (at : Some n ≡ found es id) (up : true ≡ is_some (live crashed (fin.get old id))) where
   at_old : Some n ≡ fin.get old id
-  at_old = at ∙ sym (get_found es id) ∙ ap (λ (m : fin.FinMap nat_cmp NodeState). fin.get m id) is
+  at_old = at ∙ get_of old id es is
 
   lives : live crashed (fin.get old id) ≡ Some n
   lives = live_found crashed (fin.get old id) n up at_old
@@ -60,7 +64,9 @@ module _ (es fs : List (ℕ × NodeState)) (old : fin.FinMap nat_cmp NodeState) 
 
   -- to write back what was there changes nothing
   unchanged : ((q : ℕ) → found fs q ≡ cond (is_at (nat_cmp id) q) (Some n) (found es q)) → fin.from_entries fs ≡ old
-  unchanged writes = fin.same_map nat_cmp_total fin.nat_cmp-IsAntisymmetric (fin.from_entries fs) (fin.from_entries es) (λ q. get_found fs q ∙ writes q ∙ written_back es id q n (is_at (nat_cmp id) q) refl at ∙ sym (get_found es q)) ∙ is
+  unchanged writes =
+      fin.same_map nat_cmp_total fin.nat_cmp-IsAntisymmetric (fin.from_entries fs) (fin.from_entries es)
+      (λ q. get_found fs q ∙ writes q ∙ written_back es id q n (is_at (nat_cmp id) q) refl at ∙ sym (get_found es q)) ∙ is
 
   -- a node of a table acts
   pub acts_at : (n' : NodeState) (r : Result Report Reason) → Acts (f n) n n' r → ((q : ℕ) → found fs q ≡ cond (is_at (nat_cmp id) q) (Some n') (found es q))
@@ -74,7 +80,7 @@ module _ (es fs : List (ℕ × NodeState)) (old : fin.FinMap nat_cmp NodeState) 
 -- there is no such node
 pub no_node : (old : fin.FinMap nat_cmp NodeState) (id : ℕ) (crashed : Bool) (f : NodeState → Result Outcome Reason) (es : List (ℕ × NodeState))
     → fin.from_entries es ≡ old → None ≡ found es id → by_live (live crashed (fin.get old id)) f ≡ Err reasons.NoSuchNode
-no_node old id crashed f es is at = ap (λ (o : Option NodeState). by_live (live crashed o) f) (sym (at ∙ sym (get_found es id) ∙ ap (λ (m : fin.FinMap nat_cmp NodeState). fin.get m id) is)) ∙ by_crash crashed
+no_node old id crashed f es is at = ap (λ (o : Option NodeState). by_live (live crashed o) f) (sym (at ∙ get_of old id es is)) ∙ by_crash crashed
   where
     by_crash : (c : Bool) → by_live (live c None) f ≡ Err reasons.NoSuchNode
     by_crash true = refl

@@ -1,5 +1,5 @@
 -- A node has begun as many operations and stores as its events say, and each of its open operations has a record.
-use Rattle.std.proofs.Common.{◌≡◌, ℕ, ◌+◌, Bool, true, false, cond, ◌==◌, List, [], ◌∷◌, ◌++◌, Option, Some, None, add-zero, refl, sym, ap, ◌∙◌, subst, arith, slice_get, Ok}
+use Rattle.std.proofs.Common.{◌≡◌, ℕ, ◌+◌, Bool, true, false, cond, ◌==◌, List, [], ◌∷◌, ◌++◌, Option, Some, None, add-zero, refl, sym, ap, ◌∙◌, subst, arith, Ok}
 use Rattle.std.proofs.lemmas.Bool.{eqb-true, eq-eqb}
 use Rattle.std.proofs.lemmas.List.Sums.{sum_by_push}
 use Rattle.std.specs.List.{count_by}
@@ -17,14 +17,15 @@ use Rattle.sc_world.specs.declared.event.WorldEvent.TheVariants as event
 use Rattle.sc_world.specs.declared.event.WorldStep.{WorldStep}
 use Rattle.sc_world.specs.declared.op.Op.{Op}
 use Rattle.sc_world.specs.State.{WorldState}
-use Rattle.sc_world.specs.Worlds.{clock, Outcome, node_of, advanced, after, live_at, crashes, enters, stores, collects, leaves, delivers, stepped, start, nodes_with}
+use Rattle.sc_world.specs.Worlds.{clock, Outcome, node_of, advanced, after, stores, stepped, start}
 use Rattle.sc_world.specs.Records.{Among, begins, begins_store, operations_of, stores_of}
-use Rattle.sc_world.proofs.Links.{session_moved, session_after}
+use Rattle.sc_world.proofs.Links.{session_moved, session_after, new_op}
 use Rattle.sc_world.proofs.Finite.{get-insert}
-use Rattle.sc_world.proofs.Steps.{kept_among, begun_among}
+use Rattle.sc_world.proofs.Steps.{kept_among, begun_among, node_next}
 use Rattle.sc_world.proofs.Handlers.{heard, store_outcome, collect_outcome, left_outcome, entered_outcome, get-sessions_after}
 use Rattle.sc_world.proofs.Telling.{same_start}
-use Rattle.sc_world.proofs.Inverts.{same_answer, no_refusal, live_is, acts-ok, stores-ok, collects-ok, leaves-ok, delivers-ok}
+use Rattle.sc_world.proofs.Inverts.{by_event}
+use Rattle.sc_world.proofs.Runs.{all_founders}
 
 -- how many operations the node has begun, where there is one
 abbrev pub begun_at : Option NodeState → ℕ
@@ -86,17 +87,15 @@ module _ (w : WorldState) (e : WorldEvent) (q : ℕ) (r : Outcome) (own : node_o
   module _ (held : Option NodeState → ℕ) (mark : ℕ → WorldEvent → Bool) (marked : (id : ℕ) → mark id e ≡ true → node_of e ≡ id)
       (was : (id : ℕ) → held (fin.get w.nodes id) ≡ count_by (mark id) w.events)
       (grows : held (Some r.node) ≡ held (fin.get w.nodes q) + cond (mark q e) 1 0) where
-    count_by_case : (id : ℕ) (b : Bool) → (id == q) ≡ b → held (cond b (Some r.node) (fin.get w.nodes id)) ≡ count_by (mark id) w.events + cond (mark id e) 1 0
-    count_by_case id true is =
-        subst (λ (x : ℕ). held (Some r.node) ≡ count_by (mark x) w.events + cond (mark x e) 1 0) (sym (eqb-true id q is))
-        (grows ∙ ap (λ (x : ℕ). x + cond (mark q e) 1 0) (was q))
-    count_by_case id false is =
-        let other : mark id e ≡ false =
-        never (mark id e) (λ h. let k : (id == q) ≡ true = eq-eqb id q (sym (marked id h) ∙ own) in absurd (cc))
-        in was id ∙ sym (no_more (mark id e) (count_by (mark id) w.events) other)
-
     count_next : (id : ℕ) → held (fin.get next.nodes id) ≡ count_by (mark id) next.events
-    count_next id = ap held (get-insert w.nodes q r.node id) ∙ count_by_case id (id == q) refl ∙ sym (count_more (mark id) w.events e)
+    count_next id =
+        node_next w e q r (λ (o : Option NodeState). held o ≡ count_by (mark id) next.events) id
+        (λ here.
+        subst (λ (x : ℕ). held (Some r.node) ≡ count_by (mark x) next.events) (sym here)
+        (grows ∙ ap (λ (x : ℕ). x + cond (mark q e) 1 0) (was q) ∙ sym (count_more (mark q) w.events e)))
+        (λ there.
+        let other : mark id e ≡ false = never (mark id e) (λ h. there (sym (marked id h) ∙ own)) in
+        was id ∙ sym (no_more (mark id e) (count_by (mark id) w.events) other) ∙ sym (count_more (mark id) w.events e))
 
   -- a record stays, perhaps in a later state
   record_on : (id tag : ℕ) → HasRecord w id tag → HasRecord next id tag
@@ -110,18 +109,20 @@ module _ (w : WorldState) (e : WorldEvent) (q : ℕ) (r : Outcome) (own : node_o
       }
 
   module _ (t : IsTallied w) (here : AreKept next q r.node) where
-    kept_by : (id : ℕ) (n : NodeState) (b : Bool) → (id == q) ≡ b → cond b (Some r.node) (fin.get w.nodes id) ≡ Some n → AreKept next id n
-    kept_by id n true is at tag s h =
+    kept_next : (id : ℕ) (n : NodeState) → fin.get next.nodes id ≡ Some n → AreKept next id n
+    kept_next id n =
+        node_next w e q r (λ (o : Option NodeState). o ≡ Some n → AreKept next id n) id
+        (λ at is tag s h.
         let same : r.node ≡ n = cc in
-        subst (λ (x : ℕ). HasRecord next x tag) (sym (eqb-true id q is)) (here tag s (ap (λ (y : NodeState). fin.get y.sessions tag) same ∙ h))
-    kept_by id n false is at tag s h = record_on id tag (t.kept id n at tag s h)
+        subst (λ (x : ℕ). HasRecord next x tag) (sym at) (here tag s (ap (λ (y : NodeState). fin.get y.sessions tag) same ∙ h)))
+        (λ _ is tag s h. record_on id tag (t.kept id n is tag s h))
 
-    pub tallied_next : (begun_at (Some r.node) ≡ begun_at (fin.get w.nodes q) + cond (begins q e) 1 0) → (stored_at (Some r.node) ≡ stored_at (fin.get w.nodes q) + cond (begins_store q e) 1 0)
-        → IsTallied next
+    pub tallied_next : (begun_at (Some r.node) ≡ begun_at (fin.get w.nodes q) + cond (begins q e) 1 0)
+        → (stored_at (Some r.node) ≡ stored_at (fin.get w.nodes q) + cond (begins_store q e) 1 0) → IsTallied next
     tallied_next operations stores = record {
       operations = count_next begun_at begins (λ id. begins_own id e) t.operations operations;
       stores = count_next stored_at begins_store (λ id. begins_store_own id e) t.stores stores;
-      kept = λ id n at. kept_by id n (id == q) refl (sym (get-insert w.nodes q r.node id) ∙ at);
+      kept = kept_next;
     }
 
   -- the node has an operation open that begins now
@@ -133,7 +134,7 @@ module _ (w : WorldState) (e : WorldEvent) (q : ℕ) (r : Outcome) (own : node_o
       go : (b : Bool) → (tag == n.operations) ≡ b → cond b (Some made) (fin.get n.sessions tag) ≡ Some s → HasRecord next q tag
       go true is at =
           record {
-            op = record { node = q; tag = n.operations; begin = clock w; end = None; session = made };
+            op = new_op q (clock w) (record { tag = n.operations; session = made });
             among = begun_among w e q r (record { tag = n.operations; session = made }) begun;
             by = refl;
             tagged = sym (eqb-true tag n.operations is);
@@ -193,7 +194,8 @@ module _ (w : WorldState) (t : IsTallied w) where
         let r : Outcome = heard n m.from m.body in
         tallied_next w e q r refl t
         (λ tag s h.
-        let y = session_was (progress_of n m.from m.body) tag (fin.get n.sessions tag) s (sym (get-sessions_after n.sessions (progress_of n m.from m.body) tag) ∙ h) in
+        let p : Option Progress = progress_of n m.from m.body in
+        let y = session_was p tag (fin.get n.sessions tag) s (sym (get-sessions_after n.sessions p tag) ∙ h) in
         before e r refl tag y.0 y.1)
         (omega (arith, operations)) (omega (arith, stores_are))
 
@@ -216,41 +218,15 @@ module _ (w : WorldState) (t : IsTallied w) where
     kept = λ id n at tag s h. let k = t.kept id n at tag s h in record { op = k.op; among = k.among; by = k.by; tagged = k.tagged };
   }
 
-  at_live : (q : ℕ) (n : NodeState) → live_at w q ≡ Some n → fin.get w.nodes q ≡ Some n
-  at_live q n h = live_is (set.contains w.crashed q) (fin.get w.nodes q) n h
-
-  -- after an outcome that is known
-  by_outcome : (e : WorldEvent) (q : ℕ) (x y : Outcome) (w' : WorldState) → x ≡ y → after w e q y ≡ w' → IsTallied (after w e q x) → IsTallied w'
-  by_outcome e q x y w' same is k = subst IsTallied (ap (after w e q) same ∙ is) k
-
-  delivered_any : (number q : ℕ) (n : NodeState) (m : Option Message) (x : Outcome) (w' : WorldState) → fin.get w.nodes q ≡ Some n
-      → delivers m n ≡ Ok x → after w (event.Deliver number q) q x ≡ w' → IsTallied w'
-  delivered_any number q n None x w' at h is = absurd (no_refusal _ x h)
-  delivered_any number q n (Some m) x w' at h is = by_outcome (event.Deliver number q) q (heard n m.from m.body) x w' (delivers-ok m n x h) is (heard_tallied q n at number m)
-
-  crashed_any : (q : ℕ) (o : Option NodeState) (a : WorldStep) (w' : WorldState) → crashes w q o ≡ Ok (a, w') → IsTallied w'
-  crashed_any q None a w' h = absurd (no_refusal _ (a, w') h)
-  crashed_any q (Some n) a w' h = subst IsTallied (ap (λ (z : WorldStep × WorldState). z.1) (same_answer _ (a, w') h)) (crashed_tallied q)
-
-  entered_any : (q : ℕ) (o : Option NodeState) (a : WorldStep) (w' : WorldState) → fin.get w.nodes q ≡ o → enters w q o ≡ Ok (a, w') → IsTallied w'
-  entered_any q (Some n) a w' at h = absurd (no_refusal _ (a, w') h)
-  entered_any q None a w' at h = subst IsTallied (ap (λ (z : WorldStep × WorldState). z.1) (same_answer _ (a, w') h)) (entered_tallied q at)
-
   pub step_tallied : (e : WorldEvent) (a : WorldStep) (w' : WorldState) → stepped w e ≡ Ok (a, w') → IsTallied w'
-  step_tallied (event.Enter q) a w' h = entered_any q (fin.get w.nodes q) a w' refl h
-  step_tallied (event.Leave q) a w' h =
-      let k = acts-ok w (event.Leave q) q leaves a w' h in
-      by_outcome (event.Leave q) q (left_outcome k.node) k.outcome w' (leaves-ok k.node k.outcome k.gives) k.is (left_tallied q k.node (at_live q k.node k.at))
-  step_tallied (event.Crash q) a w' h = crashed_any q (live_at w q) a w' h
-  step_tallied (event.Store q value) a w' h =
-      let k = acts-ok w (event.Store q value) q (stores value) a w' h in
-      by_outcome (event.Store q value) q (store_outcome k.node value) k.outcome w' (stores-ok value k.node k.outcome k.gives) k.is (store_tallied q k.node (at_live q k.node k.at) value)
-  step_tallied (event.Collect q) a w' h =
-      let k = acts-ok w (event.Collect q) q collects a w' h in
-      by_outcome (event.Collect q) q (collect_outcome k.node) k.outcome w' (collects-ok k.node k.outcome k.gives) k.is (collect_tallied q k.node (at_live q k.node k.at))
-  step_tallied (event.Deliver number q) a w' h =
-      let k = acts-ok w (event.Deliver number q) q (delivers (slice_get w.sent number)) a w' h in
-      delivered_any number q k.node (slice_get w.sent number) k.outcome w' (at_live q k.node k.at) k.gives k.is
+  step_tallied = by_event w (λ e a w'. IsTallied w') (record {
+    entered = entered_tallied;
+    left = left_tallied;
+    crashed = crashed_tallied;
+    stored = λ q value n at. store_tallied q n at value;
+    collected = collect_tallied;
+    delivered = λ number q n m at sent. heard_tallied q n at number m;
+  })
 
 -- ---- founders
 
@@ -274,18 +250,8 @@ module _ (c : Config) (ids : List ℕ) where
         absurd (cc);
   }
 
-  idle_by : (p : ℕ) (o : Option NodeState) (b : Bool) → IsIdle o → IsIdle (cond b (Some (founder c ids p)) o)
-  idle_by p o true g = founder_idle p
-  idle_by p o false g = g
-
-  founders_idle : (qs : List ℕ) (nodes : fin.FinMap nat_cmp NodeState) → ((q : ℕ) → IsIdle (fin.get nodes q)) → (q : ℕ)
-      → IsIdle (fin.get (nodes_with c ids nodes qs) q)
-  founders_idle [] nodes g q = g q
-  founders_idle (p ∷ qs) nodes g q =
-      founders_idle qs (fin.insert nodes p (founder c ids p)) (λ i. subst IsIdle (sym (get-insert nodes p (founder c ids p) i)) (idle_by p (fin.get nodes i) (i == p) (g i))) q
-
   start_idle : (q : ℕ) → IsIdle (fin.get (start c ids).nodes q)
-  start_idle q = founders_idle ids fin.empty (λ i. subst IsIdle (sym (fin.get-empty nat_cmp i)) nobody_idle) q
+  start_idle = all_founders c ids (λ q o. IsIdle o) founder_idle (λ q. nobody_idle)
 
   pub start_tallied : IsTallied (start c ids)
   start_tallied = record {

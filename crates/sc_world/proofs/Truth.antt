@@ -28,7 +28,9 @@ newer_is (Some o) e f h = go (nat_lt o.number e.number) h
 
 merged_is : (x y : Option Stored) (f : Stored) → merged x y ≡ Some f → (x ≡ Some f) ⊎ (y ≡ Some f)
 merged_is x None f h = inl h
-merged_is x (Some e) f h = let is : newer x e ≡ f = cc in elim (newer_is x e f is) [ inl a ↦ inl a | inr b ↦ inr (ap (λ (z : Stored). let y : Option Stored = Some z in y) b) ]
+merged_is x (Some e) f h =
+    let is : newer x e ≡ f = cc in
+    elim (newer_is x e f is) [ inl a ↦ inl a | inr b ↦ inr (ap (λ (z : Stored). let y : Option Stored = Some z in y) b) ]
 
 pub true_merge : (w : WorldState) (t : ℕ) (a b : ViewMap) → IsTrue w t a → IsTrue w t b → IsTrue w t (merge a b)
 true_merge w t a b ga gb = record {

@@ -108,7 +108,8 @@ module _ {A : Type 0} (bytes_of : A → List ℕ) (Legal : A → Type 0) (code :
   spelled_on x xs r = ap (λ l. l ++ r) (flat_map-cons bytes_of x xs) ∙ append_assoc (bytes_of x) (flat_map bytes_of xs) r
 
   -- the values that were read are the first of those that the bytes spell
-  pub cut : (xs ys : List A) (r y : List ℕ) → AllByRecursion Legal xs → AllByRecursion Legal ys → length xs ≤ length ys → flat_map bytes_of xs ++ r ≡ flat_map bytes_of ys ++ y
+  pub cut : (xs ys : List A) (r y : List ℕ) → AllByRecursion Legal xs → AllByRecursion Legal ys → length xs ≤ length ys
+      → flat_map bytes_of xs ++ r ≡ flat_map bytes_of ys ++ y
       → (zs : List A) × (ys ≡ xs ++ zs) × AllByRecursion Legal zs × (r ≡ flat_map bytes_of zs ++ y)
   cut [] ys r y p q le e = (ys, refl, q, e)
   cut (x ∷ xs) [] r y p q le e = absurd (omega (arith, le))
@@ -117,7 +118,8 @@ module _ {A : Type 0} (bytes_of : A → List ℕ) (Legal : A → Type 0) (code :
       let h = cut xs ys r y p.1 q.1 (omega (arith, le)) s.1 in
       (h.0, ap (λ a. a ∷ ys) (sym s.0) ∙ ap (λ l. x ∷ l) h.1, h.2, h.3)
 
-  none_left : (zs : List A) (r y : List ℕ) → BeginsNone bytes_of Legal r → AllByRecursion Legal zs → 0 < length zs → r ≡ flat_map bytes_of zs ++ y → ⊥
+  none_left : (zs : List A) (r y : List ℕ) → BeginsNone bytes_of Legal r → AllByRecursion Legal zs → 0 < length zs
+      → r ≡ flat_map bytes_of zs ++ y → ⊥
   none_left [] r y none all some e = omega (arith, some)
   none_left (z ∷ zs) r y none all some e = none.none z (flat_map bytes_of zs ++ y) all.0 (e ∙ spelled_on z zs y)
 
@@ -163,7 +165,8 @@ module _ {A : Type 0} (bytes_of : A → List ℕ) (Legal : A → Type 0) (code :
     pub no_count : (bytes : List ℕ) → length bytes < width → BeginsNone counted_bytes AreCounted bytes
     no_count bytes short = record {
       none = λ all more p e.
-          omega (arith, short, ap length (e ∙ counted_on all more), length-append (number_bytes width (length all)) (flat_map bytes_of all ++ more), length-number_bytes width (length all));
+          let long = length-append (number_bytes width (length all)) (flat_map bytes_of all ++ more) in
+          omega (arith, short, ap length (e ∙ counted_on all more), long, length-number_bytes width (length all));
     }
 
     -- some of so many values were read, and rest is what is left of the bytes
@@ -191,8 +194,8 @@ module _ {A : Type 0} (bytes_of : A → List ℕ) (Legal : A → Type 0) (code :
         read.parts ∙ ap (λ n. number_bytes width n ++ (flat_map bytes_of xs ++ rest)) (sym all) ∙ sym (counted_on xs rest)
 
     -- no value begins before all are read
-    pub too_few : (bytes : List ℕ) (count : ℕ) (xs : List A) (rest : List ℕ) → count < 256 ^ width → ReadSome bytes count xs rest → length xs < count → BeginsNone bytes_of Legal rest
-        → BeginsNone counted_bytes AreCounted bytes
+    pub too_few : (bytes : List ℕ) (count : ℕ) (xs : List A) (rest : List ℕ) → count < 256 ^ width → ReadSome bytes count xs rest
+        → length xs < count → BeginsNone bytes_of Legal rest → BeginsNone counted_bytes AreCounted bytes
     too_few bytes count xs rest fits read fewer left = record {
       none = λ all more p e.
           let n = number_front width count (length all) (flat_map bytes_of xs ++ rest) (flat_map bytes_of all ++ more) fits p.0 (sym read.parts ∙ e ∙ counted_on all more) in
@@ -202,13 +205,15 @@ module _ {A : Type 0} (bytes_of : A → List ℕ) (Legal : A → Type 0) (code :
 -- ---- values of two parts
 
 -- they have the bytes of both, and are known by them; the parts of legal values are legal
-pub record HasParts {A B C : Type 0} (first : A → B) (second : A → C) (f : B → List ℕ) (g : C → List ℕ) (P : B → Type 0) (Q : C → Type 0) (Legal : A → Type 0) : Type 0 where
+pub record HasParts {A B C : Type 0} (first : A → B) (second : A → C) (f : B → List ℕ) (g : C → List ℕ) (P : B → Type 0) (Q : C → Type 0)
+    (Legal : A → Type 0) : Type 0 where
   pub front : IsPrefixCode f P
   pub behind : IsPrefixCode g Q
   pub legal : (a : A) → Legal a → P (first a) × Q (second a)
   pub known : (a b : A) → Legal a → Legal b → first a ≡ first b → second a ≡ second b → a ≡ b
 
-module _ {A B C : Type 0} {first : A → B} {second : A → C} {f : B → List ℕ} {g : C → List ℕ} {P : B → Type 0} {Q : C → Type 0} {Legal : A → Type 0} (parts : HasParts first second f g P Q Legal) where
+module _ {A B C : Type 0} {first : A → B} {second : A → C} {f : B → List ℕ} {g : C → List ℕ} {P : B → Type 0} {Q : C → Type 0}
+    {Legal : A → Type 0} (parts : HasParts first second f g P Q Legal) where
   abbrev bytes_of_both : A → List ℕ
   bytes_of_both a = f (first a) ++ g (second a)
 

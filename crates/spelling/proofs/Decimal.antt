@@ -53,7 +53,8 @@ parsed : {E : Type 0} (r : Result ℕ E) (n v : ℕ) → 0 < n → OkIff r ((0 <
 parsed (Ok x) n v l h = ap Some h.1 ∙ sym (cond-true (ltb v (2 ^ 64)) _ _ (lt-ltb v (2 ^ 64) h.0.1))
 parsed (Err e) n v l h = sym (cond-false (ltb v (2 ^ 64)) _ _ (le-ltb v (2 ^ 64) (elim (cases_lt v (2 ^ 64)) [ inl a ↦ absurd (h (l, a)) | inr b ↦ b ])))
 
-pub natural_is : {E : Type 0} (text : List ℕ) (r : Result ℕ E) → is_decimal text ≡ true → ParsesUnsigned 64 10 text r → result_ok r ≡ natural_at text
+pub natural_is : {E : Type 0} (text : List ℕ) (r : Result ℕ E) → is_decimal text ≡ true → ParsesUnsigned 64 10 text r
+    → result_ok r ≡ natural_at text
 unfolding natural_at
 natural_is text r e h =
     let p = decimal_parts text e in

@@ -42,7 +42,8 @@ read_bytes (b ∷ xs) fits =
     ∙ bytes_of_digits (length xs) b (little_from 0 (length xs) xs) (fits 0 0 (omega arith))
     ∙ ap (λ (l : List ℕ). b ∷ l) (read_bytes xs (λ i d h. fits (suc i) d (omega arith)))
 
-number_bytes-first_number : (width : ℕ) (front : List ℕ) → length front ≡ width → IsBytes front → number_bytes width (first_number width front) ≡ front
+number_bytes-first_number : (width : ℕ) (front : List ℕ) → length front ≡ width → IsBytes front
+    → number_bytes width (first_number width front) ≡ front
 unfolding number_bytes first_number
 number_bytes-first_number width front len fits =
     let P : ℕ → Type 0 = λ w. bytes_low_first 0 w (little_from 0 w front) ≡ front in

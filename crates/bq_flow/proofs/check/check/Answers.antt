@@ -11,7 +11,8 @@ loop-unit-preserved c =
     no_more c.args.text.now c.loop-unit.unit c.loop-unit.invariant (λ i there.
     elim c.match-at.branch [
       | in-Some+in_default-flow_fault w ↦
-          fine_here c.args.text.now c.loop-unit.unit i w.in-Some.insn there (sym c.at.ensures ∙ w.in-Some.is) (sym w.flow_fault.ensures ∙ w.in_default-flow_fault.is)
+          fine_here c.args.text.now c.loop-unit.unit i w.in-Some.insn there (sym c.at.ensures ∙ w.in-Some.is)
+          (sym w.flow_fault.ensures ∙ w.in_default-flow_fault.is)
       | in_default w ↦ absurd (w.in_default.not-Some i (c.at.ensures ∙ there))
     ])
 

@@ -5,7 +5,8 @@ use Rattle.bq_insn.proofs.decoder.front.Goals as goal
 pub returns-in-Ok-completed-clause-spelled : goal.returns-in-Ok-completed-clause-spelled
 returns-in-Ok-completed-clause-spelled c =
     front_spelled c.args.fields.now c.in-Ok.opcode c.insn.result c.in-Ok-completed.insn c.args.rest.now c.in-Ok-completed.after.now
-    c.in-Ok.ensures.opcode c.insn.ensures.opcode c.insn.ensures.fields c.in-Ok-completed.ensures.opcode c.in-Ok-completed.ensures.first c.in-Ok-completed.ensures.spelled
+    c.in-Ok.ensures.opcode c.insn.ensures.opcode c.insn.ensures.fields
+    c.in-Ok-completed.ensures.opcode c.in-Ok-completed.ensures.first c.in-Ok-completed.ensures.spelled
 
 pub returns-in-Err-completed-clause-fault : goal.returns-in-Err-completed-clause-fault
 returns-in-Err-completed-clause-fault c =

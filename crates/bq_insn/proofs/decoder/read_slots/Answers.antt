@@ -15,5 +15,6 @@ loop-fields-preserved c =
 pub returns-in-Err-clause-fault : goal.returns-in-Err-clause-fault
 returns-in-Err-clause-fault c =
     let e : c.len.result ≡ length c.loop-fields.slots.items = search rules in
+    let same = ap (λ n. front_fault n c.in-Some.fields c.in-Some.rest.now) (sym e) in
     faulty c.args.bytes.now c.loop-fields.slots.items c.loop-fields.remaining.now c.in-Some.fields c.in-Some.rest.now c.in-Err.fault
-    c.loop-fields.invariant c.in-Some.ensures.found c.in-Some.ensures.spelled (ap (λ n. front_fault n c.in-Some.fields c.in-Some.rest.now) (sym e) ∙ c.in-Err.ensures.fault)
+    c.loop-fields.invariant c.in-Some.ensures.found c.in-Some.ensures.spelled (same ∙ c.in-Err.ensures.fault)

@@ -4,4 +4,5 @@ use Rattle.bq_meaning.proofs.Once.{same_end}
 use Rattle.bq_meaning.proofs.laws.one_run.Goals as goal
 
 pub returns : goal.returns
-returns c = λ p text acc bytes frame n answer m other after left h i. same_end p text n m (entry_machine p acc bytes frame) answer other after left h.runs i.runs
+returns c = λ p text acc bytes frame n answer m other after left h i.
+    same_end p text n m (entry_machine p acc bytes frame) answer other after left h.runs i.runs

@@ -6,7 +6,11 @@ use Rattle.q_script.proofs.Pairs.{reads_none, not_followed, not_leading}
 use Rattle.q_script.proofs.numeral.leading.Goals as goal
 
 pub returns-in_err-digits : goal.returns-in_err-digits
-returns-in_err-digits c = reads_none (IsFollowed c.args.between) c.args.text.now _ (ap (option_map _) c.from_residual.ensures) (not_followed c.args.between c.args.text.now c.requires c.in_err-digits.ensures)
+returns-in_err-digits c = reads_none (IsFollowed c.args.between) c.args.text.now _ (ap (option_map _) c.from_residual.ensures)
+    (not_followed c.args.between c.args.text.now c.requires c.in_err-digits.ensures)
 
 pub returns-in_err-first : goal.returns-in_err-first
-returns-in_err-first c = reads_none (IsFollowed c.args.between) c.args.text.now _ (ap (option_map _) c.from_residual-in_err-first.ensures) (not_leading c.args.between c.args.text.now c.in_ok-digits.digits.now c.in_ok-digits.rest.now c.requires c.in_ok-digits.ensures c.in_err-first.ensures)
+returns-in_err-first c =
+    let digits = c.in_ok-digits in
+    reads_none (IsFollowed c.args.between) c.args.text.now _ (ap (option_map _) c.from_residual-in_err-first.ensures)
+    (not_leading c.args.between c.args.text.now digits.digits.now digits.rest.now c.requires digits.ensures c.in_err-first.ensures)

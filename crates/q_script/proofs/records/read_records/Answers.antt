@@ -1,10 +1,9 @@
 -- read_records: the view of the records that a text lists.
-use Rattle.std.proofs.Common.{rules, ℕ, ◌+◌, List, [], ◌∷◌, ◌++◌, length, Some, map, Bor, ap, sym, ◌∙◌, subst, arith, refl}
+use Rattle.std.proofs.Common.{rules, ℕ, ◌+◌, List, [], ◌∷◌, ◌++◌, length, Some, Bor, ap, sym, ◌∙◌, subst, arith, refl}
 use Rattle.std.specs.FinMap as fin
 use Rattle.std.proofs.lemmas.List.{map_push}
 use Rattle.std.proofs.lemmas.Iterator.Consumers.{YieldsList-end}
 use Rattle.q_script.specs.declared.records.RecordFault.TheVariants.{Full}
-use Rattle.q_script.specs.Lines.{parts_of}
 use Rattle.q_script.specs.Records.{IsFaultAt, IsReading}
 use Rattle.q_script.proofs.Learning.{IsWithin, within_empty, within_learned}
 use Rattle.q_script.proofs.Faults.{Read, not_empty, lines_there, fault_at, full_fault, read_more}
@@ -21,29 +20,45 @@ loop-text-preserved c =
     let h = c.in-Ok.ensures in (
       k.0 ++ (h.0 ∷ []),
       subst (λ u. Read c.args.lengths u (Some c.in-Ok.entry.0) c.put.new.self (k.0 ++ (h.0 ∷ []))) (sym e)
-          (read_more c.args.lengths (map (λ (x : Bor (List ℕ)). x.now) c.loop-text.yielded) c.in-Some.text.now c.loop-text.last c.loop-text.view c.put.new.self k.0 c.in-Ok.entry k.1 h c.in-Ok-put.ensures.ok),
+          (read_more c.in-Some.text.now c.in-Ok.entry k.1 h c.in-Ok-put.ensures.ok),
     )
 
 pub returns-in-Err-clause-fault : goal.returns-in-Err-clause-fault
 returns-in-Err-clause-fault c =
-    let t = turn_of (road_of _ c.split-text-items.result c.without_last_feed.result.now c.into_iter-text-iterator.ensures.into_iter_gives c.split-text-items.ensures.text c.split-text-items.ensures.has_more c.split-text-items.ensures.pattern) c.loop-text.yielded _ c.loop-text.yielded_by _ _ c.in-Some.text c.in-Some.is c.next.ensures.steps in
+    let s = c.split-text-items in
+    let body = c.without_last_feed.result.now in
+    let road = road_of _ s.result body c.into_iter-text-iterator.ensures.into_iter_gives s.ensures.text s.ensures.has_more s.ensures.pattern in
+    let t = turn_of road c.loop-text.yielded _ c.loop-text.yielded_by _ _ c.in-Some.text c.in-Some.is c.next.ensures.steps in
     let k = c.loop-text.invariant in
-    subst (λ u. IsFaultAt c.args.lengths u (c.len.result + 1) c.in-Err.fault) (sym (lines_there c.args.source.now c.without_last_feed.result.now (not_empty (length c.args.source.now) c.is_empty.result c.is_empty.ensures c.if-is_empty.false) c.without_last_feed.ensures))
-    (fault_at c.args.lengths (parts_of c.without_last_feed.result.now) (map (λ (x : Bor (List ℕ)). x.now) c.loop-text.yielded) c.in-Some.text.now _ c.len.result c.loop-text.last c.loop-text.view k.0 c.in-Err.fault t.0 t.1 t.2 k.1 c.len.ensures.count (c.in-Err.ensures (length k.0)))
+    let some = not_empty (length c.args.source.now) c.is_empty.result c.is_empty.ensures c.if-is_empty.false in
+    let there = lines_there c.args.source.now body some c.without_last_feed.ensures in
+    subst (λ u. IsFaultAt c.args.lengths u (c.len.result + 1) c.in-Err.fault) (sym there)
+    (fault_at (length c.loop-text.yielded) c.in-Err.fault t.0 t.1 t.2 k.1 c.len.ensures.count (c.in-Err.ensures (length k.0)))
 
 pub returns-in-Err-Full-clause-fault : goal.returns-in-Err-Full-clause-fault
 returns-in-Err-Full-clause-fault c =
-    let t = turn_of (road_of _ c.split-text-items.result c.without_last_feed.result.now c.into_iter-text-iterator.ensures.into_iter_gives c.split-text-items.ensures.text c.split-text-items.ensures.has_more c.split-text-items.ensures.pattern) c.loop-text.yielded _ c.loop-text.yielded_by _ _ c.in-Some.text c.in-Some.is c.next.ensures.steps in
+    let s = c.split-text-items in
+    let body = c.without_last_feed.result.now in
+    let road = road_of _ s.result body c.into_iter-text-iterator.ensures.into_iter_gives s.ensures.text s.ensures.has_more s.ensures.pattern in
+    let t = turn_of road c.loop-text.yielded _ c.loop-text.yielded_by _ _ c.in-Some.text c.in-Some.is c.next.ensures.steps in
     let k = c.loop-text.invariant in
-    let full = full_fault c.args.lengths (map (λ (x : Bor (List ℕ)). x.now) c.loop-text.yielded) c.in-Some.text.now c.loop-text.last c.loop-text.view k.0 c.in-Ok.entry k.1 (omega (arith, c.len-in-Err-Full.ensures.valid.few, ap fin.len c.in-Err-Full.ensures.err)) c.in-Ok.ensures (c.in-Err-Full.ensures.full.0 (search rules)) in
-    subst (λ u. IsFaultAt c.args.lengths u (c.len-in-Err-Full.result + 1) Full) (sym (lines_there c.args.source.now c.without_last_feed.result.now (not_empty (length c.args.source.now) c.is_empty.result c.is_empty.ensures c.if-is_empty.false) c.without_last_feed.ensures))
-    (fault_at c.args.lengths (parts_of c.without_last_feed.result.now) (map (λ (x : Bor (List ℕ)). x.now) c.loop-text.yielded) c.in-Some.text.now _ c.len-in-Err-Full.result c.loop-text.last c.loop-text.view k.0 Full t.0 t.1 t.2 k.1 (c.len-in-Err-Full.ensures.count ∙ ap fin.len c.in-Err-Full.ensures.err) full)
+    let some = not_empty (length c.args.source.now) c.is_empty.result c.is_empty.ensures c.if-is_empty.false in
+    let there = lines_there c.args.source.now body some c.without_last_feed.ensures in
+    let same = ap fin.len c.in-Err-Full.ensures.err in
+    let full = full_fault c.args.lengths _ c.in-Some.text.now c.loop-text.last c.loop-text.view k.0 c.in-Ok.entry k.1
+    (omega (arith, c.len-in-Err-Full.ensures.valid.few, same)) c.in-Ok.ensures (c.in-Err-Full.ensures.full.0 (search rules)) in
+    subst (λ u. IsFaultAt c.args.lengths u (c.len-in-Err-Full.result + 1) Full) (sym there)
+    (fault_at (length c.loop-text.yielded) Full t.0 t.1 t.2 k.1 (c.len-in-Err-Full.ensures.count ∙ same) full)
 
 pub returns-clause-read : goal.returns-clause-read
 returns-clause-read c =
-    let t = YieldsList-end (road_of _ c.split-text-items.result c.without_last_feed.result.now c.into_iter-text-iterator.ensures.into_iter_gives c.split-text-items.ensures.text c.split-text-items.ensures.has_more c.split-text-items.ensures.pattern) c.loop-text.yielded _ c.loop-text.yielded_by _ _ c.in-None.is c.next.ensures.steps in
+    let s = c.split-text-items in
+    let body = c.without_last_feed.result.now in
+    let road = road_of _ s.result body c.into_iter-text-iterator.ensures.into_iter_gives s.ensures.text s.ensures.has_more s.ensures.pattern in
+    let t = YieldsList-end road c.loop-text.yielded _ c.loop-text.yielded_by _ _ c.in-None.is c.next.ensures.steps in
     let k = c.loop-text.invariant in
-    let there = lines_there c.args.source.now c.without_last_feed.result.now (not_empty (length c.args.source.now) c.is_empty.result c.is_empty.ensures c.if-is_empty.false) c.without_last_feed.ensures in
+    let some = not_empty (length c.args.source.now) c.is_empty.result c.is_empty.ensures c.if-is_empty.false in
+    let there = lines_there c.args.source.now body some c.without_last_feed.ensures in
     (k.0, subst (λ u. IsReading c.args.lengths u k.0) (t.0 ∙ sym there) k.1.reading, k.1.learnt)
 
 pub returns-then-is_empty-clause-lengths : goal.returns-then-is_empty-clause-lengths

@@ -12,16 +12,23 @@ use Rattle.q_script.proofs.script.read_lines.Goals as goal
 
 pub returns-in-Err-Form-clause-fault : goal.returns-in-Err-Form-clause-fault
 returns-in-Err-Form-clause-fault g c =
-    let t = turn_of (road_of _ c.split-part-items.result c.args.text.now c.into_iter-part-iterator.ensures.into_iter_gives c.split-part-items.ensures.text c.split-part-items.ensures.has_more c.split-part-items.ensures.pattern) c.loop-part.yielded _ c.loop-part.yielded_by _ _ c.in-Some.part c.in-Some.is c.next.ensures.steps in
-    first_other g.L.Line.spells c.args.before (parts_of c.args.text.now) (map (λ (x : Bor (List ℕ)). x.now) c.loop-part.yielded) c.loop-part.lines.items c.in-Some.part.now _ c.len.result t.0 t.1 t.2 c.loop-part.invariant (subst (λ (f : LineFault). Judges g.L.Line.spells c.in-Some.part.now (Err f)) c.in-Err-Form.field-0-is c.in-Err-Form.ensures) (omega (arith, c.len.ensures, c.loop-part.lines.ok.0))
+    let s = c.split-part-items in
+    let road = road_of _ s.result c.args.text.now c.into_iter-part-iterator.ensures.into_iter_gives s.ensures.text s.ensures.has_more s.ensures.pattern in
+    let t = turn_of road c.loop-part.yielded _ c.loop-part.yielded_by _ _ c.in-Some.part c.in-Some.is c.next.ensures.steps in
+    let none = subst (λ (f : LineFault). Judges g.L.Line.spells c.in-Some.part.now (Err f)) c.in-Err-Form.field-0-is c.in-Err-Form.ensures in
+    first_other g.L.Line.spells c.args.before (parts_of c.args.text.now) (map (λ (x : Bor (List ℕ)). x.now) c.loop-part.yielded) c.loop-part.lines.items
+    c.in-Some.part.now _ c.len.result t.0 t.1 t.2 c.loop-part.invariant none (omega (arith, c.len.ensures, c.loop-part.lines.ok.0))
 
 pub loop-part-preserved : goal.loop-part-preserved
 loop-part-preserved g c =
     let e = map_push (λ (x : Bor (List ℕ)). x.now) c.loop-part.yielded c.in-Some.part in
     subst (λ u. AllZip g.L.Line.spells u c.push.new.self.items) (sym e)
-    (read_more g.L.Line.spells (map (λ (x : Bor (List ℕ)). x.now) c.loop-part.yielded) c.in-Some.part.now c.loop-part.lines.items c.push.new.self.items c.in-Ok.line c.push.result c.loop-part.invariant c.in-Ok.ensures c.push.ensures.items (sym c.is_err.ensures.value ∙ c.if-is_err.false))
+    (read_more g.L.Line.spells (map (λ (x : Bor (List ℕ)). x.now) c.loop-part.yielded) c.in-Some.part.now c.loop-part.lines.items c.push.new.self.items
+    c.in-Ok.line c.push.result c.loop-part.invariant c.in-Ok.ensures c.push.ensures.items (sym c.is_err.ensures.value ∙ c.if-is_err.false))
 
 pub returns-clause-read : goal.returns-clause-read
 returns-clause-read g c =
-    let t = YieldsList-end (road_of _ c.split-part-items.result c.args.text.now c.into_iter-part-iterator.ensures.into_iter_gives c.split-part-items.ensures.text c.split-part-items.ensures.has_more c.split-part-items.ensures.pattern) c.loop-part.yielded _ c.loop-part.yielded_by _ _ c.in-None.is c.next.ensures.steps in
-    all_read g.L.Line.spells (parts_of c.args.text.now) (map (λ (x : Bor (List ℕ)). x.now) c.loop-part.yielded) c.loop-part.lines.items t.0 c.loop-part.invariant
+    let s = c.split-part-items in
+    let road = road_of _ s.result c.args.text.now c.into_iter-part-iterator.ensures.into_iter_gives s.ensures.text s.ensures.has_more s.ensures.pattern in
+    let t = YieldsList-end road c.loop-part.yielded _ c.loop-part.yielded_by _ _ c.in-None.is c.next.ensures.steps in
+    all_read g.L.Line.spells (parts_of c.args.text.now) _ c.loop-part.lines.items t.0 c.loop-part.invariant

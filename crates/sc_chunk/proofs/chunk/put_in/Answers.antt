@@ -4,7 +4,7 @@ use Rattle.std.proofs.lemmas.List.{length-set}
 use Rattle.std.specs.Ordering.{nat_cmp}
 use Rattle.std.specs.FinMap.Entries.{put}
 use Rattle.sc_chunk.specs.Entries.{before}
-use Rattle.sc_chunk.proofs.EntryLemmas.{put_over_known, put_between, put_behind, put_by_one}
+use Rattle.sc_chunk.proofs.EntryLemmas.{put_over_known, put_between, put_behind, put_length}
 use Rattle.sc_chunk.proofs.chunk.put_in.Goals as goal
 use Rattle.sc_chunk.proofs.chunk.put_in.Goals.{then-at-len+else-known-id, else-at-len}
 
@@ -25,4 +25,4 @@ returns-clause-ok g c =
       | else-at-len w ↦ put_behind c.args.id c.args.stored c.args.entries.now.items c.before-at.result place (grind (arith, w.if-at-len.false, c.len.ensures))
     ]) in
     let short : length c.args.entries.now.items < 32 = omega (arith, c.requires, c.len-2.ensures, c.if-len-eq-CHUNK_CAPACITY.false) in
-    (is, omega (arith, ap length is, put_by_one c.args.id c.args.stored c.args.entries.now.items, short))
+    (is, omega (arith, ap length is, (put_length c.args.id c.args.stored c.args.entries.now.items).1, short))

@@ -6,4 +6,4 @@ use Rattle.sc_decode.proofs.decoder.message_of.Goals as goal
 
 pub returns-then-not-is_empty-clause-fault : goal.returns-then-not-is_empty-clause-fault
 returns-then-not-is_empty-clause-fault c =
-    extra c.args.version c.args.bytes.now c.in-Ok.rest.now c.in-Ok.message c.in-Ok.ensures.small c.in-Ok.ensures.message c.in-Ok.ensures.parts (eqb-false _ 0 (sym c.is_empty.ensures ∙ c.if-not-is_empty.true))
+    let m = c.in-Ok.ensures in extra c.args.version _ m.small m.message m.parts (eqb-false _ 0 (sym c.is_empty.ensures ∙ c.if-not-is_empty.true))

@@ -12,23 +12,20 @@ use Rattle.sc_msg.proofs.encoder.push_ids.Goals as goal
 pub loop-id-init : goal.loop-id-init
 loop-id-init c =
     let s = c.args.ids.now in
-    let old = c.args.out.now.items in
-    let new = c.push_count.new.out.items in
-    subst (λ (rest : List ℕ). WrittenTo ids_layout (set.len s) (rising s) old new rest) (sym (c.into_iter-id-iterator.ensures.into_iter_gives ∙ c.iter-id-items.ensures))
-    (written_none ids_layout (set.len s) (rising s) old new (c.in_ok-push_count.ensures ∙ ap (λ (n : ℕ). old ++ number_bytes 2 n) c.len.ensures.count))
+    let given = c.into_iter-id-iterator.ensures.into_iter_gives ∙ c.iter-id-items.ensures in
+    let counted = c.in_ok-push_count.ensures ∙ ap (λ (n : ℕ). c.args.out.now.items ++ number_bytes 2 n) c.len.ensures.count in
+    subst (λ (rest : List ℕ). WrittenTo ids_layout (set.len s) (rising s) c.args.out.now.items c.push_count.new.out.items rest) (sym given)
+    (written_none counted)
 
 pub loop-id-preserved : goal.loop-id-preserved
 loop-id-preserved c =
-    let s = c.args.ids.now in
-    let new = c.loop-id.out.items in
-    let id = c.in-Some.id in
-    written_more ids_layout (set.len s) (rising s) c.args.out.now.items new c.put_u64.new.out.items id c.next.new.self _ c.loop-id.invariant c.in-Some.ensures.steps (c.in_ok-put_u64.ensures.fits, tt)
-    (c.in_ok-put_u64.ensures.written ∙ ap (λ (l : List ℕ). new ++ l) (sym (append-nil (number_bytes 8 id))))
+    let put = c.in_ok-put_u64.ensures in
+    let entry = put.written ∙ ap (λ (l : List ℕ). c.loop-id.out.items ++ l) (sym (append-nil (number_bytes 8 c.in-Some.id))) in
+    written_more c.loop-id.invariant c.in-Some.ensures.steps (put.fits, tt) entry
 
 pub returns-clause-legal : goal.returns-clause-legal
 returns-clause-legal c =
-    let s = c.args.ids.now in
-    record { few = c.requires; fit = (written_all ids_layout (set.len s) (rising s) c.args.out.now.items c.loop-id.out.items _ c.loop-id.invariant c.in-None.ensures.steps.0 (len-rising s)).0 }
+    record { few = c.requires; fit = (written_all c.loop-id.invariant c.in-None.ensures.steps.0 (len-rising c.args.ids.now)).0 }
 
 pub returns-clause-spelled : goal.returns-clause-spelled
-returns-clause-spelled c = let s = c.args.ids.now in (written_all ids_layout (set.len s) (rising s) c.args.out.now.items c.loop-id.out.items _ c.loop-id.invariant c.in-None.ensures.steps.0 (len-rising s)).1
+returns-clause-spelled c = (written_all c.loop-id.invariant c.in-None.ensures.steps.0 (len-rising c.args.ids.now)).1

@@ -1,49 +1,58 @@
 -- merged: a row with all that either has, and at equal numbers the first row's value.
-use Rattle.std.proofs.Common.{◌≡◌, ℕ, List, true, false, ap, subst, sym, ◌∙◌}
+use Rattle.std.proofs.Common.{◌≡◌, true, false, ap, subst, sym, ◌∙◌}
 use Rattle.std.proofs.lemmas.List.Elements.{same_from_all_zip}
-use Rattle.std.specs.FinMap as fin
-use Rattle.sc_view.specs.declared.view.Stored.{Stored}
 use Rattle.sc_view.specs.Rows.{joined, IsRow, Rises, is_larger}
-use Rattle.sc_view.proofs.MapLemmas.{Tells, tells_all, beside_next, newer_next, same_next, same_tail, left_put, left_kept, room_next, put_all_rising}
+use Rattle.sc_view.proofs.EntryLemmas.{Row}
+use Rattle.sc_view.proofs.MapLemmas.{view_of, Tells, tells_all, beside_next, newer_next, same_next, same_tail, left_put, left_kept, room_next, put_all_rising}
 use Rattle.sc_view.proofs.ViewLemmas.{put_all}
 use Rattle.sc_view.proofs.row.merged.Goals as goal
 
 pub loop-entry-init : goal.loop-entry-init
 loop-entry-init c =
     let same : c.in_ok-row.row.items ≡ c.args.known.now.items = same_from_all_zip _ _ _ c.in_ok-row.ensures.cases (λ x y h. h) in
-    let held : List (List (ℕ × Stored)) = c.args.known.now.items in
+    let held = joined c.args.known.now.items in
+    let more = joined c.args.more.now in
+    let slice = sym c.as_slice.ensures.value in
     record {
       row = subst IsRow (sym same) c.requires.known;
       beside = record {
         theirs = c.requires.more;
-        rest = subst (λ (r : List (List (ℕ × Stored))). Rises (joined r)) (sym c.as_slice.ensures.value) c.requires.known.rises;
-        tells = subst (λ (r : List (List (ℕ × Stored))). Tells (joined c.args.more.now) (joined r) (joined held)) (sym c.as_slice.ensures.value) (tells_all (joined c.args.more.now) (joined held));
+        rest = subst (λ (r : Row). Rises (joined r)) slice c.requires.known.rises;
+        tells = subst (λ (r : Row). Tells more (joined r) held) slice (tells_all more held);
       };
-      same = subst (λ (r : List (List (ℕ × Stored))). Tells (joined c.args.more.now) (joined r) (joined held)) (sym same) (tells_all (joined c.args.more.now) (joined held));
-      left = ap (λ (r : List (List (ℕ × Stored))). put_all (fin.from_entries (joined r)) (joined c.args.more.now)) same ∙ put_all_rising (fin.from_entries (joined held)) (joined c.args.more.now) c.requires.more;
+      same = subst (λ (r : Row). Tells more (joined r) held) (sym same) (tells_all more held);
+      left = ap (λ (r : Row). put_all (view_of (joined r)) more) same ∙ put_all_rising (view_of held) more c.requires.more;
     }
 
 pub put_entry-requires-clause-room : goal.put_entry-requires-clause-room
 put_entry-requires-clause-room c =
-    let new = newer_next true c.in-Some.entry.now _ _ _ (joined c.loop-entry.row.items) _ c.seek.result c.in-Some.ensures c.loop-entry.invariant.beside.tells c.loop-entry.invariant.same c.seek.ensures.value (ap (is_larger c.seek.result) (sym c.number.ensures.number) ∙ sym c.is_larger.ensures ∙ c.if-is_larger.true) in
-    room_next c.in-Some.entry.now _ _ (joined c.loop-entry.row.items) _ c.in-Some.ensures c.loop-entry.invariant.row.rises new c.loop-entry.invariant.left c.requires.room
+    let larger = ap (is_larger c.seek.result) (sym c.number.ensures.number) ∙ sym c.is_larger.ensures ∙ c.if-is_larger.true in
+    let l = c.loop-entry.invariant in
+    let new = newer_next c.in-Some.entry.now _ _ _ _ c.in-Some.ensures l.beside _ c.seek.ensures.value true (joined c.loop-entry.row.items) l.same larger in
+    room_next c.in-Some.entry.now _ _ (joined c.loop-entry.row.items) _ c.in-Some.ensures l.left l.row.rises new c.requires.room
 
 pub loop-entry-preserved-in-Continue-branch-2 : goal.loop-entry-preserved-in-Continue-branch-2
 loop-entry-preserved-in-Continue-branch-2 c =
-    let new = newer_next true c.in-Some.entry.now _ _ _ (joined c.loop-entry.row.items) _ c.seek.result c.in-Some.ensures c.loop-entry.invariant.beside.tells c.loop-entry.invariant.same c.seek.ensures.value (ap (is_larger c.seek.result) (sym c.number.ensures.number) ∙ sym c.is_larger.ensures ∙ c.if-is_larger.true) in
+    let row = joined c.loop-entry.row.items in
+    let l = c.loop-entry.invariant in
+    let larger = ap (is_larger c.seek.result) (sym c.number.ensures.number) ∙ sym c.is_larger.ensures ∙ c.if-is_larger.true in
+    let new = newer_next _ _ _ _ _ c.in-Some.ensures l.beside _ c.seek.ensures.value true row l.same larger in
     record {
       row = c.in_ok-put_entry.ensures.row;
-      beside = beside_next c.in-Some.entry.now _ _ _ _ _ c.in-Some.ensures c.seek.ensures.rest c.loop-entry.invariant.beside;
-      same = same_next c.in-Some.entry.now _ _ (joined c.loop-entry.row.items) _ _ c.in-Some.ensures c.in_ok-put_entry.ensures.ok c.loop-entry.invariant.beside.theirs c.loop-entry.invariant.same;
-      left = left_put c.in-Some.entry.now _ _ (joined c.loop-entry.row.items) _ _ c.in-Some.ensures c.in_ok-put_entry.ensures.ok new c.loop-entry.invariant.left;
+      beside = beside_next _ _ _ _ _ c.in-Some.ensures l.beside _ c.seek.ensures.rest;
+      same = same_next _ _ _ _ _ c.in-Some.ensures l.beside row _ c.in_ok-put_entry.ensures.ok l.same;
+      left = left_put _ _ _ row _ c.in-Some.ensures l.left _ c.in_ok-put_entry.ensures.ok new;
     }
 
 pub loop-entry-preserved : goal.loop-entry-preserved
 loop-entry-preserved c =
-    let old = newer_next false c.in-Some.entry.now _ _ _ (joined c.loop-entry.row.items) _ c.seek.result c.in-Some.ensures c.loop-entry.invariant.beside.tells c.loop-entry.invariant.same c.seek.ensures.value (ap (is_larger c.seek.result) (sym c.number.ensures.number) ∙ sym c.is_larger.ensures ∙ c.if-is_larger.false) in
+    let row = joined c.loop-entry.row.items in
+    let l = c.loop-entry.invariant in
+    let larger = ap (is_larger c.seek.result) (sym c.number.ensures.number) ∙ sym c.is_larger.ensures ∙ c.if-is_larger.false in
+    let old = newer_next _ _ _ _ _ c.in-Some.ensures l.beside _ c.seek.ensures.value false row l.same larger in
     record {
-      row = c.loop-entry.invariant.row;
-      beside = beside_next c.in-Some.entry.now _ _ _ _ _ c.in-Some.ensures c.seek.ensures.rest c.loop-entry.invariant.beside;
-      same = same_tail c.in-Some.entry.now _ _ (joined c.loop-entry.row.items) _ c.in-Some.ensures c.loop-entry.invariant.beside.theirs c.loop-entry.invariant.same;
-      left = left_kept c.in-Some.entry.now _ _ (joined c.loop-entry.row.items) _ c.in-Some.ensures old c.loop-entry.invariant.left;
+      row = l.row;
+      beside = beside_next _ _ _ _ _ c.in-Some.ensures l.beside _ c.seek.ensures.rest;
+      same = same_tail _ _ _ _ _ c.in-Some.ensures l.beside row l.same;
+      left = left_kept _ _ _ row _ c.in-Some.ensures l.left old;
     }

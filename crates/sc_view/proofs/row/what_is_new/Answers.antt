@@ -7,19 +7,23 @@ use Rattle.sc_view.proofs.row.what_is_new.Goals as goal
 
 pub overflow_add-ids : goal.overflow_add-ids
 overflow_add-ids c =
-    let next = lacking_next c.is_none.result c.loop-entry.ids c.from-ids.result _ c.in-Some.entry.now _ _ _ (joined c.args.known.now) c.seek-number.result c.in-Some.ensures c.loop-entry.invariant.beside.tells c.seek-number.ensures.value c.is_none.ensures c.from-ids.ensures c.loop-entry.invariant.lacking in
+    let more = lacking_next _ _ _ _ _ c.in-Some.ensures c.loop-entry.invariant.beside _ c.seek-number.ensures.value in
+    let next = more c.is_none.result c.loop-entry.ids c.from-ids.result _ c.is_none.ensures c.from-ids.ensures c.loop-entry.invariant.lacking in
     omega (arith, next, lacking_few (joined c.args.known.now) (joined c.args.more.now), c.requires.few)
 
 pub overflow_add-values : goal.overflow_add-values
 overflow_add-values c =
-    let next = larger_next c.loop-entry.values c.from-values.result _ c.in-Some.entry.now _ _ _ (joined c.args.known.now) c.seek-number.result c.in-Some.ensures c.loop-entry.invariant.beside.tells c.seek-number.ensures.value
-    (c.from-values.ensures ∙ ap bool_byte (c.is_larger.ensures ∙ ap (is_larger c.seek-number.result) c.number.ensures.number)) c.loop-entry.invariant.newer in
+    let more = larger_next _ _ _ _ _ c.in-Some.ensures c.loop-entry.invariant.beside _ c.seek-number.ensures.value in
+    let larger = c.from-values.ensures ∙ ap bool_byte (c.is_larger.ensures ∙ ap (is_larger c.seek-number.result) c.number.ensures.number) in
+    let next = more c.loop-entry.values c.from-values.result _ larger c.loop-entry.invariant.newer in
     omega (arith, next, newer_few (joined c.args.known.now) (joined c.args.more.now), c.requires.few)
 
 pub loop-entry-preserved : goal.loop-entry-preserved
-loop-entry-preserved c = record {
-  beside = beside_next c.in-Some.entry.now _ _ _ _ (joined c.args.known.now) c.in-Some.ensures c.seek-number.ensures.rest c.loop-entry.invariant.beside;
-  lacking = lacking_next c.is_none.result c.loop-entry.ids c.from-ids.result _ c.in-Some.entry.now _ _ _ (joined c.args.known.now) c.seek-number.result c.in-Some.ensures c.loop-entry.invariant.beside.tells c.seek-number.ensures.value c.is_none.ensures c.from-ids.ensures c.loop-entry.invariant.lacking;
-  newer = larger_next c.loop-entry.values c.from-values.result _ c.in-Some.entry.now _ _ _ (joined c.args.known.now) c.seek-number.result c.in-Some.ensures c.loop-entry.invariant.beside.tells c.seek-number.ensures.value
-      (c.from-values.ensures ∙ ap bool_byte (c.is_larger.ensures ∙ ap (is_larger c.seek-number.result) c.number.ensures.number)) c.loop-entry.invariant.newer;
-}
+loop-entry-preserved c =
+    let l = c.loop-entry.invariant in
+    let larger = c.from-values.ensures ∙ ap bool_byte (c.is_larger.ensures ∙ ap (is_larger c.seek-number.result) c.number.ensures.number) in
+    record {
+      beside = beside_next _ _ _ _ _ c.in-Some.ensures l.beside _ c.seek-number.ensures.rest;
+      lacking = lacking_next _ _ _ _ _ c.in-Some.ensures l.beside _ c.seek-number.ensures.value _ _ _ _ c.is_none.ensures c.from-ids.ensures l.lacking;
+      newer = larger_next _ _ _ _ _ c.in-Some.ensures l.beside _ c.seek-number.ensures.value _ _ _ larger l.newer;
+    }

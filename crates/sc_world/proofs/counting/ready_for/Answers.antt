@@ -11,4 +11,5 @@ pub returns : goal.returns
 returns c =
     let h = c.in-Some.ensures.found in
     let same = get_or_from_slice_get c.args.ops.now c.in-Some.at h.0 c.index-ops-at.result h.2 in
-    (h.0, h.1, h.2, c.in_ok-counted.ensures ∙ ap (λ (p : Phase). set.insert p.counted c.args.sender) c.open_phase.ensures ∙ ap (λ (o : Op). set.insert (open_phase o.session).counted c.args.sender) same)
+    let counted = c.in_ok-counted.ensures ∙ ap (λ (p : Phase). set.insert p.counted c.args.sender) c.open_phase.ensures in
+    (h.0, h.1, h.2, counted ∙ ap (λ (o : Op). set.insert (open_phase o.session).counted c.args.sender) same)

@@ -17,4 +17,5 @@ returns-in_err-node c =
     let e : k.0 ≡ c.in_err-node.field-0.0 = k.2 in
     subst (λ (r : Result (fin.FinMap nat_cmp NodeState) Reason). Gives memory (founded_nodes c.args.config c.args.founders.now) r)
     (sym (k.1 ∙ ap (λ (x : Reason). let r : Result (fin.FinMap nat_cmp NodeState) Reason = Err x in r) e))
-    (found_refused c.args.config c.args.founders.now _ c.in_err-node.field-0.0 (has_at c.args.founders.now c.loop-id.id-index 0 c.loop-id-test.true) c.in_err-node.ensures)
+    (found_refused c.args.config c.args.founders.now _ c.in_err-node.field-0.0
+    (has_at c.args.founders.now c.loop-id.id-index 0 c.loop-id-test.true) c.in_err-node.ensures)

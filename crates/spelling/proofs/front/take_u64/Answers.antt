@@ -4,4 +4,4 @@ use Rattle.spelling.proofs.front.take_u64.Goals as goal
 
 pub returns-clause-parts : goal.returns-clause-parts
 returns-clause-parts c =
-    number_parts 8 c.read_u64.result c.args.bytes.now.now c.in_ok-front.front.now c.take_front.new.bytes.now c.in_ok-front.ensures.len c.in_ok-front.ensures.bytes c.in_ok-front.ensures.parts c.read_u64.ensures
+    number_parts 8 _ _ c.in_ok-front.front.now _ c.in_ok-front.ensures.len c.in_ok-front.ensures.bytes c.in_ok-front.ensures.parts c.read_u64.ensures

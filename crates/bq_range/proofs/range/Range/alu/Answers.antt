@@ -8,6 +8,9 @@ use Rattle.bq_range.proofs.range.Range.alu.Goals as goal
 
 pub returns-else-is_single-clause-covers : goal.returns-else-is_single-clause-covers
 returns-else-is_single-clause-covers c = λ x y h k.
-    rw (← operation_low c.args.width c.args.op x y)
-    (subst (λ (r : Interval). IsIn (operation (bits_of c.args.width) c.args.op (low (bits_of c.args.width) x) (low (bits_of c.args.width) y)) r) (sym c.row.ensures)
-    (row_holds c.args.width c.args.op c.cut.result c.cut-else-is_single.result (low (bits_of c.args.width) x) (low (bits_of c.args.width) y) c.cut.ensures.bound c.cut-else-is_single.ensures.bound (c.cut.ensures.covers x h) (c.cut-else-is_single.ensures.covers y k)))
+    rw (← operation_low width op x y)
+    (subst (λ (r : Interval). IsIn (operation (bits_of width) op (low (bits_of width) x) (low (bits_of width) y)) r) (sym c.row.ensures)
+    (row_holds width one.result other.result (low (bits_of width) x) (low (bits_of width) y) one.ensures.bound other.ensures.bound
+    (one.ensures.covers x h) (other.ensures.covers y k) op))
+  where
+    open c use {args.{width, op}, cut as one, cut-else-is_single as other}

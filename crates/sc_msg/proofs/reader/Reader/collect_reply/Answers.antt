@@ -5,16 +5,19 @@ use Rattle.sc_msg.proofs.Fields.{here_or, later_or, number_cut_first, number_cut
 use Rattle.sc_msg.proofs.reader.Reader.collect_reply.Goals as goal
 
 pub returns-in_err-to-clause-fault : goal.returns-in_err-to-clause-fault
-returns-in_err-to-clause-fault c = search (rules, number_cut_first (number_slot ∷ view_slot c.args.version ∷ []) c.args.self.now.rest.now c.in_err-to.field-0.0 c.in_err-to.ensures.short c.in_err-to.ensures.few)
+returns-in_err-to-clause-fault c =
+    let short = number_cut_first (number_slot ∷ view_slot c.args.version ∷ []) c.args.self.now.rest.now c.in_err-to.ensures.short c.in_err-to.ensures.few in
+    search (rules, short.fault)
 
 pub returns-in_err-tag-clause-fault : goal.returns-in_err-tag-clause-fault
-returns-in_err-tag-clause-fault c = search (rules, number_cut_second c.in_ok-to.to (view_slot c.args.version ∷ []) c.args.self.now.rest.now c.number.new.self.rest.now c.in_err-tag.field-0.0 c.in_ok-to.ensures.fits c.in_ok-to.ensures.parts c.in_err-tag.ensures.short c.in_err-tag.ensures.few)
+returns-in_err-tag-clause-fault c =
+    let to = c.in_ok-to.ensures in
+    let short = number_cut_second c.in_ok-to.to (view_slot c.args.version ∷ []) _ to.fits to.parts c.in_err-tag.ensures.short c.in_err-tag.ensures.few in
+    search (rules, short.fault)
 
 pub returns-in_err-view-clause-fault : goal.returns-in_err-view-clause-fault
 returns-in_err-view-clause-fault c =
-    let behind_to = c.number.new.self.rest.now in
-    let behind_tag = c.number-2.new.self.rest.now in
-    let e = c.in_err-view.field-0.0 in
-    let view = here_or (view_slot c.args.version) [] behind_tag e c.in_err-view.ensures.fault in
-    let tag = later_or (number c.in_ok-tag.tag) (view_slot c.args.version ∷ []) behind_to behind_tag e c.in_ok-tag.ensures.fits c.in_ok-tag.ensures.parts view in
-    search (rules, later_or (number c.in_ok-to.to) (number_slot ∷ view_slot c.args.version ∷ []) c.args.self.now.rest.now behind_to e c.in_ok-to.ensures.fits c.in_ok-to.ensures.parts tag)
+    let to = c.in_ok-to.ensures in
+    let tag = c.in_ok-tag.ensures in
+    let view = here_or (view_slot c.args.version) [] c.number-2.new.self.rest.now c.in_err-view.field-0.0 c.in_err-view.ensures.fault in
+    search (rules, (later_or (number c.in_ok-to.to) to.fits to.parts (later_or (number c.in_ok-tag.tag) tag.fits tag.parts view)).fault)

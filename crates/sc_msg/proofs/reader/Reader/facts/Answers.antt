@@ -6,20 +6,18 @@ use Rattle.sc_msg.proofs.reader.Reader.facts.Goals as goal
 
 pub returns-in_err-entered-clause-fault : goal.returns-in_err-entered-clause-fault
 returns-in_err-entered-clause-fault c =
-    let fact = here_or ids_slot (ids_slot ∷ ids_slot ∷ []) c.args.self.now.rest.now c.in_err-entered.field-0.0 c.in_err-entered.ensures.fault in
-    search (rules, fact)
+    let err = c.in_err-entered in
+    search (rules, (here_or ids_slot (ids_slot ∷ ids_slot ∷ []) c.args.self.now.rest.now err.field-0.0 err.ensures.fault).fault)
 
 pub returns-in_err-joined-clause-fault : goal.returns-in_err-joined-clause-fault
 returns-in_err-joined-clause-fault c =
-    let e = c.in_err-joined.field-0.0 in
-    let joined = here_or ids_slot (ids_slot ∷ []) c.ids.new.self.rest.now e c.in_err-joined.ensures.fault in
-    let fact = later_or (ids c.in_ok-entered.entered) (ids_slot ∷ ids_slot ∷ []) c.args.self.now.rest.now c.ids.new.self.rest.now e c.in_ok-entered.ensures.ids c.in_ok-entered.ensures.parts joined in
-    search (rules, fact)
+    let entered = c.in_ok-entered.ensures in
+    let joined = here_or ids_slot (ids_slot ∷ []) c.ids.new.self.rest.now c.in_err-joined.field-0.0 c.in_err-joined.ensures.fault in
+    search (rules, (later_or (ids c.in_ok-entered.entered) entered.ids entered.parts joined).fault)
 
 pub returns-in_err-left-clause-fault : goal.returns-in_err-left-clause-fault
 returns-in_err-left-clause-fault c =
-    let e = c.in_err-left.field-0.0 in
-    let left = here_or ids_slot [] c.ids-2.new.self.rest.now e c.in_err-left.ensures.fault in
-    let joined = later_or (ids c.in_ok-joined.joined) (ids_slot ∷ []) c.ids.new.self.rest.now c.ids-2.new.self.rest.now e c.in_ok-joined.ensures.ids c.in_ok-joined.ensures.parts left in
-    let fact = later_or (ids c.in_ok-entered.entered) (ids_slot ∷ ids_slot ∷ []) c.args.self.now.rest.now c.ids.new.self.rest.now e c.in_ok-entered.ensures.ids c.in_ok-entered.ensures.parts joined in
-    search (rules, fact)
+    let entered = c.in_ok-entered.ensures in
+    let left = here_or ids_slot [] c.ids-2.new.self.rest.now c.in_err-left.field-0.0 c.in_err-left.ensures.fault in
+    let joined = later_or (ids c.in_ok-joined.joined) c.in_ok-joined.ensures.ids c.in_ok-joined.ensures.parts left in
+    search (rules, (later_or (ids c.in_ok-entered.entered) entered.ids entered.parts joined).fault)

@@ -1,7 +1,6 @@
 -- Reader::ids: a set of ids: a count of at most 1,024, and the ids in rising order.
 use Rattle.std.proofs.Common.{◌++◌, ◌∷◌, [], ap, sym, ◌∙◌, arith, length-append}
 use Rattle.std.specs.FinSet as set
-use Rattle.sc_msg.specs.Entries.{ids_layout}
 use Rattle.sc_msg.proofs.Lists.{read_more, id_entry, ids_are, ids_parts}
 use Rattle.sc_msg.proofs.Rising.{set-push}
 use Rattle.sc_msg.proofs.reader.Reader.ids.Goals as goal
@@ -10,20 +9,15 @@ pub loop-preserved : goal.loop-preserved
 loop-preserved c =
     let i = c.loop.invariant in
     let id = c.in_ok-node.node in
-    let after = c.id_above.new.self.rest.now in
     record {
       ids = i.ids ++ id ∷ [];
-      read = read_more ids_layout c.in_ok-count.count c.args.self.now.rest.now i.ids c.loop.self.rest.now after c.loop.last id i.read c.in_ok-node.ensures.above (c.in_ok-node.ensures.fits, tt) (id_entry id c.loop.self.rest.now after c.in_ok-node.ensures.parts);
+      read = read_more id i.read c.in_ok-node.ensures.above (c.in_ok-node.ensures.fits, tt) (id_entry id _ c.in_ok-node.ensures.parts);
       made = c.in_ok-insert.ensures.ok ∙ ap (λ s. set.insert s id) i.made ∙ sym (set-push i.ids id);
       len = omega (arith, i.len, length-append i.ids (id ∷ []));
     }
 
 pub returns-clause-ids : goal.returns-clause-ids
-returns-clause-ids c =
-    let i = c.loop.invariant in
-    ids_are c.loop.ids c.in_ok-count.count c.args.self.now.rest.now i.ids c.loop.self.rest.now c.loop.last i.read i.made (omega arith) c.in_ok-count.ensures.few
+returns-clause-ids c = let i = c.loop.invariant in ids_are i.read c.loop.ids i.made (omega arith) c.in_ok-count.ensures.few
 
 pub returns-clause-parts : goal.returns-clause-parts
-returns-clause-parts c =
-    let i = c.loop.invariant in
-    ids_parts c.loop.ids c.in_ok-count.count c.args.self.now.rest.now i.ids c.loop.self.rest.now c.loop.last i.read i.made (omega arith)
+returns-clause-parts c = let i = c.loop.invariant in ids_parts i.read c.loop.ids i.made (omega arith)

@@ -3,7 +3,7 @@ use Rattle.sc_msg.proofs.Parts.{led_by}
 use Rattle.sc_msg.proofs.reader.Reader.short_number.Goals as goal
 
 pub returns-clause-first : goal.returns-clause-first
-returns-clause-first c = (led_by 2 _ _ c.take_u16.result c.ok_or.result c.ok_or.ensures.value c.take_u16.ensures.fits c.take_u16.ensures.parts).0
+returns-clause-first c = (led_by 2 _ _ c.take_u16.result c.ok_or.ensures.value c.take_u16.ensures.fits c.take_u16.ensures.parts).0
 
 pub returns-clause-long : goal.returns-clause-long
-returns-clause-long c = (led_by 2 _ _ c.take_u16.result c.ok_or.result c.ok_or.ensures.value c.take_u16.ensures.fits c.take_u16.ensures.parts).1
+returns-clause-long c = (led_by 2 _ _ c.take_u16.result c.ok_or.ensures.value c.take_u16.ensures.fits c.take_u16.ensures.parts).1

@@ -10,7 +10,8 @@ returns-in_err-count-clause-fault c =
 
 pub returns-in_err-bytes-clause-fault : goal.returns-in_err-bytes-clause-fault
 returns-in_err-bytes-clause-fault c =
-    let cut = value_cut c.args.version c.in_ok-count.count c.args.self.now.rest.now c.value_length.new.self.rest.now c.in_ok-count.ensures.legal c.in_ok-count.ensures.parts c.in_err-bytes.ensures.few in
+    let told = c.in_ok-count.ensures in
+    let cut = value_cut c.args.version c.in_ok-count.count _ _ told.legal told.parts c.in_err-bytes.ensures.few in
     search (rules, cut)
 
 pub returns-clause-whole : goal.returns-clause-whole
@@ -18,5 +19,5 @@ returns-clause-whole c = rw c.in-Ok.ensures.ok (rw c.in_ok-bytes.ensures.len c.i
 
 pub returns-clause-parts : goal.returns-clause-parts
 returns-clause-parts c =
-    rw c.in-Ok.ensures.ok
-    (value_parts c.args.version c.in_ok-count.count c.in_ok-bytes.bytes.now c.args.self.now.rest.now c.value_length.new.self.rest.now c.take.new.self.rest.now c.in_ok-bytes.ensures.len c.in_ok-count.ensures.parts c.in_ok-bytes.ensures.parts)
+    let bytes = c.in_ok-bytes.ensures in
+    rw c.in-Ok.ensures.ok (value_parts c.args.version c.in_ok-count.count _ _ bytes.len c.in_ok-count.ensures.parts bytes.parts)

@@ -25,5 +25,6 @@ pub returns-in_err-check_beginning : goal.returns-in_err-check_beginning
 returns-in_err-check_beginning c =
     let node = c.args.self.now in
     let why = err_from_is_err_and c.from_residual.result c.from_residual.ensures.1 in
+    let said = ap (λ (f : Reason). let r : Result (Unit {0}) Reason = Err f in r) why.2 ∙ c.in_err-check_beginning.ensures.value in
     subst (λ (r : Result Begun Reason). Steps reasons.OutOfMemory (store_begun node c.args.value.now) node node r) (sym why.1)
-    (refl, λ loud. refuses (opening node) (fitting (stored_view node c.args.value.now)) tt why.0 _ (ap (λ (f : Reason). let r : Result (Unit {0}) Reason = Err f in r) why.2 ∙ c.in_err-check_beginning.ensures.value))
+    (refl, λ loud. refuses (opening node) (fitting (stored_view node c.args.value.now)) tt why.0 _ said)

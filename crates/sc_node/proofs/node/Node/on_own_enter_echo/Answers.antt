@@ -17,5 +17,6 @@ returns-in_err-heard c =
     refused (delivered n (message_from c.args.from (EnterEcho echo))) n c.in_err-heard.field-0.0
     c.from_residual-in_err-heard.result c.from_residual-in_err-heard.ensures.1
     (λ full. too_many n c.args.from echo c.requires.here
-    (λ more. no_refusal _ _ (sym (c.in_ok-learned.ensures.full.1 (subst (λ (m : NodeState). most_entries < fin.len (merge m.view echo.view)) (sym c.self.view_is) more))))
+    (λ more. no_refusal _ _ (sym (c.in_ok-learned.ensures.full.1
+    (subst (λ (m : NodeState). most_entries < fin.len (merge m.view echo.view)) (sym c.self.view_is) more))))
     (subst (λ (m : NodeState). is_overfull (union_facts m.facts echo.facts) ≡ true) c.self.view_is (c.in_err-heard.ensures.full.0 (ap Err full))))

@@ -16,12 +16,16 @@ returns-clause-ok c =
 
 pub returns-in_default-clause-ok : goal.returns-in_default-clause-ok
 returns-in_default-clause-ok c =
-    rw c.get_mut.follows.holds-at-none (none_moved c.self.inside.entries.entries c.args.self.now c.self.view_is c.args.tag c.args.sender c.args.advance c.in_default.ensures.value)
+    rw c.get_mut.follows.holds-at-none
+    (none_moved c.self.inside.entries.entries c.args.self.now c.self.view_is c.args.tag c.args.sender c.args.advance c.in_default.ensures.value)
 
 pub returns-in_err-take-clause-err : goal.returns-in_err-take-clause-err
 returns-in_err-take-clause-err c =
     on_err c.from_residual.result
     (unchanged c.self.inside.entries.entries (c.get_mut.follows.lender c.take.new.self).entries c.args.tag c.in-Some.session.now c.in-Some.ensures.value
-    (subst (λ (s : Session). (q : ℕ) → found (c.get_mut.follows.lender c.take.new.self).entries q ≡ cond (is_at (nat_cmp c.args.tag) q) (Some s) (found c.self.inside.entries.entries q)) c.in_err-take.ensures.err
+    (subst
+    (λ (s : Session). (q : ℕ) → found (c.get_mut.follows.lender c.take.new.self).entries q
+    ≡ cond (is_at (nat_cmp c.args.tag) q) (Some s) (found c.self.inside.entries.entries q))
+    c.in_err-take.ensures.err
     ((c.get_mut.follows.holds c.take.new.self).3 (subst (λ (o : Option Session). IsSome o) c.in-Some.ensures.value refl)).0)
     ∙ c.self.view_is)

@@ -8,5 +8,6 @@ use Rattle.sc_view.proofs.sorted.SortedView.len_with.Goals as goal
 
 pub returns-clause-count : goal.returns-clause-count
 returns-clause-count c = λ stored.
-    let len : c.len.result ≡ fin.len c.args.self.now = c.len.ensures.len ∙ sym (len_found _ c.len.ensures.ordered) ∙ ap (λ (m : ViewMap). fin.len m) c.self.view_is in
+    let len : c.len.result ≡ fin.len c.args.self.now =
+    c.len.ensures.len ∙ sym (len_found _ c.len.ensures.ordered) ∙ ap (λ (m : ViewMap). fin.len m) c.self.view_is in
     grind (arith, len, c.value.ensures, c.is_none.ensures, c.from.ensures, len-put c.args.self.now c.args.id stored)

@@ -13,6 +13,7 @@ returns-then-self-eq0 c =
 pub returns : goal.returns
 returns c =
     let some : 1 ≤ length (joined c.self.inside.row.items) = omega (arith, c.self.invariant.counted, c.if-self-eq0.false) in
-    let few : length (joined c.self.inside.row.items) ≤ 256 = omega (arith, len_rising (joined c.self.inside.row.items) c.self.invariant.row.rises, c.self.invariant.valid.few) in
+    let few : length (joined c.self.inside.row.items) ≤ 256 =
+    omega (arith, len_rising (joined c.self.inside.row.items) c.self.invariant.row.rises, c.self.invariant.valid.few) in
     subst (IsChunking c.args.self.now) (sym (c.of-2.ensures ∙ c.as_slice.ensures.value))
     (chunking c.self.inside.row.items c.args.self.now c.self.invariant.row c.self.view_is some few)

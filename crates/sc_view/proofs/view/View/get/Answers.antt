@@ -12,12 +12,13 @@ use Rattle.sc_view.proofs.view.View.get.Goals as goal
 
 pub find-requires : goal.find-requires
 find-requires c =
-    subst Rises (sym c.as_slice.ensures) (rises_in c.self.inside.row.items c.as_slice-chunks.result.now c.place.result c.index-chunks-place.result c.as_slice-chunks.ensures.value c.self.invariant.row.rises c.place.ensures.within c.index-chunks-place.is)
+    subst Rises (sym c.as_slice.ensures)
+    (rises_in _ _ c.place.result _ c.as_slice-chunks.ensures.value c.place.ensures.within c.index-chunks-place.is c.self.invariant.row.rises)
 
 returns_value : goal.returns-clause-value
 returns_value c =
-    c.find.ensures ∙ ap (find nat_cmp c.args.id) c.as_slice.ensures
-    ∙ find_in c.args.id c.self.inside.row.items c.as_slice-chunks.result.now c.place.result c.index-chunks-place.result c.as_slice-chunks.ensures.value c.place.ensures.within c.place.ensures.under c.place.ensures.over c.index-chunks-place.is
+    let found = find_in c.self.inside.row.items _ c.place.result _ c.as_slice-chunks.ensures.value c.place.ensures.within c.index-chunks-place.is in
+    c.find.ensures ∙ ap (find nat_cmp c.args.id) c.as_slice.ensures ∙ found c.args.id c.place.ensures.under c.place.ensures.over
     ∙ sym (get_rising _ c.args.id) ∙ ap (λ (m : ViewMap). fin.get m c.args.id) c.self.view_is
 
 pub returns-clause-value : goal.returns-clause-value

@@ -4,4 +4,5 @@ use Rattle.sc_view.proofs.ViewLemmas.{len-put}
 use Rattle.sc_view.proofs.view.View.get_with_len.Goals as goal
 
 pub returns-clause-count : goal.returns-clause-count
-returns-clause-count c = λ stored. grind (arith, c.len.ensures.count, c.get-known.ensures.value, c.is_none.ensures, c.from.ensures, len-put c.args.self.now c.args.id stored)
+returns-clause-count c = λ stored.
+    grind (arith, c.len.ensures.count, c.get-known.ensures.value, c.is_none.ensures, c.from.ensures, len-put c.args.self.now c.args.id stored)

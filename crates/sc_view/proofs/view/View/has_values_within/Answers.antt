@@ -12,8 +12,8 @@ each c =
     let cs = c.self.inside.row.items in
     let l = lengths c.args.least c.args.most in
     let AllWithin : List (List (ℕ × Stored)) → Type 0 = λ rows. All (λ chunk. All (λ e. IsWithin (length e.1.value) l) chunk) rows in (
-      λ yes. within_by_chunks l cs c.args.self.now c.self.invariant.row.rises c.self.view_is (subst AllWithin c.as_slice.ensures.value (c.have_values_within.ensures.0 yes)),
-      λ h. c.have_values_within.ensures.1 (subst AllWithin (sym c.as_slice.ensures.value) (chunks_within l cs c.args.self.now c.self.invariant.row.rises c.self.view_is h)),
+      λ yes. within_by_chunks l cs _ c.self.invariant.row.rises c.self.view_is (subst AllWithin c.as_slice.ensures.value (c.have_values_within.ensures.0 yes)),
+      λ h. c.have_values_within.ensures.1 (subst AllWithin (sym c.as_slice.ensures.value) (chunks_within l cs _ c.self.invariant.row.rises c.self.view_is h)),
     )
 
 pub returns : goal.returns

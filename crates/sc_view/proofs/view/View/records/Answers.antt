@@ -7,7 +7,8 @@ use Rattle.sc_view.proofs.MapLemmas.{entries_rising, len_rising}
 use Rattle.sc_view.proofs.view.View.records.Goals as goal
 
 pub returns-clause-all : goal.returns-clause-all
-returns-clause-all c = ap joined c.as_slice.ensures.value ∙ sym (entries_rising _ c.self.invariant.row.rises) ∙ ap (λ (m : ViewMap). fin.entries m) c.self.view_is
+returns-clause-all c =
+    ap joined c.as_slice.ensures.value ∙ sym (entries_rising _ c.self.invariant.row.rises) ∙ ap (λ (m : ViewMap). fin.entries m) c.self.view_is
 
 pub returns-clause-few : goal.returns-clause-few
 returns-clause-few c = rw c.as_slice.ensures.value (subst (λ n. n ≤ most_entries) (len_rising _ c.self.invariant.row.rises) c.self.invariant.valid.few)

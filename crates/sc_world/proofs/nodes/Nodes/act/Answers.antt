@@ -7,11 +7,13 @@ use Rattle.sc_world.proofs.nodes.Nodes.act.Goals as goal
 
 pub returns-in_default : goal.returns-in_default
 returns-in_default c =
-    rw c.get_mut.follows.holds-at-none
-    (c.self.view_is, λ _. no_node c.args.self.now c.args.id c.args.crashed (acted c.args.sent.now c.args.act.now) c.self.inside.entries.entries c.self.view_is c.in_default.ensures.value)
+    let does = acted c.args.sent.now c.args.act.now in
+    let none = no_node c.args.self.now c.args.id c.args.crashed does c.self.inside.entries.entries c.self.view_is c.in_default.ensures.value in
+    rw c.get_mut.follows.holds-at-none (c.self.view_is, λ _. none)
 
 pub returns : goal.returns
 returns c =
-    acts_at c.self.inside.entries.entries (c.get_mut.follows.lender c.perform.new.node).entries c.args.self.now c.args.id c.args.crashed (acted c.args.sent.now c.args.act.now) c.in-Some.node.now
+    acts_at c.self.inside.entries.entries (c.get_mut.follows.lender c.perform.new.node).entries c.args.self.now c.args.id c.args.crashed
+    (acted c.args.sent.now c.args.act.now) c.in-Some.node.now
     c.self.view_is c.in-Some.ensures.value c.if-not-is_live.ensures c.perform.new.node c.perform.result c.perform.ensures
     ((c.get_mut.follows.holds c.perform.new.node).3 (subst (λ (o : Option NodeState). IsSome o) c.in-Some.ensures.value refl)).0

@@ -1,69 +1,50 @@
 -- World::act: a node that is there acts.
-use Rattle.std.proofs.Common.{◌≡◌, ◌∙◌, Ok, length, ap, sym, subst}
-use Rattle.std.specs.FinSet as set
+use Rattle.std.proofs.Common.{◌≡◌, ◌∙◌, Ok, ap}
 use Rattle.sc_world.specs.contracts.world.World as world
-use Rattle.sc_world.specs.State.{WorldState, Past, world_of, past_of}
+use Rattle.sc_world.specs.State.{WorldState, Past, world_of}
 use Rattle.sc_world.specs.Acts.{begun_in, progress_in}
-use Rattle.sc_world.specs.Ledgers.{IsRight, recorded, numbered}
+use Rattle.sc_world.specs.Ledgers.{recorded, numbered}
 use Rattle.sc_world.specs.Worlds.{event_of, stepped}
 use Rattle.sc_world.proofs.Histories.{history_next}
 use Rattle.sc_world.proofs.Moving.{seen, seen_right}
 use Rattle.sc_world.proofs.Acting.{act_refused, act_stepped, act_step}
 use Rattle.sc_world.proofs.world.World.act.Goals as goal
 
-module _ (c : goal.After-event_of) where
-  abbrev w : WorldState
-  w = world.the_view c.self.inside
-
-  past : c.reserve.new.self.past ≡ past_of w
-  past = c.in_ok-reserve.ensures.past
-
-  crashed : c.has_crashed-crashed.result ≡ set.contains w.crashed c.args.id
-  crashed = c.has_crashed-crashed.ensures ∙ ap (λ (p : Past). set.contains p.crashed c.args.id) past
-
-  sent : c.sent.result.now ≡ w.sent
-  sent = c.sent.ensures ∙ ap (λ (p : Past). p.sent) past
-
-  right : IsRight c.reserve.new.self.past.ops c.args.id (length c.reserve.new.self.past.events) (progress_in c.in_ok-outs.field-0.change) c.in_ok-ready.ready
-  right =
-      subst (λ (p : Past). IsRight p.ops c.args.id (length p.events) (progress_in c.in_ok-outs.field-0.change) c.in_ok-ready.ready) (sym past)
-      (seen_right w c.self.invariant c.args.id c.args.act.now c.has_crashed-crashed.result c.sent.result.now crashed sent
-      c.in_ok-outs.field-0 c.in_ok-outs.ensures.0 c.in_ok-ready.ready c.reserve.new.self.past.ops c.reserve.new.self.past.sent c.in_ok-outs.ensures.1
-      (ap (λ (p : Past). p.ops) past) (ap (λ (p : Past). p.sent) past) c.in_ok-ready.ensures)
-
 pub record-sent-requires-clause-ready : goal.record-sent-requires-clause-ready
-record-sent-requires-clause-ready c = right c
+record-sent-requires-clause-ready c =
+    seen_right (world.the_view c.self.inside) c.self.invariant c.reserve.new.self.past c.in_ok-reserve.ensures.past c.args.id c.args.act.now
+    c.has_crashed-crashed.result c.sent.result.now c.has_crashed-crashed.ensures c.sent.ensures
+    c.in_ok-outs.field-0 c.in_ok-outs.ensures.0 c.in_ok-ready.ready c.in_ok-outs.ensures.1 c.in_ok-ready.ensures
 
 module _ (c : goal.After-record-sent) where
   abbrev v : WorldState
   v = world.the_view c.self.inside
 
-  stopped : c.has_crashed-crashed.result ≡ set.contains v.crashed c.args.id
-  stopped = c.has_crashed-crashed.ensures ∙ ap (λ (p : Past). set.contains p.crashed c.args.id) c.in_ok-reserve.ensures.past
-
-  all : c.sent.result.now ≡ v.sent
-  all = c.sent.ensures ∙ ap (λ (p : Past). p.sent) c.in_ok-reserve.ensures.past
-
   pub step : stepped v (event_of c.args.id c.args.act.now)
-      ≡ Ok (record { tag = c.tag_of-tag.result; ended = c.in_ok-outs.field-0.ended; sent = c.record-sent.result }, world_of c.act.new.self c.record-sent.new.self.past)
+      ≡ Ok (
+        record { tag = c.tag_of-tag.result; ended = c.in_ok-outs.field-0.ended; sent = c.record-sent.result },
+        world_of c.act.new.self c.record-sent.new.self.past,
+      )
   step =
       act_stepped v c.args.id c.args.act.now
-      ∙ act_step v (event_of c.args.id c.args.act.now) c.args.id c.args.act.now c.in_ok-outs.field-0 c.in_ok-outs.ensures.0 c.act.new.self c.record-sent.new.self.past
-      c.tag_of-tag.result c.record-sent.result
-      (seen v c.self.invariant c.args.id c.args.act.now c.has_crashed-crashed.result c.sent.result.now stopped all ∙ c.in_ok-outs.ensures.1)
+      ∙ act_step v (event_of c.args.id c.args.act.now) c.args.id c.args.act.now c.in_ok-outs.field-0 c.in_ok-outs.ensures.0
+      c.act.new.self c.record-sent.new.self.past c.tag_of-tag.result c.record-sent.result
+      (seen v c.self.invariant c.reserve.new.self.past c.in_ok-reserve.ensures.past c.args.id c.args.act.now
+      c.has_crashed-crashed.result c.sent.result.now c.has_crashed-crashed.ensures c.sent.ensures ∙ c.in_ok-outs.ensures.1)
       c.in_ok-outs.ensures.2
-      (c.record-sent.ensures.past ∙ (λ i. recorded (c.in_ok-reserve.ensures.past i) (c.event_of.ensures i) c.args.id c.in_ok-outs.field-0.outs (progress_in c.in_ok-outs.field-0.change) (begun_in c.in_ok-outs.field-0.change)))
+      (c.record-sent.ensures.past
+      ∙ (λ i. recorded (c.in_ok-reserve.ensures.past i) (c.event_of.ensures i) c.args.id c.in_ok-outs.field-0.outs
+      (progress_in c.in_ok-outs.field-0.change) (begun_in c.in_ok-outs.field-0.change)))
       c.tag_of-tag.ensures
       (c.record-sent.ensures.sent ∙ ap (λ (p : Past). numbered p c.in_ok-outs.field-0.outs) c.in_ok-reserve.ensures.past)
 
 pub returns-in_err-outs : goal.returns-in_err-outs
 returns-in_err-outs c =
     let v = world.the_view c.self.inside in
-    let crashed : c.has_crashed-crashed.result ≡ set.contains v.crashed c.args.id
-    = c.has_crashed-crashed.ensures ∙ ap (λ (p : Past). set.contains p.crashed c.args.id) c.in_ok-reserve.ensures.past in
-    let sent : c.sent.result.now ≡ v.sent = c.sent.ensures ∙ ap (λ (p : Past). p.sent) c.in_ok-reserve.ensures.past in
-    rw (← c.self.view_is) (act_refused v (world_of c.act.new.self c.reserve.new.self.past) c.args.id c.args.act.now _ c.in_err-outs.field-0.0 c.from_residual-in_err-outs.result
-    (seen v c.self.invariant c.args.id c.args.act.now c.has_crashed-crashed.result c.sent.result.now crashed sent)
+    rw (← c.self.view_is) (act_refused v (world_of c.act.new.self c.reserve.new.self.past) c.args.id c.args.act.now _ c.in_err-outs.field-0.0
+    c.from_residual-in_err-outs.result
+    (seen v c.self.invariant c.reserve.new.self.past c.in_ok-reserve.ensures.past c.args.id c.args.act.now
+    c.has_crashed-crashed.result c.sent.result.now c.has_crashed-crashed.ensures c.sent.ensures)
     (λ i. world_of (c.in_err-outs.ensures.0 i) (c.in_ok-reserve.ensures.past i)) c.in_err-outs.ensures.1 c.from_residual-in_err-outs.ensures.1)
 
 pub invariant_of-self-2 : goal.invariant_of-self-2

@@ -21,11 +21,13 @@ module _ (c : goal.After-record-sent) where
   abbrev w : WorldState
   w = world.the_view c.self.inside
 
-  pub step : enters w c.args.id (fin.get w.nodes c.args.id) ≡ Ok (record { tag = None; ended = None; sent = c.record-sent.result }, world_of c.insert.new.self c.record-sent.new.self.past)
+  pub step : enters w c.args.id (fin.get w.nodes c.args.id)
+      ≡ Ok (record { tag = None; ended = None; sent = c.record-sent.result }, world_of c.insert.new.self c.record-sent.new.self.past)
   step =
       enter_step w c.args.id c.in_ok-node.node c.in_ok-node.outs c.insert.new.self c.record-sent.new.self.past c.record-sent.result
       (sym c.has.ensures ∙ c.if-has.false)
-      (ap (λ (k : Config). entered k c.args.id) (sym (c.config.ensures ∙ ap (λ (p : Past). p.config) c.in_ok-reserve.ensures.past)) ∙ same_answer (entered c.config.result c.args.id) (c.in_ok-node.node, c.in_ok-node.outs) c.in_ok-node.ensures)
+      (ap (λ (k : Config). entered k c.args.id) (sym (c.config.ensures ∙ ap (λ (p : Past). p.config) c.in_ok-reserve.ensures.past))
+      ∙ same_answer (entered c.config.result c.args.id) (c.in_ok-node.node, c.in_ok-node.outs) c.in_ok-node.ensures)
       c.in_ok-insert.ensures.ok
       (c.record-sent.ensures.past ∙ ap (λ (p : Past). recorded p (event.Enter c.args.id) c.args.id c.in_ok-node.outs None None) c.in_ok-reserve.ensures.past)
       (c.record-sent.ensures.sent ∙ ap (λ (p : Past). numbered p c.in_ok-node.outs) c.in_ok-reserve.ensures.past)
