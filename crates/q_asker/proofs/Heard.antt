@@ -68,7 +68,8 @@ heard_failed P kind front a b (Ok o) h part = absurd h
 heard_failed P kind front a b (Err e) h part = part
 
 -- the input ended, and behind these bytes it had fewer than a reply has there
-cut : (kind : ReplyKind) (front : List ℕ) (few : ℕ) → ((said : Reply) (bytes rest : List ℕ) → CanBe kind said → front ++ bytes ≡ reply_bytes said ++ rest → few ≤ length bytes)
+cut : (kind : ReplyKind) (front : List ℕ) (few : ℕ)
+    → ((said : Reply) (bytes rest : List ℕ) → CanBe kind said → front ++ bytes ≡ reply_bytes said ++ rest → few ≤ length bytes)
     → (a b : Option (List ℕ)) (part : List ℕ) → Consumes a b part → length part < few → IsAtEnd b → BeginsNone kind front a
 cut kind front few long a b part p less end = none_begins kind front a (λ bytes is said rest can e. omega (arith, ap length (all_read a b part bytes p end is), less, long said bytes rest can e))
 

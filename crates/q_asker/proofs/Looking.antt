@@ -21,7 +21,8 @@ open_done query zero = refl
 open_done query (suc n) = open_done query n
 
 -- so many looks found none, and then came this
-pub looks_end : (query n : ℕ) (last : Step) (a b c : Streams) (done : Bool) → n ≤ most_looks → IsLastLook query n last → Moves (replicate n (open_look query)) a b → Moves (last ∷ []) b c → done ≡ is_done last
+pub looks_end : (query n : ℕ) (last : Step) (a b c : Streams) (done : Bool) → n ≤ most_looks → IsLastLook query n last
+    → Moves (replicate n (open_look query)) a b → Moves (last ∷ []) b c → done ≡ is_done last
     → (steps : List Step) × AreLooks query steps × Moves steps a c × (done ≡ all_done steps)
 looks_end query n last a b c done few is h k e =
     let steps = replicate n (open_look query) ++ last ∷ [] in
@@ -39,8 +40,8 @@ looks_stopped query n h a b c (Ok x) is few m s = absurd is
 looks_stopped query n h a b c (Err e) is few m s = looks_stop query n e a b c few m (subst (λ (x : Halt). StopsAt x b c) (sym is) s)
 
 -- the query was given up, or the output failed as that was told
-pub looks_given_up : (query n : ℕ) (a b c : Streams) (r : Result LineEnd Halt) → n ≤ most_looks → 1 ≤ n → Moves (replicate n (open_look query)) a b → c.sent ≡ b.sent → c.heard ≡ b.heard
-    → Prints unanswered_line b.printed c.printed r → IfOk r (λ e. is_done_end e ≡ false) → Looks query a c r
+pub looks_given_up : (query n : ℕ) (a b c : Streams) (r : Result LineEnd Halt) → n ≤ most_looks → 1 ≤ n → Moves (replicate n (open_look query)) a b
+    → c.sent ≡ b.sent → c.heard ≡ b.heard → Prints unanswered_line b.printed c.printed r → IfOk r (λ e. is_done_end e ≡ false) → Looks query a c r
 looks_given_up query n a b c (Ok e) few some m sent heard prints ends = looks_end query n GaveUp a b c (is_done_end e) few some m (moves_given_up b c sent heard prints) ends
 looks_given_up query n a b c (Err Unwritten) few some m sent heard prints ends = looks_stop query n Unwritten a b c few m (unwritten_at b c sent heard prints)
 looks_given_up query n a b c (Err (Lost fault)) few some m sent heard prints ends = absurd prints

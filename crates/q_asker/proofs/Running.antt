@@ -67,8 +67,8 @@ pub stops_behind : (l : ClientLine) (h : Halt) (steps more : List Step) (a b c :
 stops_behind l h steps more a b c of m s = record { steps = steps; begin = begin_first l steps more of; between = b; moves = m; stops = s }
 
 -- no request was made of a line, which was told
-pub line_unmade : (l : ClientLine) (why : Reason) (at : RefusalPlace) (a b : Streams) (r : Result LineEnd Halt) → IsUnfit l why at → b.sent ≡ a.sent → b.heard ≡ a.heard
-    → Prints (line_of why at) a.printed b.printed r → IfOk r (λ e. is_done_end e ≡ false) → RunsLine l a b r
+pub line_unmade : (l : ClientLine) (why : Reason) (at : RefusalPlace) (a b : Streams) (r : Result LineEnd Halt) → IsUnfit l why at → b.sent ≡ a.sent
+    → b.heard ≡ a.heard → Prints (line_of why at) a.printed b.printed r → IfOk r (λ e. is_done_end e ≡ false) → RunsLine l a b r
 line_unmade l why at a b (Ok e) unfit sent heard prints refused = (Unmade why at ∷ [], (inr unfit, refl), moves_unmade why at a b sent heard prints, refused)
 line_unmade l why at a b (Err Unwritten) unfit sent heard prints refused = stops_first (l ∷ []) Unwritten a b (unwritten_at a b sent heard prints)
 line_unmade l why at a b (Err (Lost fault)) unfit sent heard prints refused = absurd prints
@@ -91,8 +91,9 @@ line_requested l q a b (Ok e) makes follows (inr h) = (lacking ∷ [], lacking_o
 line_requested l q a b (Err h) makes follows s = stops_first (l ∷ []) h a b s
 
 -- a query was asked, and then its answer
-pub line_asked : (program start number query : ℕ) (said : Reply) (a b c : Streams) (r : Result LineEnd Halt) → number ≡ program_number program → MayReply (request.Ask number start) said → said ≡ reply.Number query
-    → Moves (Exchanged (request.Ask number start) said ∷ []) a b → Looks query b c r → RunsLine (line.Ask program start) a c r
+pub line_asked : (program start number query : ℕ) (said : Reply) (a b c : Streams) (r : Result LineEnd Halt) → number ≡ program_number program
+    → MayReply (request.Ask number start) said → said ≡ reply.Number query → Moves (Exchanged (request.Ask number start) said ∷ []) a b → Looks query b c r
+    → RunsLine (line.Ask program start) a c r
 line_asked program start number query said a b c (Ok e) same may is m h =
     let first = Exchanged (request.Ask number start) said in
     let follows = subst (λ (x : Reply). Follows (line.Ask program start) x h.0) (sym is) h.1 in

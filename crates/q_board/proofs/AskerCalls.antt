@@ -26,8 +26,8 @@ use Rattle.q_board.specs.declared.found.Found.TheVariants as found
 use Rattle.q_board.proofs.Rows.{times_here, lacks_at, lacks_set_some, lacks_set_none, jobs_set}
 
 -- the same at other names for the same numbers
-pub publish_allowed : (key slots id n k word : ℕ) (m : Sat) (a : Asking) (j : Job) (more : List (ℕ × Content)) → slots ≡ key → a.number ≡ n → m ≡ (Asker a, (8 * n + k, cell.Offered j) ∷ more)
-    → k < 8 → a.opened ≡ 8 → get_elem? a.row k ≡ some None → word ≡ 1
+pub publish_allowed : (key slots id n k word : ℕ) (m : Sat) (a : Asking) (j : Job) (more : List (ℕ × Content)) → slots ≡ key → a.number ≡ n
+    → m ≡ (Asker a, (8 * n + k, cell.Offered j) ∷ more) → k < 8 → a.opened ≡ 8 → get_elem? a.row k ≡ some None → word ≡ 1
     → Allows (Orderly key) slots id m (8 * n + k) (λ _. word) (λ _. published (step slots (8 * n + k) word 0 none) m word)
 publish_allowed key slots id n k word m a j more sized num is near all free ready =
     subst (λ (x : ℕ × ℕ × Sat × ℕ). Allows (Orderly key) x.1 id x.2 (8 * x.3 + k) (λ _. x.0) (λ _. published (step x.1 (8 * x.3 + k) x.0 0 none) x.2 x.0))

@@ -219,8 +219,8 @@ module _ (lanes id : ℕ) (a : Asking) (k : ℕ) (near : k < 8) where
       )
 
 -- the same at other names for the same numbers
-pub take_home_allowed : (key slots id n k : ℕ) (m : Sat) (a : Asking) (mine : List (ℕ × Content)) → slots ≡ key → a.number ≡ n → a.opened ≡ k → k < 8 → m ≡ (Asker a, mine)
-    → Allows (Orderly key) slots id m (8 * n + k) (λ x. x) (took_home (step slots (8 * n + k) 0 0 none) m)
+pub take_home_allowed : (key slots id n k : ℕ) (m : Sat) (a : Asking) (mine : List (ℕ × Content)) → slots ≡ key → a.number ≡ n → a.opened ≡ k → k < 8
+    → m ≡ (Asker a, mine) → Allows (Orderly key) slots id m (8 * n + k) (λ x. x) (took_home (step slots (8 * n + k) 0 0 none) m)
 take_home_allowed key slots id n k m a mine sized num next near is =
     subst (λ (x : ℕ × Sat × ℕ). Allows (Orderly key) x.0 id x.1 (8 * x.2 + k) (λ x. x) (took_home (step x.0 (8 * x.2 + k) 0 0 none) x.1))
     (λ e. (sym sized e, sym is e, num e)) (takes_home key id a k near mine next)

@@ -39,9 +39,9 @@ claimed_at r q i j t = ap (λ (x : RunnerModel). get_elem? x.held i) t.1 ∙ set
 
 -- the seat after a call at which what it holds and its claims stay apt to one another
 runner_keeps : (z : TableId) (me : Sat) (n : ℕ) (claims : List ℕ) (count cap lanes next : ℕ) → IsRunner z me n claims count cap lanes next
-    → (z' : TableId) (m : Sat) (q : Running) (left : List ℕ) (count' cap' : ℕ) → z' ≡ z → m ≡ (Runner q, bare 0 left)
-    → q.number ≡ (running me.0).number → length q.held ≡ length (running me.0).held
-    → count' + jobs (running me.0).held ≡ count + jobs q.held → ((k : ℕ) → times k left ≡ has q.held k) → cap' ≡ cap → IsRunner z' m n left count' cap' lanes next
+    → (z' : TableId) (m : Sat) (q : Running) (left : List ℕ) (count' cap' : ℕ) → z' ≡ z → m ≡ (Runner q, bare 0 left) → q.number ≡ (running me.0).number
+    → length q.held ≡ length (running me.0).held → count' + jobs (running me.0).held ≡ count + jobs q.held → ((k : ℕ) → times k left ≡ has q.held k)
+    → cap' ≡ cap → IsRunner z' m n left count' cap' lanes next
 runner_keeps z me n claims count cap lanes next inv z' m q left count' cap' same is number_is long_is jobs_are claims_are as_large =
     subst (λ (x : TableId × Sat). IsRunner x.0 x.1 n left count' cap' lanes next) (λ t. (sym same t, sym is t))
     (refl, number_is ∙ inv.1, long_is ∙ inv.2, omega (arith, jobs_are, inv.3), claims_are, omega (arith, inv.5), inv.6, inv.7, inv.8)
@@ -114,8 +114,8 @@ module _ (s : Inside) (left : List ℕ) (slot : ℕ) (j : Job)
         → u ≡ (Runner (returning r slot), bare 0 left)
     give_leaves is told = told ∙ ap (λ (x : Sat). (Runner (returning (running x.0) slot), rest x.1)) is
 
-    pub finish_told : (d : Finished) (ran : Ran) → d.job ≡ j → d.ran ≡ ran → w ≡ (me.0, (slot, cell.Finished d) ∷ bare 0 left) → u ≡ (Runner (finishing (running w.0) slot (front w.1)), rest w.1)
-        → Finishes old slot j ran (runner_model y u.0 lanes next)
+    pub finish_told : (d : Finished) (ran : Ran) → d.job ≡ j → d.ran ≡ ran → w ≡ (me.0, (slot, cell.Finished d) ∷ bare 0 left)
+        → u ≡ (Runner (finishing (running w.0) slot (front w.1)), rest w.1) → Finishes old slot j ran (runner_model y u.0 lanes next)
     finish_told d ran job_is ran_is is told = let done_is : d ≡ record { job = j; ran = ran } = λ i. record { job = job_is i; ran = ran_is i } in
         subst (λ (x : RunnerModel). Finishes x slot j ran (runner_model y u.0 lanes next)) (sym old_is)
         (ap (λ (x : TableId). runner_model x u.0 lanes next) same ∙ ap (λ (x : Sat). runner_model z x.0 lanes next) (finish_leaves d is told)
@@ -209,8 +209,8 @@ module _ (z : TableId) (me : Sat) (n : ℕ) (claims : List ℕ) (count cap lanes
       hit_holds j c_is = claimed_at (runner_model z me.0 lanes next) (runner_model z u.0 lanes next) i j (hit_told j c_is z refl (runner_model z me.0 lanes next) refl)
 
 -- a seat as the board opens
-pub opened : (z : TableId) (lanes made count cap : ℕ) (me : Sat) (claims : List ℕ) → me ≡ (first_runner (maker lanes made), []) → claims ≡ [] → count ≡ 0 → lanes ≤ cap → lanes ≡ z.words → 0 < lanes → made < 128
-    → IsRunner z me (made + 1) claims count cap lanes 0
+pub opened : (z : TableId) (lanes made count cap : ℕ) (me : Sat) (claims : List ℕ) → me ≡ (first_runner (maker lanes made), []) → claims ≡ [] → count ≡ 0
+    → lanes ≤ cap → lanes ≡ z.words → 0 < lanes → made < 128 → IsRunner z me (made + 1) claims count cap lanes 0
 opened z lanes made count cap me claims is none_yet zero_count room words some_lanes few =
     subst (λ (x : Sat). IsRunner z x (made + 1) claims count cap lanes 0) (sym is)
     (subst (λ (l : List ℕ). IsRunner z (first_runner (maker lanes made), []) (made + 1) l count cap lanes 0) (sym none_yet) (

@@ -47,8 +47,8 @@ same_book b n d hn hd r = subst (λ (p : NodeState × DeskState). IsBook (with b
 
 -- ---- calls of the desk
 
-pub registered_book : (b : BookState) (program : Certificate) (id : ℕ) (d : DeskState) → AllHold (present b) → desk.registered b.desk program ≡ Ok (id, d) → IsBook b
-    → IsBook (with b b.node d)
+pub registered_book : (b : BookState) (program : Certificate) (id : ℕ) (d : DeskState) → AllHold (present b) → desk.registered b.desk program ≡ Ok (id, d)
+    → IsBook b → IsBook (with b b.node d)
 registered_book b program id d hold h r =
     book_next b (with b b.node d) (entry.Call (call.Register program)) r
     (reply.Registered id, ap (mapped reply.Registered) (tested_pass (present b) (by_desk (with_desk b) (desk.registered b.desk program)) hold ∙ ap (by_desk (with_desk b)) h), tt)
@@ -60,8 +60,8 @@ handed_book b (Some j) d hold h r =
     book_next b (with b b.node d) (entry.Call call.HandOut) r
     (reply.HandedOut (Some j), ap (mapped reply.HandedOut) (tested_pass (present b) (by_desk (with_desk b) (desk.handed_out b.desk b.id)) hold ∙ ap (by_desk (with_desk b)) h), tt)
 
-pub posted_book : (b : BookState) (j : Job) (ran : Ran) (d : DeskState) → AllHold (present b) → desk.posted b.desk b.id j ran ≡ Ok (tt, d) → IsRight j.certified j.view j.start ran
-    → IsBook b → IsBook (with b b.node d)
+pub posted_book : (b : BookState) (j : Job) (ran : Ran) (d : DeskState) → AllHold (present b) → desk.posted b.desk b.id j ran ≡ Ok (tt, d)
+    → IsRight j.certified j.view j.start ran → IsBook b → IsBook (with b b.node d)
 posted_book b j ran d hold h right r =
     book_next b (with b b.node d) (entry.Post j.query ran) r
     (j, refl, right, tested_pass (present b) (by_desk (with_desk b) (desk.posted b.desk b.id j ran)) hold ∙ ap (by_desk (with_desk b)) h)
@@ -82,8 +82,8 @@ by_both f g k same (Ok d) (Err e) = refl
 by_both f g k same (Err e) r = refl
 
 -- both were accepted
-with_node-ok : {A B C : Type 0} (f : A → B → C) (x : Result (A × DeskState) Reason) (r : Result (B × NodeState) Reason) (y : C × (DeskState × NodeState)) → desk.with_node f x r ≡ Ok y
-    → (d : A × DeskState) × (x ≡ Ok d) × (b : B × NodeState) × (r ≡ Ok b) × ((f d.0 b.0, (d.1, b.1)) ≡ y)
+with_node-ok : {A B C : Type 0} (f : A → B → C) (x : Result (A × DeskState) Reason) (r : Result (B × NodeState) Reason) (y : C × (DeskState × NodeState))
+    → desk.with_node f x r ≡ Ok y → (d : A × DeskState) × (x ≡ Ok d) × (b : B × NodeState) × (r ≡ Ok b) × ((f d.0 b.0, (d.1, b.1)) ≡ y)
 with_node-ok f (Ok d) (Ok b) y h = (d, refl, b, refl, same_answer _ y h)
 with_node-ok f (Ok d) (Err e) y h = absurd (no_refusal _ y h)
 with_node-ok f (Err e) r y h = absurd (no_refusal _ y h)
@@ -159,8 +159,9 @@ module _ (b : BookState) where
 
 -- ---- before any call
 
-pub founded_book : (version : Version) (id : ℕ) (config : Config) (ids listed : List ℕ) (n : NodeState) (d : DeskState) (l : Interval) → node.founded config id ids ≡ Ok n → listed ≡ ids → d ≡ new_desk l
-    → l ≡ record_lengths version → IsBook (record { version = version; id = id; config = config; founders = Some listed; node = n; desk = d })
+pub founded_book : (version : Version) (id : ℕ) (config : Config) (ids listed : List ℕ) (n : NodeState) (d : DeskState) (l : Interval)
+    → node.founded config id ids ≡ Ok n → listed ≡ ids → d ≡ new_desk l → l ≡ record_lengths version
+    → IsBook (record { version = version; id = id; config = config; founders = Some listed; node = n; desk = d })
 founded_book version id config ids listed n d l f same new lengths =
     let is : d ≡ new_desk (record_lengths version) = new ∙ ap new_desk lengths in
     subst (λ (p : List ℕ × DeskState). IsBook (record { version = version; id = id; config = config; founders = Some p.0; node = n; desk = p.1 })) (λ i. (sym same i, sym is i))

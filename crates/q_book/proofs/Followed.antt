@@ -117,8 +117,8 @@ module _ (b : BookState) where
       ap (λ (x : _ × BookState). f (g x.0)) same ∙ sym (ap (λ (x : Result (_ × BookState) Reason). seen f none (mapped g x)) h)
 
   -- from what is said of each part
-  made : (e : Entry) (x : Deed) (t : Told) (n : NodeState) (d : DeskState) (o : Option Job) → b.node.gone ≡ false → NodeDid b x t n → t.outs ≡ sends b e → o ≡ handed b e
-      → IsAfter b.desk b.id t e d o → EntryFits b.version e → IsAccepted b e x t (record b { node = n; desk = d })
+  made : (e : Entry) (x : Deed) (t : Told) (n : NodeState) (d : DeskState) (o : Option Job) → b.node.gone ≡ false → NodeDid b x t n → t.outs ≡ sends b e
+      → o ≡ handed b e → IsAfter b.desk b.id t e d o → EntryFits b.version e → IsAccepted b e x t (record b { node = n; desk = d })
   made e x t n d o there node sent hands after fits =
       let a = subst (IsAfter b.desk b.id t e d) hands after in
       record {

@@ -154,8 +154,9 @@ told_by b m a b' h =
     (p.0.0, p.0.1, p.1, ap (λ (x : Delivery × BookState). x.0.progress) p.2)
 
 -- so what was made ready for it is right
-pub counted_right : {version : Version} {books : BookMap} {past : Past} {jobs : List Job} {x : ClusterState} {id : ℕ} {b b' : BookState} → IsCluster version books past jobs → cluster_of version books past jobs ≡ x
-    → Some b ≡ fin.get books id → (m : Message) (a : Delivery) → book.delivered b m ≡ Ok (a, b') → (counting : Option Counting) (reserved : Past) → reserved ≡ past
+pub counted_right : {version : Version} {books : BookMap} {past : Past} {jobs : List Job} {x : ClusterState} {id : ℕ} {b b' : BookState}
+    → IsCluster version books past jobs → cluster_of version books past jobs ≡ x → Some b ≡ fin.get books id → (m : Message) (a : Delivery)
+    → book.delivered b m ≡ Ok (a, b') → (counting : Option Counting) (reserved : Past) → reserved ≡ past
     → IsReady reserved.ops id (answered id m.from m.body) counting → IsRight reserved.ops id (length reserved.events) a.progress counting
 counted_right {version} {books} {past} {jobs} {x} {id} {b} {b'} old same has m a h counting reserved kept ready =
     let c : ClusterState = cluster_of version books past jobs in
@@ -167,8 +168,9 @@ counted_right {version} {books} {past} {jobs} {x} {id} {b} {b'} old same has m a
     (subst (λ (p : Past). IsReady p.ops id (answered id m.from m.body) counting) kept ready)))
 
 -- a message that was sent is delivered
-pub is_delivery : {version : Version} {books : BookMap} {past : Past} {jobs : List Job} → IsCluster version books past jobs → (number : ℕ) (m : Message) (id : ℕ) → {reserved : Past} → reserved ≡ past
-    → {sent : List Message} → sent ≡ reserved.sent → slice_get sent number ≡ Some m → IsOf (delivering number m id) (cluster_of version books past jobs) id nothing
+pub is_delivery : {version : Version} {books : BookMap} {past : Past} {jobs : List Job} → IsCluster version books past jobs
+    → (number : ℕ) (m : Message) (id : ℕ) → {reserved : Past} → reserved ≡ past → {sent : List Message} → sent ≡ reserved.sent → slice_get sent number ≡ Some m
+    → IsOf (delivering number m id) (cluster_of version books past jobs) id nothing
 is_delivery {version} {books} {past} {jobs} old number m id {reserved} kept {sent} is read =
     let c : ClusterState = cluster_of version books past jobs in
     let there : slice_get past.sent number ≡ Some m = ap (λ (ms : List Message). slice_get ms number) (sym (is ∙ ap (λ (p : Past). p.sent) kept)) ∙ read in

@@ -52,14 +52,14 @@ operand_text None d file t e f g = ap (λ s. s.now) f ∙ g ∙ ap (λ x. unwrap
 operand_text (Some s) d file t e f g = ap (λ s. s.now) f ∙ ap (λ x. unwrap_or x []) e
 
 -- the texts that were found for an operand
-pub texts_found : (o : Option (Bor (List (Bor Text)))) (s : Bor (List (Bor Text))) (given : Option (List Text)) (items : List (Bor Text)) → option_map (λ s. map (λ v. v.now) s.now) o ≡ given → o ≡ Some s → items ≡ s.now
-    → map (λ v. v.now) items ≡ unwrap_or given []
+pub texts_found : (o : Option (Bor (List (Bor Text)))) (s : Bor (List (Bor Text))) (given : Option (List Text)) (items : List (Bor Text))
+    → option_map (λ s. map (λ v. v.now) s.now) o ≡ given → o ≡ Some s → items ≡ s.now → map (λ v. v.now) items ≡ unwrap_or given []
 texts_found o s given items e is same =
     ap (λ (l : List (Bor Text)). map (λ v. v.now) l) same ∙ ap (λ (o : Option (Bor (List (Bor Text)))). unwrap_or (option_map (λ s. map (λ v. v.now) s.now) o) []) (sym is) ∙ ap (λ g. unwrap_or g []) e
 
 -- none were found
-pub texts_missing : (o : Option (Bor (List (Bor Text)))) (given : Option (List Text)) (items : List (Bor Text)) → option_map (λ s. map (λ v. v.now) s.now) o ≡ given → o ≡ None → items ≡ []
-    → map (λ v. v.now) items ≡ unwrap_or given []
+pub texts_missing : (o : Option (Bor (List (Bor Text)))) (given : Option (List Text)) (items : List (Bor Text))
+    → option_map (λ s. map (λ v. v.now) s.now) o ≡ given → o ≡ None → items ≡ [] → map (λ v. v.now) items ≡ unwrap_or given []
 texts_missing o given items e is same =
     ap (λ (l : List (Bor Text)). map (λ v. v.now) l) same ∙ ap (λ (o : Option (Bor (List (Bor Text)))). unwrap_or (option_map (λ s. map (λ v. v.now) s.now) o) []) (sym is) ∙ ap (λ g. unwrap_or g []) e
 
@@ -111,8 +111,8 @@ or_false true c e = refl
 or_false false c e = e
 
 -- a command has one more argument
-pub with_one_more : {E : Type 0} (old : Command) (a : Arg) (r : Result Command E) (app : App) (rule : Rule) → IfOk r (AddsArg old a) → a.global ≡ false → rule_of a ≡ rule
-    → (app_of old ≡ app) × ((out-Command old).has_globals ≡ false) → Has r (with_rule app rule)
+pub with_one_more : {E : Type 0} (old : Command) (a : Arg) (r : Result Command E) (app : App) (rule : Rule) → IfOk r (AddsArg old a) → a.global ≡ false
+    → rule_of a ≡ rule → (app_of old ≡ app) × ((out-Command old).has_globals ≡ false) → Has r (with_rule app rule)
 with_one_more old a (Ok c) app rule h e f has = (h.shape e ∙ ap₂ with_rule has.0 f, h.globals ∙ or_false (out-Command old).has_globals a.global e ∙ has.1)
 with_one_more old a (Err e) app rule h l f has = tt
 
@@ -126,8 +126,8 @@ below_one_more old below (Ok c) app under h has low = (
 below_one_more old below (Err e) app under h has low = tt
 
 -- what is read where this command was met
-pub read_so : (words : List Text) (r : Result Invocation WordsFault) (met : Text × List Row) → fault_of bqview words ≡ [] → subcommand_of bqview words ≡ Some met
-    → MatchResult r (λ asked. IsMet asked met) (λ e. HasLineFault e met) → Reads words r
+pub read_so : (words : List Text) (r : Result Invocation WordsFault) (met : Text × List Row) → fault_of bqview words ≡ []
+    → subcommand_of bqview words ≡ Some met → MatchResult r (λ asked. IsMet asked met) (λ e. HasLineFault e met) → Reads words r
 read_so words (Ok asked) met n s h = (n, said_so (IsMet asked) _ met s h)
 read_so words (Err (BadStart start)) met n s h = (n, said_so (HasLineFault (BadStart start)) _ met s h)
 read_so words (Err (BadLengths command least most)) met n s h = (n, said_so (HasLineFault (BadLengths command least most)) _ met s h)

@@ -47,8 +47,8 @@ whole_begins bytes kept b all is j = record {
 }
 
 -- no journal goes beyond events after which none stands
-beyond : OneHead → OneEvent → (version : Version) (bytes front : List ℕ) (n : ℕ) (s : List ℕ) (b : IsAfter version bytes n s) → bytes ≡ front ++ s → NoEvent version s
-    → (c : BookState) (others : List ℕ) → IsJournalled c → bytes ≡ journal_of c ++ others → length (journal_of c) ≤ length front
+beyond : OneHead → OneEvent → (version : Version) (bytes front : List ℕ) (n : ℕ) (s : List ℕ) (b : IsAfter version bytes n s) → bytes ≡ front ++ s
+    → NoEvent version s → (c : BookState) (others : List ℕ) → IsJournalled c → bytes ≡ journal_of c ++ others → length (journal_of c) ≤ length front
 beyond one_head one_event version bytes front n s b front_is none c others j parts =
     let a = both one_head one_event c.version version bytes (length c.desk.journal) n others s (journal_after bytes c others j parts) b none in
     omega (arith, ap length a.within.is, ap length parts, ap length front_is, length-append (flat_map (event_bytes version) a.within.after) s, length-append front s, length-append (journal_of c) others)
@@ -60,8 +60,8 @@ take_front bytes front s is =
 
 -- what stands before a cut event
 pub cut_begins : OneHead → OneEvent → (bytes : List ℕ) (event count : ℕ) (rest : List ℕ) (book : BookState) → event ≡ suc count → IsFault bytes (Form event)
-    → ((version : Version) (s : List ℕ) → IsAfter version bytes count s → rest ≡ s) → IsCut rest → take (length bytes - length rest) bytes ≡ journal_of book → IsJournalled book
-    → IsBeginning bytes (take (length bytes - length rest) bytes) book
+    → ((version : Version) (s : List ℕ) → IsAfter version bytes count s → rest ≡ s) → IsCut rest → take (length bytes - length rest) bytes ≡ journal_of book
+    → IsJournalled book → IsBeginning bytes (take (length bytes - length rest) bytes) book
 cut_begins one_head one_event bytes event count rest book is_next is_fault after cut is j =
     let fault : IsUnspelled bytes count = subst (λ (n : ℕ). IsFault bytes (Form n)) is_next is_fault in
     let same : rest ≡ fault.rest = after fault.leads.head.version fault.rest (leads_after bytes count fault.book fault.rest fault.leads) in

@@ -94,8 +94,8 @@ module _ {F : Type 0} (reads : F → List ℕ → Result (List ℕ) FileFault �
 
   -- ---- what they tell
 
-  pub files_tell : (names : List (List ℕ)) (pairs : Bool) (old new : F) (lines told text : List ℕ) (books : List BookState) (c : ClusterState) → AreSources reads names old lines books new
-      → Tells c books pairs told → text ≡ lines ++ told → TellsFiles reads names pairs old text new
+  pub files_tell : (names : List (List ℕ)) (pairs : Bool) (old new : F) (lines told text : List ℕ) (books : List BookState) (c : ClusterState)
+      → AreSources reads names old lines books new → Tells c books pairs told → text ≡ lines ++ told → TellsFiles reads names pairs old text new
   files_tell names pairs old new lines told text books c a tells is = record {
     sources = a.sources;
     named = a.named;
@@ -111,8 +111,8 @@ module _ {F : Type 0} (reads : F → List ℕ → Result (List ℕ) FileFault �
   file_refuses names old new r (inl why) = inl why
   file_refuses names old new r (inr none) = inr (inr none)
 
-  pub books_refuse : (names : List (List ℕ)) (old new : F) (lines : List ℕ) (books : List BookState) (fault : GatherFault) (r : Refusal) → AreSources reads names old lines books new → AreRefused books fault
-      → r ≡ of_gather fault → Refuses reads names old r new
+  pub books_refuse : (names : List (List ℕ)) (old new : F) (lines : List ℕ) (books : List BookState) (fault : GatherFault) (r : Refusal)
+      → AreSources reads names old lines books new → AreRefused books fault → r ≡ of_gather fault → Refuses reads names old r new
   books_refuse names old new lines books fault r a why is =
       inr (inl (record { sources = a.sources; named = a.named; read = a.read; fault = fault; refused = subst (λ (bs : List BookState). AreRefused bs fault) a.are why; is = is }))
 

@@ -101,8 +101,8 @@ both one_head one_event version other bytes n m r s a b none =
 
 -- ---- as many events
 
-as_many : OneEvent → (version : Version) (us vs : List RawEntry) (r s : List ℕ) → length us ≡ length vs → AllByRecursion (IsWritten version) us → AllByRecursion (IsWritten version) vs
-    → flat_map (event_bytes version) us ++ r ≡ flat_map (event_bytes version) vs ++ s → r ≡ s
+as_many : OneEvent → (version : Version) (us vs : List RawEntry) (r s : List ℕ) → length us ≡ length vs → AllByRecursion (IsWritten version) us
+    → AllByRecursion (IsWritten version) vs → flat_map (event_bytes version) us ++ r ≡ flat_map (event_bytes version) vs ++ s → r ≡ s
 as_many law version [] [] r s n p q h = h
 as_many law version [] (v ∷ vs) r s n p q h = absurd (omega (arith, n))
 as_many law version (u ∷ us) [] r s n p q h = absurd (omega (arith, n))

@@ -48,8 +48,8 @@ no_stop version LongText h = let is = h.3 in absurd (cc)
 no_stop version LongNotes h = let is = h.5 in absurd (cc)
 
 -- where nothing was written, nothing was read
-pub nothing_read : (version : Version) (node : ℕ) (gives : Giving) (rs : List Request) (bs : List Reply) (ended : Option StreamEnd) (last : List ℕ) → AllZip (IsTold node gives) rs bs → IsLast version last ended
-    → length (replies_bytes bs ++ last_reply ended) ≡ 0 → length (spellings rs ++ last) ≡ 0
+pub nothing_read : (version : Version) (node : ℕ) (gives : Giving) (rs : List Request) (bs : List Reply) (ended : Option StreamEnd) (last : List ℕ)
+    → AllZip (IsTold node gives) rs bs → IsLast version last ended → length (replies_bytes bs ++ last_reply ended) ≡ 0 → length (spellings rs ++ last) ≡ 0
 nothing_read version node gives rs bs (Some stop) last said is_last none = absurd (omega (arith, none, length-append (replies_bytes bs) (stop_number stop ∷ [])))
 nothing_read version node gives [] [] None last said is_last none = ap length is_last
 nothing_read version node gives [] (b ∷ bs) None last said is_last none = absurd said

@@ -28,8 +28,8 @@ whole_read version input left n r is got =
     (whole.0, subst (Consumes input left) whole.1 consumed)
 
 -- a turn fails
-pub fails : {E : Type 0} (P : E → Type 0) (version : Version) (node : ℕ) (gives : Giving) (input left before after : Option (List ℕ)) (r : Result (Option Served) E) (read part : List ℕ) → IsErrAnd r P
-    → Consumes input left read → Appends before after part → IsAtHand version node gives read part
+pub fails : {E : Type 0} (P : E → Type 0) (version : Version) (node : ℕ) (gives : Giving) (input left before after : Option (List ℕ)) (r : Result (Option Served) E) (read part : List ℕ)
+    → IsErrAnd r P → Consumes input left read → Appends before after part → IsAtHand version node gives read part
     → IsTurn version node gives input left before after r
 fails P version node gives input left before after (Ok o) read part h consumed written at_hand = absurd h
 fails P version node gives input left before after (Err e) read part h consumed written at_hand = (read, part, consumed, written, at_hand)
@@ -53,8 +53,8 @@ lost_read version input left n is got =
     (text, notes, (legal, subst (Consumes input left) spelled consumed))
 
 -- requests stop, and that is replied to
-pub stops : (version : Version) (node : ℕ) (gives : Giving) (input left before after : Option (List ℕ)) (n : Incoming) (stop : StreamEnd) (bytes : List ℕ) → n ≡ next.Ended stop → IsGot version [] input left n
-    → bytes ≡ last_reply (Some stop) → Appends before after bytes
+pub stops : (version : Version) (node : ℕ) (gives : Giving) (input left before after : Option (List ℕ)) (n : Incoming) (stop : StreamEnd) (bytes : List ℕ)
+    → n ≡ next.Ended stop → IsGot version [] input left n → bytes ≡ last_reply (Some stop) → Appends before after bytes
     → IsTaken version node gives input left before after (Some Ended)
 stops version node gives input left before after n stop bytes is got said written =
     let g : IsGot version [] input left (next.Ended stop) = subst (IsGot version [] input left) is got in
@@ -70,8 +70,8 @@ loses version node gives input left before after n is got written =
     (Register text notes, Refused 99, read.0, read.1, (lost_said node text notes, inr refl), written)
 
 -- or not written whole
-pub lost_fails : {E : Type 0} (P : E → Type 0) (version : Version) (node : ℕ) (gives : Giving) (input left before after : Option (List ℕ)) (result : Result (Option Served) E) (n : Incoming) → IsErrAnd result P
-    → n ≡ next.Lost → IsGot version [] input left n → (part : List ℕ) × Appends before after part
+pub lost_fails : {E : Type 0} (P : E → Type 0) (version : Version) (node : ℕ) (gives : Giving) (input left before after : Option (List ℕ)) (result : Result (Option Served) E) (n : Incoming)
+    → IsErrAnd result P → n ≡ next.Lost → IsGot version [] input left n → (part : List ℕ) × Appends before after part
     → IsTurn version node gives input left before after result
 lost_fails P version node gives input left before after result n h is got written =
     let (text, notes, read) = lost_read version input left n is got in
@@ -102,8 +102,8 @@ ends version node gives input mid left before between after Silent e turn =
     let (r, legal, consumed, none, written) = turn in
     record { request = r; is_request = legal; none = none; exchanged = exchanges_then version node gives input mid left before between after (spelling r) [] e consumed written }
 
-pub turn_ends : (version : Version) (node : ℕ) (gives : Giving) (input mid left before between after : Option (List ℕ)) (o : Option Served) (served : Served) → o ≡ Some served
-    → Exchanges version node gives input mid before between [] [] → IsTaken version node gives mid left between after o
+pub turn_ends : (version : Version) (node : ℕ) (gives : Giving) (input mid left before between after : Option (List ℕ)) (o : Option Served) (served : Served)
+    → o ≡ Some served → Exchanges version node gives input mid before between [] [] → IsTaken version node gives mid left between after o
     → IsEnd version node gives input left before after (Ok served)
 turn_ends version node gives input mid left before between after o served is e turn =
     ends version node gives input mid left before between after served e (subst (IsTaken version node gives mid left between after) is turn)

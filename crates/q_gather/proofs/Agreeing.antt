@@ -98,8 +98,8 @@ pub versions_one : (books : List BookState) (i k : ℕ) (a b : BookState) → Ag
     → a.version ≡ b.version
 versions_one books i k a b agree at here = agree.3.versions i a at ∙ sym (agree.3.versions k b here)
 
-pub versions_refused : (journals : List (List ℕ)) (books : List BookState) (i k : ℕ) (a b : BookState) → AreReplayed journals books → AreDistinct books → slice_get books i ≡ Some a → slice_get books k ≡ Some b
-    → (a.version ≡ b.version → ⊥) → IsRefused journals BadFounders
+pub versions_refused : (journals : List (List ℕ)) (books : List BookState) (i k : ℕ) (a b : BookState) → AreReplayed journals books → AreDistinct books
+    → slice_get books i ≡ Some a → slice_get books k ≡ Some b → (a.version ≡ b.version → ⊥) → IsRefused journals BadFounders
 versions_refused journals books i k a b r distinct at here other = (books, r, distinct, λ agree. other (versions_one books i k a b agree at here))
 
 -- ---- the start
@@ -119,7 +119,8 @@ agree_on books version config ids c h heads there = record {
 -- ---- who is listed
 
 -- a node is listed among the founders, or it is not
-pub founders_listed : (b : BookState) (ids : List ℕ) (k r : Bool) → set.contains (set.from_list {R = nat_cmp} ids) b.id ≡ k → MatchBool r (b.founders ≡ cond k (Some ids) None) (b.founders ≡ cond k (Some ids) None → ⊥)
+pub founders_listed : (b : BookState) (ids : List ℕ) (k r : Bool) → set.contains (set.from_list {R = nat_cmp} ids) b.id ≡ k
+    → MatchBool r (b.founders ≡ cond k (Some ids) None) (b.founders ≡ cond k (Some ids) None → ⊥)
     → MatchBool r (b.founders ≡ founders_for b.id ids) (b.founders ≡ founders_for b.id ids → ⊥)
 founders_listed b ids k r is test = subst (λ (t : Bool). MatchBool r (b.founders ≡ cond t (Some ids) None) (b.founders ≡ cond t (Some ids) None → ⊥)) (sym is) test
 

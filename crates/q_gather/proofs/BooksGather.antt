@@ -42,8 +42,9 @@ module _ (books : List BookState) (k : ℕ) (whole : BookState) (mine : slice_ge
           (p.0, get_elsewhere lists k steps i p.0 (λ same. away (sym same)) p.1, p.2, p.3)
     ]
 
-  pub few_set : (lists : List (List (Step Message))) (steps : List (Step Message)) → ((i : ℕ) (x : List (Step Message)) → slice_get lists i ≡ Some x → (b : BookState) × (slice_get books i ≡ Some b))
-      → (i : ℕ) (x : List (Step Message)) → slice_get (slice_set lists k steps) i ≡ Some x → (b : BookState) × (slice_get books i ≡ Some b)
+  pub few_set : (lists : List (List (Step Message))) (steps : List (Step Message))
+      → ((i : ℕ) (x : List (Step Message)) → slice_get lists i ≡ Some x → (b : BookState) × (slice_get books i ≡ Some b)) → (i : ℕ) (x : List (Step Message))
+      → slice_get (slice_set lists k steps) i ≡ Some x → (b : BookState) × (slice_get books i ≡ Some b)
   few_set lists steps few i x here = elim (get_after lists k steps i x here) [
     | inl old ↦ few i x old
     | inr new ↦ (whole, ap (slice_get books) new.0 ∙ mine)

@@ -66,8 +66,8 @@ module _ (whole : BookState) where
         on.adds,
       )
 
-  headed_one : (n m : NodeState) (d e : DeskState) → IsReplay (record whole { node = n; desk = d }) → IsReplay (record whole { node = m; desk = e }) → d.journal ≡ e.journal
-      → record whole { node = n; desk = d } ≡ record whole { node = m; desk = e }
+  headed_one : (n m : NodeState) (d e : DeskState) → IsReplay (record whole { node = n; desk = d }) → IsReplay (record whole { node = m; desk = e })
+      → d.journal ≡ e.journal → record whole { node = n; desk = d } ≡ record whole { node = m; desk = e }
   headed_one n m d e r s same =
       let a : BookState = record whole { node = n; desk = d } in
       let b : BookState = record whole { node = m; desk = e } in

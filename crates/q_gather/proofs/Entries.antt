@@ -201,8 +201,8 @@ module _ (c : ClusterState) (h : IsHistory c) (id : ℕ) (b d : BookState) (up :
       (ledger_sent c.past id o b.node r (did_act id c.past.sent b (deed b e d f) s (told b e d f) d.node a.node) ∙ ap (λ (x : List Message). c.past.sent ++ x) a.sent)
 
   -- the event by which the node takes the entry, which runs no job
-  entry_goes : {A : Type 0} (e : Entry) (next : A → BookState → ClusterStep × ClusterState) (call : BookState → Result (A × BookState) Reason) (a : A) → call b ≡ Ok (a, d)
-      → (x ev : ClusterEvent) → ev ≡ x → AnswersTo c x nothing → ((r : Ran) → stepped r c x ≡ at_node c id (λ y. lift next (call y)))
+  entry_goes : {A : Type 0} (e : Entry) (next : A → BookState → ClusterStep × ClusterState) (call : BookState → Result (A × BookState) Reason) (a : A)
+      → call b ≡ Ok (a, d) → (x ev : ClusterEvent) → ev ≡ x → AnswersTo c x nothing → ((r : Ran) → stepped r c x ≡ at_node c id (λ y. lift next (call y)))
       → IsTurn c id d (sends b e) (next a d).1 → Makes c ev id d (sends b e)
   entry_goes e next call a h x ev is right says turn =
       subst (λ (y : ClusterEvent). Makes c y id d (sends b e)) (sym is)

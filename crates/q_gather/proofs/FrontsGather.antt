@@ -174,8 +174,8 @@ all_traced (b ∷ bs) replays =
     let rest = all_traced bs (λ k x here. replays (suc k) x here) in
     (t.0 ∷ rest.0, traced_more b bs t.0 rest.0 t.1 rest.1)
 
-pub parts_gather : (wholes parts : List BookState) (version : Version) (config : Config) (founders : List ℕ) → MayGather wholes version config founders → AreBeginnings parts wholes → HoldWhatTheyDeliver parts
-    → MayGather parts version config founders
+pub parts_gather : (wholes parts : List BookState) (version : Version) (config : Config) (founders : List ℕ) → MayGather wholes version config founders
+    → AreBeginnings parts wholes → HoldWhatTheyDeliver parts → MayGather parts version config founders
 parts_gather wholes parts version config founders may begun hold =
     let own = all_traced parts (λ k b here. (begun.each k b here).is.replay) in
     record {

@@ -90,8 +90,8 @@ wants_it (entry.Deliver x) m h = ap entry.Deliver (same_some x m h)
 wants_it e m h = absurd (no_some m h)
 
 -- a step that wants a message is that of an entry which delivers it
-from_entry : (es : List Entry) (b c : BookState) (steps : Steps) → IsTraceFrom b es steps c → (k : ℕ) (s : Step Message) (m : Message) → slice_get steps k ≡ Some s → s.wants ≡ Some m
-    → slice_get es k ≡ Some (entry.Deliver m)
+from_entry : (es : List Entry) (b c : BookState) (steps : Steps) → IsTraceFrom b es steps c → (k : ℕ) (s : Step Message) (m : Message)
+    → slice_get steps k ≡ Some s → s.wants ≡ Some m → slice_get es k ≡ Some (entry.Deliver m)
 from_entry [] b c steps t k s m h is = absurd (no_some s (ap (λ (x : Steps). slice_get x k) (sym t.0) ∙ h))
 from_entry (e ∷ es) b c steps t zero s m h is =
     let first : step_of b e ≡ s = same_some (step_of b e) s (ap (λ (x : Steps). slice_get x 0) (sym t.3) ∙ h) in
@@ -109,8 +109,10 @@ from_step (e ∷ es) b c steps t (suc k) m h =
 
 -- the step by which a node enters wants nothing
 module _ (b : BookState) (rest : Steps) where
-  entry_by : (founders : Option (List ℕ)) (es : List Entry) → ((k : ℕ) (s : Step Message) (m : Message) → slice_get rest k ≡ Some s → s.wants ≡ Some m → slice_get es k ≡ Some (entry.Deliver m))
-      → (k : ℕ) (s : Step Message) (m : Message) → slice_get (entering b founders ++ rest) k ≡ Some s → s.wants ≡ Some m → (place : ℕ) × (slice_get es place ≡ Some (entry.Deliver m))
+  entry_by : (founders : Option (List ℕ)) (es : List Entry)
+      → ((k : ℕ) (s : Step Message) (m : Message) → slice_get rest k ≡ Some s → s.wants ≡ Some m → slice_get es k ≡ Some (entry.Deliver m))
+      → (k : ℕ) (s : Step Message) (m : Message) → slice_get (entering b founders ++ rest) k ≡ Some s → s.wants ≡ Some m
+      → (place : ℕ) × (slice_get es place ≡ Some (entry.Deliver m))
   entry_by (Some ids) es at k s m h is = (k, at k s m h is)
   entry_by None es at zero s m h is = absurd (no_some m (ap (λ (x : Step Message). x.wants) (same_some _ s h) ∙ is))
   entry_by None es at (suc k) s m h is = (k, at k s m h is)

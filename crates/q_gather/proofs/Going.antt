@@ -95,8 +95,9 @@ module _ (books : List BookState) (c later : ClusterState) (numbers after : Numb
   pub turn_less : all_left later books < all_left c books
   turn_less = goes_less books c later numbers after g.gathering ev found told f
 
-  pub turn_kept : ((outs : List Message) → AreNumbers c.past.sent numbers → later.past.sent ≡ c.past.sent ++ outs → AreNumbers later.past.sent after) → (turned : Rounds)
-      → (AreNumbers c.past.sent numbers → AreWaiting c books rounds → AreIdle c books turned.waiting.keys) → turned.sent ≡ length c.past.sent → AreGoing books later after turned
+  pub turn_kept : ((outs : List Message) → AreNumbers c.past.sent numbers → later.past.sent ≡ c.past.sent ++ outs → AreNumbers later.past.sent after)
+      → (turned : Rounds) → (AreNumbers c.past.sent numbers → AreWaiting c books rounds → AreIdle c books turned.waiting.keys)
+      → turned.sent ≡ length c.past.sent → AreGoing books later after turned
   turn_kept numbered turned idle sent = record {
     gathering = goes_on books c later numbers after g.gathering ev found told f numbered;
     waiting = λ long. idle_on books c later numbers after g.gathering ev found told f turned.waiting.keys (idle g.gathering.numbered g.waiting) (long ∙ sent);

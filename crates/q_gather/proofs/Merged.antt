@@ -111,8 +111,8 @@ module _ (books : List BookState) (distinct : AreDistinct books) (c later : Clus
   left_there id d whole left steps here of (Away absent none is t) = absurd (no_some d (sym absent ∙ ap (book_at later) of ∙ here))
   left_there id d whole left steps here of (There b at t) = subst (λ (x : BookState). IsTraceFrom x left steps whole) (same_some b d (sym at ∙ ap (book_at later) of ∙ here)) t
 
-  goes_back : (id : ℕ) (b d : BookState) (e : Entry) → book_at c id ≡ Some b → replays.Follows b e d → CanGo c.past.sent (step_of b e) → IsTurn c id d (step_of b e).gives later
-      → (more : List Steps) × IsComing books c more
+  goes_back : (id : ℕ) (b d : BookState) (e : Entry) → book_at c id ≡ Some b → replays.Follows b e d → CanGo c.past.sent (step_of b e)
+      → IsTurn c id d (step_of b e).gives later → (more : List Steps) × IsComing books c more
   goes_back id b d e here f can turn =
       let h = coming.all id d turn.book in
       let p = coming.at h.place h.book h.at in

@@ -61,7 +61,8 @@ module _ {M : Type 0} (given : List M) (lists : List (List (Step M))) (j : ℕ) 
       (subst (λ (x : List (Step M)). Merges M (given ++ t.gives) (slice_set lists k x)) parts.1
       (subst (λ (x : ℕ). Merges M (given ++ t.gives) (slice_set lists x left)) same then))
 
-  by_two : (j ≡ k → ⊥) → (slice_get (slice_set lists j left) k ≡ Some (s ∷ rest) → CanGo (given ++ t.gives) s → Merges M ((given ++ t.gives) ++ s.gives) (slice_set (slice_set lists j left) k rest))
+  by_two : (j ≡ k → ⊥)
+      → (slice_get (slice_set lists j left) k ≡ Some (s ∷ rest) → CanGo (given ++ t.gives) s → Merges M ((given ++ t.gives) ++ s.gives) (slice_set (slice_set lists j left) k rest))
       → Merges M (given ++ s.gives) (slice_set lists k rest)
   by_two away then =
       Takes j t left (get_elsewhere lists k rest j (t ∷ left) away there) (goes_on given (given ++ s.gives) t (λ m h. Contains-append_left given s.gives m h) may)
@@ -71,8 +72,8 @@ module _ {M : Type 0} (given : List M) (lists : List (List (Step M))) (j : ℕ) 
       ((given ++ s.gives) ++ t.gives) (swapped given t.gives s.gives))
 
 -- a first step that can go may go at once
-pub merges_next : {M : Type 0} {given : List M} {lists : List (List (Step M))} → Merges M given lists → (k : ℕ) (s : Step M) (rest : List (Step M)) → slice_get lists k ≡ Some (s ∷ rest) → CanGo given s
-    → Merges M (given ++ s.gives) (slice_set lists k rest)
+pub merges_next : {M : Type 0} {given : List M} {lists : List (List (Step M))} → Merges M given lists → (k : ℕ) (s : Step M) (rest : List (Step M))
+    → slice_get lists k ≡ Some (s ∷ rest) → CanGo given s → Merges M (given ++ s.gives) (slice_set lists k rest)
 merges_next (Over {lists = lists} over) k s rest at can = let none : s ∷ rest ≡ [] = over_at lists k (s ∷ rest) over at in absurd (cc)
 merges_next (Takes {given = given} {lists = lists} j t left there may then) k s rest at can = elim (cases_eq j k) [
   | inl same ↦ by_one given lists j t left there may k s rest at can same then
@@ -80,7 +81,7 @@ merges_next (Takes {given = given} {lists = lists} j t left there may then) k s 
 ]
 
 -- where no first step can go, lists merge only if all are over
-pub merges_stuck : {M : Type 0} {given : List M} {lists : List (List (Step M))} → Merges M given lists → ((k : ℕ) (s : Step M) (rest : List (Step M)) → slice_get lists k ≡ Some (s ∷ rest) → CanGo given s → ⊥)
-    → AreOver lists
+pub merges_stuck : {M : Type 0} {given : List M} {lists : List (List (Step M))} → Merges M given lists
+    → ((k : ℕ) (s : Step M) (rest : List (Step M)) → slice_get lists k ≡ Some (s ∷ rest) → CanGo given s → ⊥) → AreOver lists
 merges_stuck (Over over) none = over
 merges_stuck (Takes k s rest at can then) none = absurd (none k s rest at can)

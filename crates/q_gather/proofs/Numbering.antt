@@ -17,8 +17,8 @@ use Rattle.q_gather.specs.Gathering.{HasTaken}
 abbrev pub OneMore : Type 0
 OneMore = (sent : List Message) (numbers : NumberList) (m : Message) → AreNumbers sent numbers → IsMessage Second m → AreNumbers (sent ++ m ∷ []) (added (message_bytes Second m) (length sent) numbers)
 
-pub numbered_next : OneMore → (sent : List Message) (numbers after : NumberList) (m : Message) (n : ℕ) → Some m ≡ slice_get sent n → IsMessage Second m → after ≡ added (message_bytes Second m) n numbers → AreNumbers (take n sent) numbers
-    → AreNumbers (take (n + 1) sent) after
+pub numbered_next : OneMore → (sent : List Message) (numbers after : NumberList) (m : Message) (n : ℕ) → Some m ≡ slice_get sent n → IsMessage Second m
+    → after ≡ added (message_bytes Second m) n numbers → AreNumbers (take n sent) numbers → AreNumbers (take (n + 1) sent) after
 numbered_next more sent numbers after m n at legal is are =
     let within : n < length sent = slice_get_within sent n m (sym at) in
     let long : length (take n sent) ≡ n = length-take-le n sent (omega (arith, within)) in

@@ -28,8 +28,9 @@ pub text_at : (js : List (Bor (List ℕ))) (k : ℕ) (d : Bor (List ℕ)) → k 
     → slice_get (map (λ (bytes : Bor (List ℕ)). bytes.now) js) k ≡ Some (get_or js k d).now
 text_at js k d less = slice_get-map (λ (bytes : Bor (List ℕ)). bytes.now) js k ∙ ap (option_map (λ (bytes : Bor (List ℕ)). bytes.now)) (slice_get-get_or js k d less)
 
-pub replayed_text : (js : List (Bor (List ℕ))) (books more : List BookState) (place : ℕ) (d : Bor (List ℕ)) (b : BookState) → place < length js → AreReplayed (take place (map (λ (bytes : Bor (List ℕ)). bytes.now) js)) books
-    → (get_or js place d).now ≡ journal_of b → IsJournalled b → more ≡ books ++ b ∷ [] → AreReplayed (take (place + 1) (map (λ (bytes : Bor (List ℕ)). bytes.now) js)) more
+pub replayed_text : (js : List (Bor (List ℕ))) (books more : List BookState) (place : ℕ) (d : Bor (List ℕ)) (b : BookState) → place < length js
+    → AreReplayed (take place (map (λ (bytes : Bor (List ℕ)). bytes.now) js)) books → (get_or js place d).now ≡ journal_of b → IsJournalled b
+    → more ≡ books ++ b ∷ [] → AreReplayed (take (place + 1) (map (λ (bytes : Bor (List ℕ)). bytes.now) js)) more
 replayed_text js books more place d b less before spelled is grows =
     let journals : List (List ℕ) = map (λ (bytes : Bor (List ℕ)). bytes.now) js in
     let at = text_at js place d less in
@@ -85,8 +86,8 @@ module _ (one : OneBook) (none : NoFault) (journals : List (List ℕ)) (books : 
   refused_memory distinct agree merge NeverSent f = absurd (f.4 (subst Merge (replayed_one one journals books f.0 r f.1) merge))
   refused_memory distinct agree merge OutOfMemory f = refl
 
-  pub gathers_all : (result : Result ClusterState GatherFault) → IfOk result (Gathers journals) → IfErr result (IsRefused journals) → AreDistinct books → Agree books → Merge books
-      → MatchResult result (IsGathered books) (λ e. e ≡ OutOfMemory)
+  pub gathers_all : (result : Result ClusterState GatherFault) → IfOk result (Gathers journals) → IfErr result (IsRefused journals) → AreDistinct books
+      → Agree books → Merge books → MatchResult result (IsGathered books) (λ e. e ≡ OutOfMemory)
   gathers_all (Ok c) is refused distinct agree merge = subst (λ (x : List BookState). IsGathered x c) (replayed_one one journals is.books books is.replayed r) is.gathered
   gathers_all (Err e) is refused distinct agree merge = refused_memory distinct agree merge e refused
 
@@ -137,8 +138,8 @@ module _ (one : OneBook) (none : NoFault) (first : OneFault) (journals : List (L
 -- ---- refusals on the way
 
 -- the first that is no journal
-pub faulty : (journals : List (List ℕ)) (place : ℕ) (before : List BookState) (bytes : List ℕ) (fault : ReplayFault) → AreReplayed (take place journals) before → slice_get journals place ≡ Some bytes → IsFault bytes fault
-    → IsRefused journals (of_replay place fault)
+pub faulty : (journals : List (List ℕ)) (place : ℕ) (before : List BookState) (bytes : List ℕ) (fault : ReplayFault) → AreReplayed (take place journals) before
+    → slice_get journals place ≡ Some bytes → IsFault bytes fault → IsRefused journals (of_replay place fault)
 faulty journals place before bytes replay_fault.OutOfMemory r at is = tt
 faulty journals place before bytes fault r at is = record { before = before; replayed = r; bytes = bytes; at = at; is = is; known = λ e. absurd (cc) }
 

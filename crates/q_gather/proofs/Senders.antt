@@ -85,8 +85,9 @@ first_named b n (Some ids) h =
     let founded = passed (node.are_founders ids && set.contains (set.from_list {R = nat_cmp} ids) b.id) reasons.BadFounders (Ok (node.founder b.config ids b.id)) n h in
     ap (λ (x : NodeState). x.id) (sym (same_answer {E = Reason} (node.founder b.config ids b.id) n founded.1))
 
-all_by : (b : BookState) (rest : List (Step Message)) (founders : Option (List ℕ)) → ((k : ℕ) (t : Step Message) → slice_get rest k ≡ Some t → AreOwn b.id t.gives)
-    → (k : ℕ) (t : Step Message) → slice_get (entering b founders ++ rest) k ≡ Some t → AreOwn b.id t.gives
+all_by : (b : BookState) (rest : List (Step Message)) (founders : Option (List ℕ))
+    → ((k : ℕ) (t : Step Message) → slice_get rest k ≡ Some t → AreOwn b.id t.gives) → (k : ℕ) (t : Step Message)
+    → slice_get (entering b founders ++ rest) k ≡ Some t → AreOwn b.id t.gives
 all_by b rest (Some ids) own k t h = own k t h
 all_by b rest None own zero t h = subst (λ (x : Step Message). AreOwn b.id x.gives) (same_some _ t h) (one_own b.id Enter)
 all_by b rest None own (suc k) t h = own k t h

@@ -88,7 +88,7 @@ refused_memory books distinct agree merge BadFounders f = absurd (f.1 agree)
 refused_memory books distinct agree merge NeverSent f = absurd (f.2 merge)
 refused_memory books distinct agree merge OutOfMemory f = refl
 
-pub gathers_all : (books : List BookState) (result : Result ClusterState GatherFault) → IfOk result (GathersBooks books) → IfErr result (AreRefused books) → AreDistinct books → Agree books → Merge books
-    → MatchResult result (IsGathered books) (λ e. e ≡ OutOfMemory)
+pub gathers_all : (books : List BookState) (result : Result ClusterState GatherFault) → IfOk result (GathersBooks books) → IfErr result (AreRefused books)
+    → AreDistinct books → Agree books → Merge books → MatchResult result (IsGathered books) (λ e. e ≡ OutOfMemory)
 gathers_all books (Ok c) is refused distinct agree merge = is.gathered
 gathers_all books (Err e) is refused distinct agree merge = refused_memory books distinct agree merge e refused

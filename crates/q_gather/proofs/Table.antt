@@ -33,8 +33,8 @@ pub added_there : (bytes m : List ℕ) (es : Entries) (now : NumberList) (n : �
 added_there bytes m es now n spelled is some = sym (ap (λ (b : Bool). cond b now (now ++ (m, n) ∷ [])) (some_number bytes m es now true spelled is some))
 
 -- and bytes that have none yet
-pub added_new : (k : Vec ℕ Global) (m : List ℕ) (es new : Entries) (now : NumberList) (n : ℕ) → k.items ≡ m → listed es ≡ now → is_some (lookup (λ (x : Vec ℕ Global). bytes_eq k.items x.items) es) ≡ false
-    → new ≡ es ++ (k, n) ∷ [] → listed new ≡ added m n now
+pub added_new : (k : Vec ℕ Global) (m : List ℕ) (es new : Entries) (now : NumberList) (n : ℕ) → k.items ≡ m → listed es ≡ now
+    → is_some (lookup (λ (x : Vec ℕ Global). bytes_eq k.items x.items) es) ≡ false → new ≡ es ++ (k, n) ∷ [] → listed new ≡ added m n now
 added_new k m es new now n spelled is none grows =
     ap listed grows ∙ listed_snoc es k n ∙ (λ i. is i ++ (spelled i, n) ∷ [])
     ∙ sym (ap (λ (b : Bool). cond b now (now ++ (m, n) ∷ [])) (some_number k.items m es now false spelled is none))

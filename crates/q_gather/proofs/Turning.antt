@@ -45,8 +45,8 @@ put_turn c p jobs id d outs sent = record {
 }
 
 -- an event that is accepted, whatever a job comes to
-pub makes : (c : ClusterState) (ev : ClusterEvent) (id : ℕ) (d : BookState) (outs : List Message) (ran : Ran) (y : ClusterStep × ClusterState) → AnswersTo c ev ran
-    → ((r : Ran) → AnswersTo c ev r → stepped r c ev ≡ Ok y) → IsTurn c id d outs y.1 → Makes c ev id d outs
+pub makes : (c : ClusterState) (ev : ClusterEvent) (id : ℕ) (d : BookState) (outs : List Message) (ran : Ran) (y : ClusterStep × ClusterState)
+    → AnswersTo c ev ran → ((r : Ran) → AnswersTo c ev r → stepped r c ev ≡ Ok y) → IsTurn c id d outs y.1 → Makes c ev id d outs
 makes c ev id d outs ran y right says turn = record {
   told = y.0;
   later = y.1;

@@ -201,8 +201,9 @@ module _ (books : List BookState) (c : ClusterState) (lists : List (List (Step M
     }
 
 -- a first step that can go is an event of the cluster
-pub step_goes : (books : List BookState) (c : ClusterState) (lists : List (List (Step Message))) → IsUnderWay books c lists → (k : ℕ) (s : Step Message) (rest : List (Step Message)) → slice_get lists k ≡ Some (s ∷ rest)
-    → CanGo c.past.sent s → (ev : ClusterEvent) × Goes books c lists k s rest ev
+pub step_goes : (books : List BookState) (c : ClusterState) (lists : List (List (Step Message))) → IsUnderWay books c lists
+    → (k : ℕ) (s : Step Message) (rest : List (Step Message)) → slice_get lists k ≡ Some (s ∷ rest) → CanGo c.past.sent s
+    → (ev : ClusterEvent) × Goes books c lists k s rest ev
 step_goes books c lists u k s rest at can =
     let b = u.few k (s ∷ rest) at in
     let ev = next_is books c lists u k b.0 b.1 s rest can at in
@@ -237,8 +238,9 @@ module _ (c later : ClusterState) where
       let rest = same_left bs (λ i x h. same (suc i) x h) in
       λ i. head i + rest i
 
-  pub less_left : (books : List BookState) (k : ℕ) (whole : BookState) → slice_get books k ≡ Some whole → ((i : ℕ) (b : BookState) → slice_get books i ≡ Some b → (i ≡ k → ⊥) → left_of later b ≡ left_of c b)
-      → left_of later whole < left_of c whole → all_left later books < all_left c books
+  pub less_left : (books : List BookState) (k : ℕ) (whole : BookState) → slice_get books k ≡ Some whole
+      → ((i : ℕ) (b : BookState) → slice_get books i ≡ Some b → (i ≡ k → ⊥) → left_of later b ≡ left_of c b) → left_of later whole < left_of c whole
+      → all_left later books < all_left c books
   less_left [] k whole at others less = absurd (no_some whole at)
   less_left (b ∷ bs) zero whole at others less =
       let own : left_of later b < left_of c b = subst (λ (x : BookState). left_of later x < left_of c x) (sym (same_some b whole at)) less in

@@ -27,8 +27,8 @@ module _ (c : ClusterState) (books : List BookState) where
   idle_none places none k b ev among at next = none_among places k none among
 
   -- after those that wait were waked, where more was sent
-  pub idle_woken : (old new : List ℕ) (then now : ℕ) → ((k : ℕ) → list_any (nat_eq k) new ≡ true → (now ≡ then) × (list_any (nat_eq k) old ≡ true)) → now ≡ length c.past.sent
-      → (length c.past.sent ≡ then → AreIdle c books old) → AreIdle c books new
+  pub idle_woken : (old new : List ℕ) (then now : ℕ) → ((k : ℕ) → list_any (nat_eq k) new ≡ true → (now ≡ then) × (list_any (nat_eq k) old ≡ true))
+      → now ≡ length c.past.sent → (length c.past.sent ≡ then → AreIdle c books old) → AreIdle c books new
   idle_woken old new then now kept is waits k b ev among at next =
       let own = kept k among in
       waits (sym is ∙ own.0) k b ev own.1 at next

@@ -46,8 +46,8 @@ by_book-ok c id f y None live h = absurd (no_refusal _ y h)
 pub at-ok : (c : ClusterState) (id : ℕ) (f : BookState → Said) (y : ClusterStep × ClusterState) → at_node c id f ≡ Ok y → IsAt c id f y
 at-ok c id f y h = by_book-ok c id f y (live_at c id) refl h
 
-lift-ok : {A : Type 0} (next : A → BookState → ClusterStep × ClusterState) (r : Result (A × BookState) Reason) (y : ClusterStep × ClusterState) → lift next r ≡ Ok y
-    → (a : A × BookState) × (r ≡ Ok a) × (next a.0 a.1 ≡ y)
+lift-ok : {A : Type 0} (next : A → BookState → ClusterStep × ClusterState) (r : Result (A × BookState) Reason) (y : ClusterStep × ClusterState)
+    → lift next r ≡ Ok y → (a : A × BookState) × (r ≡ Ok a) × (next a.0 a.1 ≡ y)
 lift-ok next (Ok a) y h = (a, refl, same_answer _ y h)
 lift-ok next (Err e) y h = absurd (no_refusal _ y h)
 
@@ -156,7 +156,8 @@ replied_is c id (reply.HandedOut o) b = refl
 module _ (c : ClusterState) where
   -- from the call of a book to an entry
   made : {A : Type 0} {next : A → BookState → ClusterStep × ClusterState} {call : BookState → Result (A × BookState) Reason} {d : ClusterState} (id : ℕ)
-      (k : IsCall c id next call d) (e : Entry) (f : replays.Follows k.book e k.answer.1) (w : WasSent c.past.sent (deed k.book e k.answer.1 f)) → AreDue c id (told k.book e k.answer.1 f)
+      (k : IsCall c id next call d) (e : Entry) (f : replays.Follows k.book e k.answer.1) (w : WasSent c.past.sent (deed k.book e k.answer.1 f))
+      → AreDue c id (told k.book e k.answer.1 f)
       → (let r = outcome (told k.book e k.answer.1 f) k.answer.1.node in
       With c (ledger c.past id (event_for id c.past.sent (deed k.book e k.answer.1 f) w) r) (with_job c.jobs (handed k.book e)) id k.answer.1 ≡ d) → IsMade c d
   made id k e f w due is = calls (record {

@@ -41,8 +41,9 @@ module _ (version : Version) (config : Config) (ids : List ℕ) where
     pub is : founder_book id ≡ b
 
   -- each book is a founder's
-  all_founders : (qs : List ℕ) (books : BookMap) → ((id : ℕ) → IsAmong qs id → IsAmong ids id) → ((id : ℕ) (b : BookState) → fin.get books id ≡ Some b → IsFounder id b)
-      → (id : ℕ) (b : BookState) → fin.get (books_with version config ids books qs) id ≡ Some b → IsFounder id b
+  all_founders : (qs : List ℕ) (books : BookMap) → ((id : ℕ) → IsAmong qs id → IsAmong ids id)
+      → ((id : ℕ) (b : BookState) → fin.get books id ≡ Some b → IsFounder id b) → (id : ℕ) (b : BookState)
+      → fin.get (books_with version config ids books qs) id ≡ Some b → IsFounder id b
   all_founders [] books listed old id b at = old id b at
   all_founders (p ∷ qs) books listed old id b at =
       all_founders qs (fin.insert books p (founder_book p)) (λ i in'. listed i (among_rest p qs i in'))

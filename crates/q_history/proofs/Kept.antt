@@ -119,8 +119,8 @@ view_on a b (Running view) on h = on view h
 view_on a b (Answered view ran) on h = on view h
 
 -- the right answer of a job whose program the desk has is right of the query that it is a job of
-right_of_job : (d : DeskState) (j : Job) (q : Query) (view : ViewMap) (ran : Ran) → desk.is_job_of d.programs j q view ≡ true → slice_get d.programs j.program ≡ Some j.certified
-    → IsRight j.certified j.view j.start ran → IsAnswered d q view ran
+right_of_job : (d : DeskState) (j : Job) (q : Query) (view : ViewMap) (ran : Ran) → desk.is_job_of d.programs j q view ≡ true
+    → slice_get d.programs j.program ≡ Some j.certified → IsRight j.certified j.view j.start ran → IsAnswered d q view ran
 right_of_job d j q view ran fits named right =
     let rest = and_right (j.program == q.program) _ fits in
     let more = and_right (j.start == q.start) _ rest in
@@ -141,8 +141,8 @@ module _ (ops later : List Op) (onward : IsOnward ops later) (id : ℕ) where
       record { op = k.op; among = k.among; by = k.by ∙ t.by; tagged = k.tagged ∙ t.tagged; has = view_on t.op k.op q.phase k.returned t.has }
 
   -- a query in another phase, with the view that it had
-  rephased_tied : (q : Query) (view : ViewMap) (from to : Phase) → q.phase ≡ from → ((x : Op) → HasView x from → returned x ≡ Some view) → ((x : Op) → returned x ≡ Some view → HasView x to)
-      → IsTied ops id q → IsTied later id (record q { phase = to })
+  rephased_tied : (q : Query) (view : ViewMap) (from to : Phase) → q.phase ≡ from → ((x : Op) → HasView x from → returned x ≡ Some view)
+      → ((x : Op) → returned x ≡ Some view → HasView x to) → IsTied ops id q → IsTied later id (record q { phase = to })
   rephased_tied q view from to is had has t =
       tied_on (record q { phase = to }) (record { op = t.op; among = t.among; by = t.by; tagged = t.tagged; has = has t.op (had t.op (subst (HasView t.op) is t.has)) })
 
@@ -201,8 +201,8 @@ module _ (ops later : List Op) (onward : IsOnward ops later) (id : ℕ) where
 
 -- one book is put in, and the others are as they were
 module _ (c : ClusterState) (kept : IsKept c) (p : Past) (id : ℕ) (b : BookState) where
-  stays_by : (q : ℕ) (x : BookState) (here : Bool) → (q == id) ≡ here → ((y : BookState) → fin.get c.books id ≡ Some y → Keeps y.desk b.desk) → fin.get c.books q ≡ Some x
-      → (y : BookState) × (fin.get (fin.insert c.books id b) q ≡ Some y) × Keeps x.desk y.desk
+  stays_by : (q : ℕ) (x : BookState) (here : Bool) → (q == id) ≡ here → ((y : BookState) → fin.get c.books id ≡ Some y → Keeps y.desk b.desk)
+      → fin.get c.books q ≡ Some x → (y : BookState) × (fin.get (fin.insert c.books id b) q ≡ Some y) × Keeps x.desk y.desk
   stays_by q x true is keeps at =
       (b, get-insert c.books id b q ∙ ap (λ (h : Bool). cond h (Some b) (fin.get c.books q)) is, keeps x (ap (fin.get c.books) (sym (eqb-true q id is)) ∙ at))
   stays_by q x false is keeps at =
@@ -211,8 +211,9 @@ module _ (c : ClusterState) (kept : IsKept c) (p : Past) (id : ℕ) (b : BookSta
   pub put_stays : ((y : BookState) → fin.get c.books id ≡ Some y → Keeps y.desk b.desk) → Stays c.books (fin.insert c.books id b)
   put_stays keeps q x at = stays_by q x (q == id) refl keeps at
 
-  pub put : (jobs : List Job) → IsLawful (world_of (fin.insert (nodes_of c.books) id b.node) (past_in c p)) → IsOnward c.past.ops p.ops → IsHeaded c id b → IsDeskOf p.ops id b.desk
-      → ((y : BookState) → fin.get c.books id ≡ Some y → Keeps y.desk b.desk) → ((k : ℕ) (j : Job) → slice_get jobs k ≡ Some j → IsKnown (fin.insert c.books id b) j) → IsStep c (With c p jobs id b)
+  pub put : (jobs : List Job) → IsLawful (world_of (fin.insert (nodes_of c.books) id b.node) (past_in c p)) → IsOnward c.past.ops p.ops → IsHeaded c id b
+      → IsDeskOf p.ops id b.desk → ((y : BookState) → fin.get c.books id ≡ Some y → Keeps y.desk b.desk)
+      → ((k : ℕ) (j : Job) → slice_get jobs k ≡ Some j → IsKnown (fin.insert c.books id b) j) → IsStep c (With c p jobs id b)
   put jobs lawful onward head new keeps known = record {
     kept = record {
       world = subst IsLawful (world_put c (past_in c p) jobs id b) lawful;
@@ -229,8 +230,8 @@ module _ (c : ClusterState) (kept : IsKept c) (p : Past) (id : ℕ) (b : BookSta
   }
 
   -- where no job is handed out
-  pub put_desk : IsLawful (world_of (fin.insert (nodes_of c.books) id b.node) (past_in c p)) → IsOnward c.past.ops p.ops → IsHeaded c id b → IsDeskOf p.ops id b.desk
-      → ((y : BookState) → fin.get c.books id ≡ Some y → Keeps y.desk b.desk) → IsStep c (With c p c.jobs id b)
+  pub put_desk : IsLawful (world_of (fin.insert (nodes_of c.books) id b.node) (past_in c p)) → IsOnward c.past.ops p.ops → IsHeaded c id b
+      → IsDeskOf p.ops id b.desk → ((y : BookState) → fin.get c.books id ≡ Some y → Keeps y.desk b.desk) → IsStep c (With c p c.jobs id b)
   put_desk lawful onward head new keeps =
       put c.jobs lawful onward head new keeps (λ k j at. known_on c.books (fin.insert c.books id b) j (put_stays keeps) (kept.jobs k j at))
 

@@ -59,8 +59,8 @@ module _ (v : Version) where
   adds_none o ls ms e = record { more = []; added = e ∙ sym (append-nil ls); gives = gives_none o }
 
   -- a message that has bytes is given, and kept if it goes again
-  pub adds_fitting : (m : Message) (ms : List Message) (qs : List Question) (u : Unsent) (ls ks : List Letter) → fits v m ≡ true → AddsAll v (addressed m ∷ []) ls ks
-      → Adds v (outbox (m ∷ ms) qs u) ls (outbox ms (qs ++ map new_question (asking (m ∷ []))) u) ks
+  pub adds_fitting : (m : Message) (ms : List Message) (qs : List Question) (u : Unsent) (ls ks : List Letter) → fits v m ≡ true
+      → AddsAll v (addressed m ∷ []) ls ks → Adds v (outbox (m ∷ ms) qs u) ls (outbox ms (qs ++ map new_question (asking (m ∷ []))) u) ks
   adds_fitting m ms qs u ls ks e a =
       let one : fitting v (m ∷ []) ≡ m ∷ [] = ap (λ (b : Bool). cond b (m ∷ []) []) e in record {
         more = a.more;
@@ -101,8 +101,8 @@ module _ (v : Version) where
 
   -- the first message that waits is given, and what was taken out is it
   pub next_fitting : (m taken : Message) (ws rest : List Message) (qs asks : List Question) (u : Unsent) (to : Option ℕ) (ls ks : List Letter)
-      → (let first : Option Message = Some m in first) ≡ slice_get ws 0 → taken ≡ get_or ws 0 taken → rest ≡ drop 1 ws → true ≡ fits v m → to ≡ addressee_of m.body
-      → AddsAll v (message_to m to ∷ []) ls ks → asks ≡ qs ++ map new_question (asking (taken ∷ []))
+      → (let first : Option Message = Some m in first) ≡ slice_get ws 0 → taken ≡ get_or ws 0 taken → rest ≡ drop 1 ws → true ≡ fits v m
+      → to ≡ addressee_of m.body → AddsAll v (message_to m to ∷ []) ls ks → asks ≡ qs ++ map new_question (asking (taken ∷ []))
       → Adds v (outbox ws qs u) ls (outbox rest asks u) ks
   next_fitting m taken ws rest qs asks u to ls ks first t r e a l k =
       let w = first_of ws m first in

@@ -72,11 +72,11 @@ module _ (first : Option (List ℕ)) (b : BookState) (old : RecorderState) (i : 
   recorded new (Err OutOfMemory) r = subst (IsRecorded first b) (sym r.1) i
 
 -- after a call for a book that grew
-pub recorded_next : (first : Option (List ℕ)) (b c : BookState) (old new : RecorderState) (result : Result (Unit {0}) Unrecorded) → Grows b c → IsRecorded first b old → Records old c result new
-    → IsRecorded first c new
+pub recorded_next : (first : Option (List ℕ)) (b c : BookState) (old new : RecorderState) (result : Result (Unit {0}) Unrecorded) → Grows b c
+    → IsRecorded first b old → Records old c result new → IsRecorded first c new
 recorded_next first b c old new result g i r = recorded first c old (recorded_stays b c g first old i) new result r
 
 -- all stands there, once what lacked is appended
-pub whole_next : (first : Option (List ℕ)) (b c : BookState) (old : RecorderState) (file : Option (List ℕ)) → Grows b c → IsRecorded first b old → old.broken ≡ false
-    → Appends old.file file (lacking_bytes old c) → Appends first file (journal_of c)
+pub whole_next : (first : Option (List ℕ)) (b c : BookState) (old : RecorderState) (file : Option (List ℕ)) → Grows b c → IsRecorded first b old
+    → old.broken ≡ false → Appends old.file file (lacking_bytes old c) → Appends first file (journal_of c)
 whole_next first b c old file g i sound appended = whole-all first c old (recorded_stays b c g first old i) file sound appended

@@ -75,8 +75,9 @@ is_sound old new b r t = let e : true ≡ false = sym t ∙ r.sound in absurd (c
 
 -- what was given after the book's journal was recorded, of a book that was b before the pump, c after it, and is d
 pub gives_written : (r r' : RecorderState) (b c d : BookState) (had pumped has : List Message) (qs asks : List Question) (u w x : Unsent) (ls : List Letter)
-    → Grows b c → d ≡ c → RecordsAll r c r' → ((first : Option (List ℕ)) (e : BookState) → Grows e c → IsRecorded first e r → Appends first r'.file (journal_of c))
-    → pumped ≡ had → w ≡ u → Gives c.version (outbox pumped qs w) ls (outbox has asks x) → GivesWritten r b d (outbox had qs u) ls r' (outbox has asks x)
+    → Grows b c → d ≡ c → RecordsAll r c r'
+    → ((first : Option (List ℕ)) (e : BookState) → Grows e c → IsRecorded first e r → Appends first r'.file (journal_of c)) → pumped ≡ had → w ≡ u
+    → Gives c.version (outbox pumped qs w) ls (outbox has asks x) → GivesWritten r b d (outbox had qs u) ls r' (outbox has asks x)
 gives_written r r' b c d had pumped has qs asks u w x ls grows same records whole waits counts gives =
     subst (λ (y : BookState). GivesWritten r b y (outbox had qs u) ls r' (outbox has asks x)) (sym same)
     (record {
@@ -86,6 +87,6 @@ gives_written r r' b c d had pumped has qs asks u w x ls grows same records whol
     })
 
 -- nothing was given
-pub gives_none : (r r' : RecorderState) (c : BookState) (had has : List Message) (qs : List Question) (u w : Unsent) (e : Unrecorded) → Records r c (Err e) r' → has ≡ had → w ≡ u
-    → GivesNone r c (outbox had qs u) r' (outbox has qs w)
+pub gives_none : (r r' : RecorderState) (c : BookState) (had has : List Message) (qs : List Question) (u w : Unsent) (e : Unrecorded) → Records r c (Err e) r'
+    → has ≡ had → w ≡ u → GivesNone r c (outbox had qs u) r' (outbox has qs w)
 gives_none r r' c had has qs u w e records waits counts = record { why = e; unwritten = records; same = λ i. outbox (waits i) qs (counts i) }

@@ -78,16 +78,17 @@ got_byte a b (Some x) some h = (x, h)
 got_byte a b None some h = absurd (subst NotTrue some tt)
 
 -- one byte more was passed over
-pub passed_byte : (a b c : Option (List ℕ)) (at : ℕ) (o : Option ℕ) → (done : List ℕ) × (length done ≡ at) × Consumes a b done → (is_some o ≡ true) → Got (λ (b : ℕ). b ∷ []) 1 b c o
-    → (done : List ℕ) × (length done ≡ at + 1) × Consumes a c done
+pub passed_byte : (a b c : Option (List ℕ)) (at : ℕ) (o : Option ℕ) → (done : List ℕ) × (length done ≡ at) × Consumes a b done → (is_some o ≡ true)
+    → Got (λ (b : ℕ). b ∷ []) 1 b c o → (done : List ℕ) × (length done ≡ at + 1) × Consumes a c done
 passed_byte a b c at o before some h =
     let (byte, last) = got_byte b c o some h in
     let (done, len, consumed) = before in
     (done ++ byte ∷ [], omega (arith, len, length-append done (byte ∷ [])), Consumes-trans a b c done (byte ∷ []) consumed last)
 
 -- the input ended within a place, behind what was read of the request
-pub ended_at : (version : Version) (a b c : Option (List ℕ)) (place : Place) (front first : List ℕ) → IsPlace version place → front ++ first ≡ before place → Consumes a b first
-    → (part : List ℕ) × Consumes b c part × (length part < wanted place) × IsAtEnd c → (x : List ℕ) × Consumes a c x × IsCut version (front ++ x) × IsAtEnd c
+pub ended_at : (version : Version) (a b c : Option (List ℕ)) (place : Place) (front first : List ℕ) → IsPlace version place → front ++ first ≡ before place
+    → Consumes a b first → (part : List ℕ) × Consumes b c part × (length part < wanted place) × IsAtEnd c
+    → (x : List ℕ) × Consumes a c x × IsCut version (front ++ x) × IsAtEnd c
 ended_at version a b c place front first allowed whole consumed ended =
     let (part, rest, few, end) = ended in (
       first ++ part,
@@ -123,7 +124,8 @@ pub blob_whole : (len : ℕ) (a b : Option (List ℕ)) (p : ReadBlob) (bytes : L
 blob_whole len a b p bytes is h = subst (GotBlob len a b) is h
 
 -- the notes behind a text
-pub notes_read : (version : Version) (text notes : List ℕ) (len : ℕ) (a b c : Option (List ℕ)) → length text ≤ most_text → len ≤ most_notes version → Consumes a b (number_bytes 4 len) → Consumes b c notes × (length notes ≡ len)
+pub notes_read : (version : Version) (text notes : List ℕ) (len : ℕ) (a b c : Option (List ℕ)) → length text ≤ most_text → len ≤ most_notes version
+    → Consumes a b (number_bytes 4 len) → Consumes b c notes × (length notes ≡ len)
     → (x : List ℕ) × Consumes a c x × IsRequest version (Register text notes) × (to_text text ++ x ≡ spelling (Register text notes))
 notes_read version text notes len a b c few small first second =
     let x = number_bytes 4 len ++ notes in
@@ -133,7 +135,8 @@ notes_read version text notes len a b c few small first second =
     (x, Consumes-trans a b c (number_bytes 4 len) notes first second.0, (few, omega (arith, small, second.1)), same)
 
 -- a text, and what is behind it
-pub text_read : {E : Type 0} (version : Version) (a b c d : Option (List ℕ)) (len : ℕ) (text : List ℕ) (r : Result Incoming E) → Consumes a b (number_bytes 4 len) → Consumes b c text × (length text ≡ len) → len ≤ most_text
+pub text_read : {E : Type 0} (version : Version) (a b c d : Option (List ℕ)) (len : ℕ) (text : List ℕ) (r : Result Incoming E)
+    → Consumes a b (number_bytes 4 len) → Consumes b c text × (length text ≡ len) → len ≤ most_text
     → ((whole : List ℕ) → length whole ≤ most_text → whole ≡ text → GetsNext version (to_text whole) c d r) → GetsNext version (1 ∷ []) a d r
 text_read version a b c d len text r first second small behind =
     let consumed = Consumes-trans a b c (number_bytes 4 len) text first second.0 in

@@ -14,15 +14,16 @@ use Rattle.q_net.specs.Replies.{Replies, Registers, of_registered}
 pub none_sent : {P : List Message → Type 0} (had has : List Message) → has ≡ had → P [] → (outs : List Message) × P outs × (has ≡ had ++ outs)
 none_sent had has same p = ([], p, same ∙ sym (append-nil had))
 
-pub registers_replies : (b c : BookState) (request : Request) (text notes bytes more : List ℕ) (r : Registered) (said : Reply) → request ≡ Register text notes → bytes ≡ text → more ≡ notes
-    → Registers b bytes more r c → said ≡ of_registered r → Replies b request said [] c
+pub registers_replies : (b c : BookState) (request : Request) (text notes bytes more : List ℕ) (r : Registered) (said : Reply) → request ≡ Register text notes
+    → bytes ≡ text → more ≡ notes → Registers b bytes more r c → said ≡ of_registered r → Replies b request said [] c
 registers_replies b c request text notes bytes more r said is first second done reply =
     subst (λ (q : Request). Replies b q said [] c) (sym is)
     (r, subst (λ (n : List ℕ). Registers b text n r c) second (subst (λ (t : List ℕ). Registers b t more r c) first done), reply, refl)
 
 -- a store that was replied to, of either form
-pub store_replies : (form : List ℕ → Request) (b c : BookState) (request : Request) (value bytes : List ℕ) (had has : List Message) (said : Reply) → request ≡ form value → bytes ≡ value
-    → (outs : List Message) × Replies b (form bytes) said outs c × (has ≡ had ++ outs) → (outs : List Message) × Replies b request said outs c × (has ≡ had ++ outs)
+pub store_replies : (form : List ℕ → Request) (b c : BookState) (request : Request) (value bytes : List ℕ) (had has : List Message) (said : Reply)
+    → request ≡ form value → bytes ≡ value → (outs : List Message) × Replies b (form bytes) said outs c × (has ≡ had ++ outs)
+    → (outs : List Message) × Replies b request said outs c × (has ≡ had ++ outs)
 store_replies form b c request value bytes had has said is same h =
     (h.0, subst (λ (q : Request). Replies b q said h.0 c) (sym is) (subst (λ (v : List ℕ). Replies b (form v) said h.0 c) same h.1), h.2)
 

@@ -138,23 +138,25 @@ end_broken P input mid left before between after b c d had has more (Err f) e h 
     then_broken input mid left before between after b c d had has more read part s consumed written at_hand
 
 pub goes_on : (input mid left before between after : Option (List ℕ)) (b c d : BookState) (had has more : List Message) (on : Bool)
-    → Served input mid before between b c had has → on ≡ true → IsTaken b.version mid left between after c d has more on → Served input left before after b d had more
+    → Served input mid before between b c had has → on ≡ true → IsTaken b.version mid left between after c d has more on
+    → Served input left before after b d had more
 goes_on input mid left before between after b c d had has more on s is turn =
     let t : IsTaken b.version mid left between after c d has more true = subst (IsTaken b.version mid left between after c d has more) is turn in
     let (r, said, outs, legal, consumed, replied, grown, written) = t in
     served_more input mid left before between after b c d had has more r said outs s legal consumed replied grown written
 
 -- requests stop
-pub stops : (version : Version) (input left before after : Option (List ℕ)) (b : BookState) (had : List Message) (n : Incoming) (stop : StreamEnd) (number : ℕ) → n ≡ next.Ended stop → IsGot version [] input left n
-    → number ≡ stop_number stop → Appends before after (number ∷ []) → IsTaken version input left before after b b had had false
+pub stops : (version : Version) (input left before after : Option (List ℕ)) (b : BookState) (had : List Message) (n : Incoming) (stop : StreamEnd) (number : ℕ)
+    → n ≡ next.Ended stop → IsGot version [] input left n → number ≡ stop_number stop → Appends before after (number ∷ [])
+    → IsTaken version input left before after b b had had false
 stops version input left before after b had n stop number is got said written =
     let g : IsGot version [] input left (next.Ended stop) = subst (IsGot version [] input left) is got in
     let (bytes, consumed, is_stop, read) = g in
     (Some stop, bytes, is_stop, consumed, read, subst (λ (k : ℕ). Appends before after (k ∷ [])) said written, refl, refl)
 
 -- there was no memory for the bytes of a registration
-pub loses : (version : Version) (input left before after : Option (List ℕ)) (b : BookState) (had : List Message) (n : Incoming) → n ≡ next.Lost → IsGot version [] input left n
-    → Appends before after (99 ∷ []) → IsTaken version input left before after b b had had true
+pub loses : (version : Version) (input left before after : Option (List ℕ)) (b : BookState) (had : List Message) (n : Incoming) → n ≡ next.Lost
+    → IsGot version [] input left n → Appends before after (99 ∷ []) → IsTaken version input left before after b b had had true
 loses version input left before after b had n is got written =
     let g : IsGot version [] input left next.Lost = subst (IsGot version [] input left) is got in
     let (bytes, consumed, lost, read) = g in

@@ -25,21 +25,21 @@ why_by : (b : Bool)
 why_by true = inl refl
 why_by false = inr refl
 
-said_by : (node : ℕ) (b c : BookState) (had has : List Message) (r : Result (Unit {0}) Reason) (written : Bool) (recorder : RecorderState) → IsBookOf node b → Leaves b had r c has
-    → IsSaidToLeave node (said_to_leave r written recorder)
+said_by : (node : ℕ) (b c : BookState) (had has : List Message) (r : Result (Unit {0}) Reason) (written : Bool) (recorder : RecorderState) → IsBookOf node b
+    → Leaves b had r c has → IsSaidToLeave node (said_to_leave r written recorder)
 said_by node b c had has (Err f) written recorder own h = inl (b, c, had, has, f, own, h, refl)
 said_by node b c had has (Ok u) true recorder own h = (b, c, had, has, own, h)
 said_by node b c had has (Ok u) false recorder own h = inr (why_by recorder.broken)
 
 -- what is said is what some book of the node gives
-pub says_left : (node : ℕ) (old : OwnState) (told : Said) (letters : Option (List Letter)) (new : OwnState) → IsBookOf node old.book → LeavesAndSettles old told letters new
-    → IsSaidToLeave node told
+pub says_left : (node : ℕ) (old : OwnState) (told : Said) (letters : Option (List Letter)) (new : OwnState) → IsBookOf node old.book
+    → LeavesAndSettles old told letters new → IsSaidToLeave node told
 says_left node old told letters new own l =
     subst (IsSaidToLeave node) (sym l.says)
     (said_by node old.book l.settled.book old.waiting l.settled.waiting l.left (is_some letters) new.recorder own l.settled.happened.0)
 
-undone_by : (b c : BookState) (had has : List Message) (r : Result (Unit {0}) Reason) (written : Bool) (recorder : RecorderState) (f : Reason) → left b ≡ Err f → Leaves b had r c has
-    → said.Done ≡ said_to_leave r written recorder → ⊥
+undone_by : (b c : BookState) (had has : List Message) (r : Result (Unit {0}) Reason) (written : Bool) (recorder : RecorderState) (f : Reason) → left b ≡ Err f
+    → Leaves b had r c has → said.Done ≡ said_to_leave r written recorder → ⊥
 undone_by b c had has (Ok u) written recorder f refused h s = let x = sym refused ∙ h.1 in absurd cc
 undone_by b c had has (Err g) written recorder f refused h s = absurd cc
 

@@ -7,12 +7,12 @@ use Rattle.q_node.specs.State.{OwnState}
 use Rattle.q_node.specs.Calls.{IsGiven, is_behind, is_told}
 
 -- by what waits, how much is written and the journal
-pub behind_by : (o : OwnState) (waiting : List Message) (written : ℕ) (journal : List Entry) → o.waiting ≡ waiting → o.recorder.written ≡ written → o.book.desk.journal ≡ journal
-    → is_behind o ≡ (not (length waiting == 0) || not (written == length journal))
+pub behind_by : (o : OwnState) (waiting : List Message) (written : ℕ) (journal : List Entry) → o.waiting ≡ waiting → o.recorder.written ≡ written
+    → o.book.desk.journal ≡ journal → is_behind o ≡ (not (length waiting == 0) || not (written == length journal))
 behind_by o waiting written journal waits count entries = λ i. not (length (waits i) == 0) || not (count i == length (entries i))
 
-pub told_by : (o : OwnState) (broken : Bool) (written : ℕ) (journal : List Entry) → o.recorder.broken ≡ broken → o.recorder.written ≡ written → o.book.desk.journal ≡ journal
-    → is_told o ≡ (not broken && (written == length journal))
+pub told_by : (o : OwnState) (broken : Bool) (written : ℕ) (journal : List Entry) → o.recorder.broken ≡ broken → o.recorder.written ≡ written
+    → o.book.desk.journal ≡ journal → is_told o ≡ (not broken && (written == length journal))
 told_by o broken written journal sound count entries = λ i. not (sound i) && (count i == length (entries i))
 
 pub untold_by : (o : OwnState) → o.recorder.broken ≡ true → is_told o ≡ false

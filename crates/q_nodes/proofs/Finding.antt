@@ -23,8 +23,9 @@ use Rattle.q_nodes.specs.declared.outcome.Outcome.TheVariants as outcome
 
 -- ---- programs
 
-pub program_is : (c : ClusterState) (node id : ℕ) (code : List ℕ) (b : BookState) (p : Certificate) (is : Bool) → Some b ≡ book_at c node → Some p ≡ slice_get b.desk.programs id
-    → MatchBool is (code ≡ spelling p.text) (code ≡ spelling p.text → ⊥) → MatchBool is (IsProgramOf c node id code) (IsProgramOf c node id code → ⊥)
+pub program_is : (c : ClusterState) (node id : ℕ) (code : List ℕ) (b : BookState) (p : Certificate) (is : Bool) → Some b ≡ book_at c node
+    → Some p ≡ slice_get b.desk.programs id → MatchBool is (code ≡ spelling p.text) (code ≡ spelling p.text → ⊥)
+    → MatchBool is (IsProgramOf c node id code) (IsProgramOf c node id code → ⊥)
 program_is c node id code b p true at has spelled = record { book = b; at = sym at; program = p; numbered = sym has; spelled = spelled }
 program_is c node id code b p false at has other = λ h.
     let same : b ≡ h.book = same_some b h.book (at ∙ h.at) in
@@ -37,8 +38,8 @@ pub no_store : (c : ClusterState) (node tag : ℕ) (bytes : List ℕ) → ((o : 
     → IsStoreOf c node tag bytes o → ⊥
 no_store c node tag bytes none o h = none o h.among h.by h.tagged
 
-pub other_store : (c : ClusterState) (node tag : ℕ) (bytes : List ℕ) (op : Op) → IsOnly c.past.ops node tag op → ((e : Entry) → kind_of op.session ≡ kind.Store e → e.value ≡ bytes → ⊥)
-    → (o : Op) → IsStoreOf c node tag bytes o → ⊥
+pub other_store : (c : ClusterState) (node tag : ℕ) (bytes : List ℕ) (op : Op) → IsOnly c.past.ops node tag op
+    → ((e : Entry) → kind_of op.session ≡ kind.Store e → e.value ≡ bytes → ⊥) → (o : Op) → IsStoreOf c node tag bytes o → ⊥
 other_store c node tag bytes op only other o h =
     let same : o ≡ op = only.only o h.among h.by h.tagged in
     other h.entry (ap (λ (x : Op). kind_of x.session) (sym same) ∙ h.kind) h.value
@@ -54,8 +55,8 @@ store_lost c node tag value none h = none h.0 h.1
 
 -- ---- queries
 
-pub query_is : (c : ClusterState) (node query program start : ℕ) (b : BookState) (q : Query) → Some b ≡ book_at c node → Some q ≡ slice_get b.desk.queries query → q.program ≡ program → q.start ≡ start
-    → IsQueryOf c node query program start q
+pub query_is : (c : ClusterState) (node query program start : ℕ) (b : BookState) (q : Query) → Some b ≡ book_at c node → Some q ≡ slice_get b.desk.queries query
+    → q.program ≡ program → q.start ≡ start → IsQueryOf c node query program start q
 query_is c node query program start b q at there names begins = record { book = b; at = sym at; numbered = sym there; names = names; begins = begins }
 
 -- the query that stands there is the one that is looked for
@@ -65,13 +66,13 @@ that_query c node query program start b x q at there h =
     let same : b ≡ h.book = same_some b h.book (at ∙ h.at) in
     same_some x q (there ∙ ap (λ (y : BookState). slice_get y.desk.queries query) same ∙ h.numbered)
 
-pub other_program : (c : ClusterState) (node query program start : ℕ) (b : BookState) (x : Query) → Some b ≡ book_at c node → Some x ≡ slice_get b.desk.queries query → (x.program ≡ program → ⊥)
-    → (q : Query) → IsQueryOf c node query program start q → ⊥
+pub other_program : (c : ClusterState) (node query program start : ℕ) (b : BookState) (x : Query) → Some b ≡ book_at c node
+    → Some x ≡ slice_get b.desk.queries query → (x.program ≡ program → ⊥) → (q : Query) → IsQueryOf c node query program start q → ⊥
 other_program c node query program start b x at there other q h =
     other (ap (λ (y : Query). y.program) (that_query c node query program start b x q at there h) ∙ h.names)
 
-pub other_start : (c : ClusterState) (node query program start : ℕ) (b : BookState) (x : Query) → Some b ≡ book_at c node → Some x ≡ slice_get b.desk.queries query → (x.start ≡ start → ⊥)
-    → (q : Query) → IsQueryOf c node query program start q → ⊥
+pub other_start : (c : ClusterState) (node query program start : ℕ) (b : BookState) (x : Query) → Some b ≡ book_at c node
+    → Some x ≡ slice_get b.desk.queries query → (x.start ≡ start → ⊥) → (q : Query) → IsQueryOf c node query program start q → ⊥
 other_start c node query program start b x at there other q h =
     other (ap (λ (y : Query). y.start) (that_query c node query program start b x q at there h) ∙ h.begins)
 
@@ -80,7 +81,8 @@ pub query_lost : (c : ClusterState) (node program start query : ℕ) → ((q : Q
 query_lost c node program start query none h = none h.0 h.1
 
 -- what is tested of the bytes is so of the program that the node has
-pub program_tested : {E : Type 0} (c : ClusterState) (node id : ℕ) (code : List ℕ) (b : BookState) (p : Certificate) (r : Result Bool E) → Some b ≡ book_at c node → Some p ≡ slice_get b.desk.programs id
-    → IfOk r (λ is. MatchBool is (code ≡ spelling p.text) (code ≡ spelling p.text → ⊥)) → IfOk r (λ has. MatchBool has (IsProgramOf c node id code) (IsProgramOf c node id code → ⊥))
+pub program_tested : {E : Type 0} (c : ClusterState) (node id : ℕ) (code : List ℕ) (b : BookState) (p : Certificate) (r : Result Bool E)
+    → Some b ≡ book_at c node → Some p ≡ slice_get b.desk.programs id → IfOk r (λ is. MatchBool is (code ≡ spelling p.text) (code ≡ spelling p.text → ⊥))
+    → IfOk r (λ has. MatchBool has (IsProgramOf c node id code) (IsProgramOf c node id code → ⊥))
 program_tested c node id code b p (Ok is) at has spelled = program_is c node id code b p is at has spelled
 program_tested c node id code b p (Err e) at has spelled = tt

@@ -65,8 +65,8 @@ true_answer law c node query program start q ran history is e =
       };
     }
 
-told_answer : EveryAnswer → (nodes : ℕ) (c : ClusterState) (node program start by query : ℕ) (ran : Ran) → IsHistory c → IsTold nodes c (line.Ask node program start) (Asked by query (Some ran))
-    → (by ≡ node) × IsTrueAnswer c node query (program_id program) start ran
+told_answer : EveryAnswer → (nodes : ℕ) (c : ClusterState) (node program start by query : ℕ) (ran : Ran) → IsHistory c
+    → IsTold nodes c (line.Ask node program start) (Asked by query (Some ran)) → (by ≡ node) × IsTrueAnswer c node query (program_id program) start ran
 told_answer law nodes c node program start by query ran history told =
     let (there, same, found) = told in
     (same, true_answer law c node query (program_id program) start found.0 ran history found.1 found.2)

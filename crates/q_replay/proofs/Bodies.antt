@@ -104,13 +104,16 @@ text_fault d e is form memory = form_is_not_memory (sym (is ∙ ap of_text memor
 notes_fault : (d : NotesFault) (e : ReadFault) → e ≡ of_notes d → e ≡ Form → d ≡ notes.OutOfMemory → ⊥
 notes_fault d e is form memory = form_is_not_memory (sym (is ∙ ap of_notes memory) ∙ form)
 
-pub text_refused : {A : Type 0} (version : Version) (body rest front behind : List ℕ) (n : ℕ) (d : DecodeFault) (r : Result A ReadFault) (e : ReadFault) → r ≡ Err e → e ≡ of_text d → ReadLength body rest n → ReadText rest front behind n
+pub text_refused : {A : Type 0} (version : Version) (body rest front behind : List ℕ) (n : ℕ) (d : DecodeFault) (r : Result A ReadFault) (e : ReadFault)
+    → r ≡ Err e → e ≡ of_text d → ReadLength body rest n → ReadText rest front behind n
     → ((t : List Insn) → IsText t → front ≡ spelling t → d ≡ texts.OutOfMemory) → IfErr r (λ f. f ≡ Form → IsNoBody version 2 body)
 text_refused version body rest front behind n d r e is of read text all =
     passed (IsNoBody version 2 body) r e is (λ form. no_text version body rest front behind n read text (λ t p q. text_fault d e of form (all t p q)))
 
-pub notes_refused : {A : Type 0} (version : Version) (body rest front behind : List ℕ) (n : ℕ) (d : NotesFault) (r : Result A ReadFault) (e : ReadFault) → r ≡ Err e → e ≡ of_notes d → ReadLength body rest n → ReadText rest front behind n
-    → ((ns : List (Option StateKinds)) → IsNotes (form_of version) ns → behind ≡ notes_bytes (form_of version) ns → d ≡ notes.OutOfMemory) → IfErr r (λ f. f ≡ Form → IsNoBody version 2 body)
+pub notes_refused : {A : Type 0} (version : Version) (body rest front behind : List ℕ) (n : ℕ) (d : NotesFault) (r : Result A ReadFault) (e : ReadFault)
+    → r ≡ Err e → e ≡ of_notes d → ReadLength body rest n → ReadText rest front behind n
+    → ((ns : List (Option StateKinds)) → IsNotes (form_of version) ns → behind ≡ notes_bytes (form_of version) ns → d ≡ notes.OutOfMemory)
+    → IfErr r (λ f. f ≡ Form → IsNoBody version 2 body)
 notes_refused version body rest front behind n d r e is of read text all =
     passed (IsNoBody version 2 body) r e is (λ form. no_notes version body rest front behind n read text (λ ns p q. notes_fault d e of form (all ns p q)))
 

@@ -126,8 +126,8 @@ unanswered : OneLongest → (b : BookState) (k : ℕ) (r : Ran) → IsWritten b.
 unanswered one b k r legal none c t = none (takes_as one b _ c (entry.Post k r) (legal, tt) refl t).1
 
 -- the job of a query is not run, or its answer is another
-pub unrun : OneLongest → (b : BookState) (k : ℕ) (r : Ran) (e : Refusal) (x : Result (Unit {0}) Refusal) → IsErrAnd x (λ y. y ≡ e) → IsWritten b.version (written.Post k r.acc r.steps)
-    → (e ≡ Mismatch → IsAnswering b (entry.Post k r) → ⊥) → Taking b (written.Post k r.acc r.steps) b x
+pub unrun : OneLongest → (b : BookState) (k : ℕ) (r : Ran) (e : Refusal) (x : Result (Unit {0}) Refusal) → IsErrAnd x (λ y. y ≡ e)
+    → IsWritten b.version (written.Post k r.acc r.steps) → (e ≡ Mismatch → IsAnswering b (entry.Post k r) → ⊥) → Taking b (written.Post k r.acc r.steps) b x
 unrun one b k r e (Ok u) is legal none = absurd is
 unrun one b k r e (Err Mismatch) is legal none = unanswered one b k r legal (none (sym is))
 unrun one b k r e (Err OutOfMemory) is legal none = tt
@@ -136,8 +136,8 @@ unrun one b k r e (Err OutOfMemory) is legal none = tt
 
 -- the events are read in the version of the book
 
-pub next_leads : (bytes : List ℕ) (n : ℕ) (b c : BookState) (version : Version) (w : RawEntry) (rest more : List ℕ) → Leads bytes n b rest → version ≡ b.version → IsWritten version w → rest ≡ event_bytes version w ++ more → Takes b w c
-    → Leads bytes (n + 1) c more
+pub next_leads : (bytes : List ℕ) (n : ℕ) (b c : BookState) (version : Version) (w : RawEntry) (rest more : List ℕ) → Leads bytes n b rest → version ≡ b.version
+    → IsWritten version w → rest ≡ event_bytes version w ++ more → Takes b w c → Leads bytes (n + 1) c more
 next_leads bytes n b c version w rest more l own legal parts t =
     subst (λ (k : ℕ). Leads bytes k c more) (sym (add-one n))
     (leads_next bytes n b c w rest more l (subst (λ (x : Version). IsWritten x w) own legal) (parts ∙ ap (λ (x : Version). event_bytes x w ++ more) own) t)
@@ -148,8 +148,9 @@ next_form bytes n b version rest l own more none =
     subst (λ (k : ℕ). IsFault bytes (fault.Form k)) (sym (add-one n))
     (record { book = b; rest = rest; leads = l; more = more; none = subst (λ (x : Version). BeginsNone (event_bytes x) (IsWritten x) rest) own none })
 
-pub next_mismatch : (bytes : List ℕ) (n : ℕ) (b : BookState) (version : Version) (w : RawEntry) (rest more : List ℕ) → Leads bytes n b rest → version ≡ b.version → IsWritten version w → rest ≡ event_bytes version w ++ more
-    → ((c : BookState) → Takes b w c → ⊥) → IsFault bytes (fault.Mismatch (n + 1))
+pub next_mismatch : (bytes : List ℕ) (n : ℕ) (b : BookState) (version : Version) (w : RawEntry) (rest more : List ℕ) → Leads bytes n b rest
+    → version ≡ b.version → IsWritten version w → rest ≡ event_bytes version w ++ more → ((c : BookState) → Takes b w c → ⊥)
+    → IsFault bytes (fault.Mismatch (n + 1))
 next_mismatch bytes n b version w rest more l own legal parts refused =
     subst (λ (k : ℕ). IsFault bytes (fault.Mismatch k)) (sym (add-one n)) (record {
       book = b;

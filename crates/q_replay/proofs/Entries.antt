@@ -37,7 +37,8 @@ OneLongest = (text : List Insn) (m n : ℕ) → IsLongest text m → IsLongest t
 
 abbrev pub OneAnswer : Type 0
 OneAnswer =
-    (text : List Insn) (records : List (List ℕ)) (start answer steps other count : ℕ) → IsAnswer text records start answer steps → IsAnswer text records start other count → (answer ≡ other) × (steps ≡ count)
+    (text : List Insn) (records : List (List ℕ)) (start answer steps other count : ℕ) → IsAnswer text records start answer steps
+    → IsAnswer text records start other count → (answer ≡ other) × (steps ≡ count)
 
 -- a right answer is the only one
 pub right_one : OneAnswer → (j : Job) (ran other : Ran) → IsRight j.certified j.view j.start ran → IsRight j.certified j.view j.start other → ran ≡ other

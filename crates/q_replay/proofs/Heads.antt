@@ -43,12 +43,12 @@ module _ (version : Version) (bytes r1 : List ℕ) (first : bytes ≡ 0x42 ∷ 0
   pub no_config : (r2 : List ℕ) (id : ℕ) → id < 2 ^ 64 → r1 ≡ number_bytes 8 id ++ r2 → length r2 < 8 → BeginsNone head_bytes IsHead bytes
   no_config r2 id fits second short = behind_id r2 id fits second (none_first config_bytes start_bytes AreShort AreFounders r2 (no_fractions r2 short))
 
-  pub no_founders : (r2 r3 : List ℕ) (id : ℕ) (c : Config) → id < 2 ^ 64 → r1 ≡ number_bytes 8 id ++ r2 → AreShort c → r2 ≡ config_bytes c ++ r3 → BeginsNone start_bytes AreFounders r3
-      → BeginsNone head_bytes IsHead bytes
+  pub no_founders : (r2 r3 : List ℕ) (id : ℕ) (c : Config) → id < 2 ^ 64 → r1 ≡ number_bytes 8 id ++ r2 → AreShort c → r2 ≡ config_bytes c ++ r3
+      → BeginsNone start_bytes AreFounders r3 → BeginsNone head_bytes IsHead bytes
   no_founders r2 r3 id c fits second short third left = behind_id r2 id fits second (none_second config_bytes start_bytes AreShort AreFounders r2 configs_are_code c r3 short third left)
 
-pub head_parts : (bytes r1 r2 r3 r4 : List ℕ) (h : Head) → bytes ≡ 0x42 ∷ 0x51 ∷ 0x4a ∷ version_byte h.version ∷ r1 → r1 ≡ number_bytes 8 h.id ++ r2 → r2 ≡ config_bytes h.config ++ r3 → r3 ≡ start_bytes h.founders ++ r4
-    → bytes ≡ head_bytes h ++ r4
+pub head_parts : (bytes r1 r2 r3 r4 : List ℕ) (h : Head) → bytes ≡ 0x42 ∷ 0x51 ∷ 0x4a ∷ version_byte h.version ∷ r1 → r1 ≡ number_bytes 8 h.id ++ r2
+    → r2 ≡ config_bytes h.config ++ r3 → r3 ≡ start_bytes h.founders ++ r4 → bytes ≡ head_bytes h ++ r4
 head_parts bytes r1 r2 r3 r4 h first second third fourth =
     let tail = parts_on (config_bytes h.config) (start_bytes h.founders) r2 r3 r4 third fourth in
     first ∙ ap (λ (l : List ℕ). 0x42 ∷ 0x51 ∷ 0x4a ∷ version_byte h.version ∷ l) (parts_on (number_bytes 8 h.id) (config_bytes h.config ++ start_bytes h.founders) r1 r2 r4 second tail)

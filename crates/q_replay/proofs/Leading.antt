@@ -144,7 +144,8 @@ settle us vs b c rest more (inr (inl o)) stop halt = absurd (stop o)
 settle us vs b c rest more (inr (inr o)) stop halt = absurd (halt o)
 
 module _ (one_longest : OneLongest) (one_head : OneHead) (one_event : OneEvent) where
-  walk : (version : Version) (us vs : List RawEntry) (first b c : BookState) (rest more : List ℕ) → first.version ≡ version → AllByRecursion (IsWritten version) us → AllByRecursion (IsWritten version) vs → TakesAll first us b → TakesAll first vs c
+  walk : (version : Version) (us vs : List RawEntry) (first b c : BookState) (rest more : List ℕ) → first.version ≡ version
+      → AllByRecursion (IsWritten version) us → AllByRecursion (IsWritten version) vs → TakesAll first us b → TakesAll first vs c
       → flat_map (event_bytes version) us ++ rest ≡ flat_map (event_bytes version) vs ++ more → Compared us vs b c rest more
   walk version [] [] first b c rest more own p q s t h = inl (record { book = s ∙ sym t; left = h; many = refl })
   walk version [] (v ∷ vs) first b c rest more own p q s t h =

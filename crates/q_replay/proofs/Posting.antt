@@ -32,8 +32,8 @@ pub record Runs (d : DeskState) (node k : ℕ) (j : Job) : Type 0 where
   pub is : job_by node k query view program ≡ j
 
 module _ (d : DeskState) (node k : ℕ) where
-  pub runs_job : (q : Query) (view : ViewMap) (program : Certificate) → slice_get d.queries k ≡ Some q → q.phase ≡ Running view → slice_get d.programs q.program ≡ Some program
-      → running_job d node k ≡ Some (job_by node k q view program)
+  pub runs_job : (q : Query) (view : ViewMap) (program : Certificate) → slice_get d.queries k ≡ Some q → q.phase ≡ Running view
+      → slice_get d.programs q.program ≡ Some program → running_job d node k ≡ Some (job_by node k q view program)
   runs_job q view program at phase named =
       ap (job_at running_view d node k) at ∙ ap (λ (p : Phase). job_on node k q (running_view p) (slice_get d.programs q.program)) phase ∙ ap (job_on node k q (running_view (Running view))) named
 

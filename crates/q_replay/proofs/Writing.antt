@@ -85,8 +85,8 @@ written_none b es version h j own same head is = record {
   legal = subst (AllByRecursion (IsEntry b.version)) (sym (take_none es)) tt;
 }
 
-pub written_more : (b : BookState) (es : List Entry) (k : ℕ) (e : Entry) (old new : JournalBytes) → k < length es → e ≡ get_or es k e → IsWrittenTo b es k old → IsEntry old.version e
-    → new ≡ with_more old (event_bytes old.version (written_of e)) → IsWrittenTo b es (k + 1) new
+pub written_more : (b : BookState) (es : List Entry) (k : ℕ) (e : Entry) (old new : JournalBytes) → k < length es → e ≡ get_or es k e → IsWrittenTo b es k old
+    → IsEntry old.version e → new ≡ with_more old (event_bytes old.version (written_of e)) → IsWrittenTo b es (k + 1) new
 written_more b es k e old new within at w legal is =
     let more : take (k + 1) es ≡ take k es ++ e ∷ [] = take_more es k e within ∙ ap (λ (x : Entry). take k es ++ x ∷ []) (sym at) in
     record {
@@ -100,8 +100,8 @@ written_more b es k e old new within at w legal is =
       legal = subst (AllByRecursion (IsEntry b.version)) (sym more) (all_push (IsEntry b.version) (take k es) e w.legal (subst (λ (x : Version). IsEntry x e) w.version legal));
     }
 
-pub written_all : (b : BookState) (es : List Entry) (k : ℕ) (j : JournalBytes) → IsWrittenTo b es k j → es ≡ b.desk.journal → length es ≤ k → IsConfig b.config → IsReplay b → AnswersAreRight b.desk
-    → (j.bytes ≡ journal_of b) × IsJournalled b
+pub written_all : (b : BookState) (es : List Entry) (k : ℕ) (j : JournalBytes) → IsWrittenTo b es k j → es ≡ b.desk.journal → length es ≤ k → IsConfig b.config
+    → IsReplay b → AnswersAreRight b.desk → (j.bytes ≡ journal_of b) × IsJournalled b
 written_all b es k j w journal long config replay right =
     let all : take k es ≡ b.desk.journal = take_all k es long ∙ journal in (
       w.spelled ∙ ap (λ (x : List Entry). head_bytes (head_of b) ++ entries_bytes b.version x) all,

@@ -57,8 +57,8 @@ still_rise id (n ∷ ns) r =
       | inr (inr more) ↦ subst Rises (sym (behind id n ns more)) (rise_cons n (with_id id ns) (above_more n id ns more (first_above n ns r)) (still_rise id ns (later n ns r)))
     ]
 
-between : (ids : List ℕ) (place id : ℕ) → place ≤ length ids → ((k : ℕ) → k < place → slice_index ids k < id) → ((k : ℕ) → place ≤ k → k < length ids → id < slice_index ids k)
-    → insert ids place id ≡ with_id id ids
+between : (ids : List ℕ) (place id : ℕ) → place ≤ length ids → ((k : ℕ) → k < place → slice_index ids k < id)
+    → ((k : ℕ) → place ≤ k → k < length ids → id < slice_index ids k) → insert ids place id ≡ with_id id ids
 between [] zero id h below above = refl
 between [] (suc p) id h below above = absurd (omega arith)
 between (n ∷ ns) zero id h below above = sym (before id n ns (above 0 (omega arith) (omega arith)))

@@ -109,7 +109,7 @@ plays_led writes [] s before text t after p = led_itself s t p.0
 plays_led writes (l ∷ ls) s before text t after p = led_on s p.0 t (led_on s (at_next_line s) p.0 (led_next s) (does_led writes l (at_next_line s) before p.2 p.0 p.1 p.4)) (plays_led writes ls p.0 p.1 p.3 t after p.5)
 
 -- founders that are not refused are those of the first cluster
-pub founded-ok : (version : Version) (config : Config) (ids : List ℕ) (are : Bool) (c : ClusterState) → (if are then Ok (start version config ids) else Err reasons.BadFounders) ≡ Ok c
-    → start version config ids ≡ c
+pub founded-ok : (version : Version) (config : Config) (ids : List ℕ) (are : Bool) (c : ClusterState)
+    → (if are then Ok (start version config ids) else Err reasons.BadFounders) ≡ Ok c → start version config ids ≡ c
 founded-ok version config ids true c h = same_answer _ c h
 founded-ok version config ids false c h = absurd (no_refusal _ c h)

@@ -10,8 +10,8 @@ use Rattle.q_sim.specs.Simulates.{SimState, Writing, Acts, ActsAs, Does, LeavesF
 use Rattle.q_sim.specs.Seen.{Prints, PrintsOver}
 
 -- the files stay
-pub leaves_files : {X E F : Type 0} (r : Result X E) (does : SimState → List ℕ → SimState → Type 0) (old new : Simulation) (files : F) → OnOk r (Prints does old new)
-    → OnOk r (PrintsOver (LeavesFiles does) old files new files)
+pub leaves_files : {X E F : Type 0} (r : Result X E) (does : SimState → List ℕ → SimState → Type 0) (old new : Simulation) (files : F)
+    → OnOk r (Prints does old new) → OnOk r (PrintsOver (LeavesFiles does) old files new files)
 leaves_files (Err x) does old new files h = tt
 leaves_files (Ok x) does old new files h = (h.0, (h.1, refl), h.2)
 
@@ -28,8 +28,8 @@ does_event writes Pairs e is = absurd cc
 does_event writes (Journal node file) e is = absurd cc
 does_event writes _ e is = ap (λ (o : Option ClusterEvent). LeavesFiles (ActsAs o)) is
 
-pub acted : {X E F : Type 0} (writes : Writing F) (r : Result X E) (old new : Simulation) (files : F) (line : ScriptLine) (e : ClusterEvent) → Some e ≡ event_of line
-    → OnOk r (Prints (Acts e) old new) → OnOk r (PrintsOver (Does writes line) old files new files)
+pub acted : {X E F : Type 0} (writes : Writing F) (r : Result X E) (old new : Simulation) (files : F) (line : ScriptLine) (e : ClusterEvent)
+    → Some e ≡ event_of line → OnOk r (Prints (Acts e) old new) → OnOk r (PrintsOver (Does writes line) old files new files)
 acted {F = F} writes r old new files line e is h =
     subst (λ (does : SimState → F → List ℕ → SimState → F → Type 0). OnOk r (PrintsOver does old files new files)) (sym (does_event writes line e (sym is)))
     (leaves_files r (Acts e) old new files h)

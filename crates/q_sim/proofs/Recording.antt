@@ -48,8 +48,8 @@ now_answered queries k old view ran at =
     ∙ written queries k old (record old { phase = Answered view ran }) at
 
 -- its node's book recorded it
-posted_recorded : (c : ClusterState) (ran : Ran) (j : Job) (x : BookState) (r : Result (Unit {0} × BookState) Reason) (y : ClusterStep × ClusterState) → book.posted x j ran ≡ r
-    → lift (posts c j ran) r ≡ Ok y → IsRecorded y.0 y.1
+posted_recorded : (c : ClusterState) (ran : Ran) (j : Job) (x : BookState) (r : Result (Unit {0} × BookState) Reason) (y : ClusterStep × ClusterState)
+    → book.posted x j ran ≡ r → lift (posts c j ran) r ≡ Ok y → IsRecorded y.0 y.1
 posted_recorded c ran j x (Err e) y is h = absurd (no_refusal _ y h)
 posted_recorded c ran j x (Ok a) y is h =
     let b = desk-ok x (desks.posted x.desk x.id j ran) a is in

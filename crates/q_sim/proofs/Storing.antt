@@ -85,8 +85,10 @@ module _ (c : ClusterState) (id : ℕ) where
     at_all in_it value ran over = by_its_book value reasons.BadValue (λ here. too_long value over b here in_it)
 
 -- what is printed of one
-pub longer_refused : {X E : Type 0} (r : Result X E) (s t : SimState) (node : ℕ) (value : List ℕ) (f : Reason) (before after : List ℕ) → RefusesLonger s.cluster node f → most_bytes < length value
-    → OnOk r (t ≡ refusing (refusal.Cluster f) s) → OnOk r (after ≡ before ++ refusal_line (refusal.Cluster f)) → OnOk r ((text : List ℕ) × Acts (event.Call node (call.Store value)) s text t × (after ≡ before ++ text))
+pub longer_refused : {X E : Type 0} (r : Result X E) (s t : SimState) (node : ℕ) (value : List ℕ) (f : Reason) (before after : List ℕ)
+    → RefusesLonger s.cluster node f → most_bytes < length value → OnOk r (t ≡ refusing (refusal.Cluster f) s)
+    → OnOk r (after ≡ before ++ refusal_line (refusal.Cluster f))
+    → OnOk r ((text : List ℕ) × Acts (event.Call node (call.Store value)) s text t × (after ≡ before ++ text))
 longer_refused (Err x) s t node value f before after refuses over same line = tt
 longer_refused (Ok x) s t node value f before after refuses over same line = (
   refusal_line (refusal.Cluster f),

@@ -51,23 +51,23 @@ module _ (last : ClusterState) (answers : AnswersAreTrue last) where
         };
       }
 
-  ran_true : (c d : ClusterState) (job : ℕ) (text : List ℕ) (refused : Bool) (r : Result ClusterStep Reason) → Takes c (event.Finish job) d r → AnswersStay d last
-      → ((f : Reason) → r ≡ Err f → refused ≡ true) → text ≡ printed d r → IsTrueLine last refused (Run job) text
+  ran_true : (c d : ClusterState) (job : ℕ) (text : List ℕ) (refused : Bool) (r : Result ClusterStep Reason) → Takes c (event.Finish job) d r
+      → AnswersStay d last → ((f : Reason) → r ≡ Err f → refused ≡ true) → text ≡ printed d r → IsTrueLine last refused (Run job) text
   ran_true c d job text refused (Err f) h stays told is = inr (f, is, told f refl)
   ran_true c d job text refused (Ok stepped) h stays told is = inl (recorded_true d stepped text (finish_recorded c h.ran (slice_get c.jobs job) (stepped, d) h.stepped) stays is)
 
 -- the answers of each cluster on the way from the first to the last stay
 module _ (first : ClusterState) (last : SimState) (stays : (c : ClusterState) → Leads first c → Leads c last.cluster → AnswersStay c last.cluster) (answers : AnswersAreTrue last.cluster) where
-  line_true : {F : Type 0} (writes : Writing F) (l : ScriptLine) (s : SimState) (before : F) (text : List ℕ) (t : SimState) (after : F) → Leads first s.cluster → IsLed t last
-      → Does writes l s before text t after → IsTrueLine last.cluster (is_any last.faults) l text
+  line_true : {F : Type 0} (writes : Writing F) (l : ScriptLine) (s : SimState) (before : F) (text : List ℕ) (t : SimState) (after : F) → Leads first s.cluster
+      → IsLed t last → Does writes l s before text t after → IsTrueLine last.cluster (is_any last.faults) l text
   line_true writes (Run job) s before text t after h k d =
       let road = leads_on first s.cluster t.cluster h (acts_led (event.Finish job) s text t d.0).leads in
       ran_true last.cluster answers s.cluster t.cluster job text (is_any last.faults) d.0.result d.0.takes (stays t.cluster road k.leads)
       (λ f is. k.refused (ap is_any (d.0.faults ∙ ap (λ (r : Result ClusterStep Reason). or_refused s.line r s.faults) is) ∙ any_with s.faults s.line (Cluster f))) d.0.says
   line_true writes l s before text t after h k d = tt
 
-  lines_true : {F : Type 0} (writes : Writing F) (ls : List ScriptLine) (s : SimState) (before : F) (text : List ℕ) (after : F) → Leads first s.cluster → Plays writes ls s before text last after
-      → AreTrueLines last.cluster (is_any last.faults) ls text
+  lines_true : {F : Type 0} (writes : Writing F) (ls : List ScriptLine) (s : SimState) (before : F) (text : List ℕ) (after : F) → Leads first s.cluster
+      → Plays writes ls s before text last after → AreTrueLines last.cluster (is_any last.faults) ls text
   lines_true writes [] s before text after h p = p.2
   lines_true writes (l ∷ ls) s before text after h p = (
     p.2,

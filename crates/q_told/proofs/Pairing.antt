@@ -32,8 +32,8 @@ with_one_more : (is : Op → Op → Bool) (s : Op) (ops : List Op) (c : Op) → 
 with_one_more is s ops c =
     ap (map (λ d. (s, d))) (filter-append (is s) ops (c ∷ [])) ∙ map-append (λ d. (s, d)) (filter (is s) ops) (filter (is s) (c ∷ []))
 
-pub paired : (is : Op → Op → Bool) (s : Op) (ops more : List Op) (c : Op) (x y z : List ℕ) → more ≡ ops ++ c ∷ [] → is s c ≡ true → AddsPairs (pairs_with is s ops) x y → AddsPairs ((s, c) ∷ []) y z
-    → AddsPairs (pairs_with is s more) x z
+pub paired : (is : Op → Op → Bool) (s : Op) (ops more : List Op) (c : Op) (x y z : List ℕ) → more ≡ ops ++ c ∷ [] → is s c ≡ true
+    → AddsPairs (pairs_with is s ops) x y → AddsPairs ((s, c) ∷ []) y z → AddsPairs (pairs_with is s more) x z
 paired is s ops more c x y z e told p q =
     subst (λ ps. AddsPairs ps x z)
     (sym (ap (pairs_with is s) e ∙ with_one_more is s ops c ∙ ap (λ b. pairs_with is s ops ++ map (λ d. (s, d)) (cond b (c ∷ []) [])) told))
@@ -47,8 +47,8 @@ unpaired is s ops more c x y e untold p =
 
 -- ---- the pairs of each operation
 
-pub one_more_store : (is : Op → Op → Bool) (all ops more : List Op) (s : Op) (x y z : List ℕ) → more ≡ ops ++ s ∷ [] → AddsPairs (flat_map (λ s. pairs_with is s all) ops) x y → AddsPairs (pairs_with is s all) y z
-    → AddsPairs (flat_map (λ s. pairs_with is s all) more) x z
+pub one_more_store : (is : Op → Op → Bool) (all ops more : List Op) (s : Op) (x y z : List ℕ) → more ≡ ops ++ s ∷ []
+    → AddsPairs (flat_map (λ s. pairs_with is s all) ops) x y → AddsPairs (pairs_with is s all) y z → AddsPairs (flat_map (λ s. pairs_with is s all) more) x z
 one_more_store is all ops more s x y z e p q =
     subst (λ ps. AddsPairs ps x z)
     (sym (ap (flat_map (λ s. pairs_with is s all)) e ∙ flat_map-append (λ s. pairs_with is s all) ops (s ∷ []) ∙ ap (λ ps. flat_map (λ s. pairs_with is s all) ops ++ ps) (append-nil (pairs_with is s all))))

@@ -10,8 +10,8 @@ use Rattle.q_asker.specs.Steps.{Tells, number_word, query_of}
 use Rattle.q_asker.proofs.printing.put_told.Goals as goal
 
 -- the line was written that this reply tells
-told : {A E : Type 0} (r : Result A E) (q : Request) (said x : Reply) (line : List ℕ) (a b : Option (List ℕ)) → said ≡ x → Tells q x line → OnOk r (Appends a b line)
-    → OnOk r ((text : List ℕ) × Tells q said text × Appends a b text)
+told : {A E : Type 0} (r : Result A E) (q : Request) (said x : Reply) (line : List ℕ) (a b : Option (List ℕ)) → said ≡ x → Tells q x line
+    → OnOk r (Appends a b line) → OnOk r ((text : List ℕ) × Tells q said text × Appends a b text)
 told (Ok u) q said x line a b is tells wrote = (line, subst (λ (y : Reply). Tells q y line) (sym is) tells, wrote)
 told (Err e) q said x line a b is tells wrote = tt
 

@@ -36,8 +36,8 @@ returns-clause-listed c = refl
 
 -- ---- files that are read
 
-was_read : (most : ℕ) (bytes : List ℕ) (old new : MemoryFiles) (fault : FileFault) → length bytes ≤ most → fails_next old.passing ≡ false → bytes_of old.files (codes "a") ≡ Some bytes
-    → Reads most old (codes "a") (Err fault) new → FileFailed ≡ refusal_of fault → ⊥
+was_read : (most : ℕ) (bytes : List ℕ) (old new : MemoryFiles) (fault : FileFault) → length bytes ≤ most → fails_next old.passing ≡ false
+    → bytes_of old.files (codes "a") ≡ Some bytes → Reads most old (codes "a") (Err fault) new → FileFailed ≡ refusal_of fault → ⊥
 was_read most bytes old new Failed within goes there h is = elim h.0 [
   | inl fails ↦ true≢false (sym fails ∙ goes)
   | inr none ↦ let longer : most < length bytes = subst (IsNoneWithin most) there none in absurd (omega (arith, longer, within))

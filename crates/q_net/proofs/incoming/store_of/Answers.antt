@@ -9,8 +9,8 @@ use Rattle.q_net.proofs.Reading.{ended_at, got_none, got_some, byte_then_failed}
 use Rattle.q_net.proofs.incoming.store_of.Goals as goal
 
 -- the length, and so many bytes
-bytes_read : (version : Version) (len : ℕ) (bytes : List ℕ) (a b c : Option (List ℕ)) → len < 256 → Consumes a b (len ∷ []) → Consumes b c bytes → length bytes ≡ len
-    → (x : List ℕ) × Consumes a c x × IsRequest version (StoreOf bytes) × (5 ∷ x ≡ spelling (StoreOf bytes))
+bytes_read : (version : Version) (len : ℕ) (bytes : List ℕ) (a b c : Option (List ℕ)) → len < 256 → Consumes a b (len ∷ []) → Consumes b c bytes
+    → length bytes ≡ len → (x : List ℕ) × Consumes a c x × IsRequest version (StoreOf bytes) × (5 ∷ x ≡ spelling (StoreOf bytes))
 bytes_read version len bytes a b c few first second is =
     (len ∷ bytes, Consumes-trans a b c (len ∷ []) bytes first second, omega (arith, few, is), ap (λ (n : ℕ). 5 ∷ n ∷ bytes) (sym is))
 
