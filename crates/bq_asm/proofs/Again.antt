@@ -1,6 +1,6 @@
 -- An operand that is written is read again, and so is a statement.
-use Rattle.std.proofs.Common.{◌≡◌, ◌≢◌, ℕ, suc, ◌-◌, ◌^◌, ◌<◌, true, false, cond, eqb, ltb, ◌&&◌, List, [], ◌∷◌, ◌++◌, length, Option, Some, None, refl, ap, sym, ◌∙◌, subst, inl, inr, ◌⊎◌, arith, IsTrue}
-use Rattle.std.specs.Prelude.{ℤ, pos, negsuc, FitsSigned, option_map}
+use Rattle.std.proofs.Common.{◌≡◌, ◌≢◌, ℕ, suc, ◌-◌, ◌^◌, ◌<◌, true, false, cond, eqb, ltb, ◌&&◌, refl, ap, sym, ◌∙◌, subst, inl, inr, ◌⊎◌, arith}
+use Rattle.std.specs.Prelude.{ℤ, pos, negsuc, FitsSigned, option_map, List, [], ◌∷◌, ◌++◌, length, Option, Some, None, IsTrue}
 use Rattle.std.specs.List.{AllByRecursion, list_all}
 use Rattle.std.specs.Int.{w16, w32}
 use Rattle.std.specs.Char.{is_ascii_digit}
@@ -15,7 +15,8 @@ use Rattle.bq_insn.specs.declared.insn.Insn.TheVariants as insns
 use Rattle.bq_insn.specs.Insn.{IsOperand, IsInsn}
 use Rattle.bq_asm.specs.declared.jump.Jump.{Jump}
 use Rattle.bq_asm.specs.declared.jump.Jump.TheVariants as jumps
-use Rattle.bq_asm.specs.Line.{Statement, Complete, JumpTo, IsName, IsJump, IsStatement, is_letter, is_name_byte, AreListed, statement_operands, statement_mnemonic}
+use Rattle.bq_asm.specs.Statement.{Statement, Complete, JumpTo}
+use Rattle.bq_asm.specs.Line.{IsName, IsJump, IsStatement, is_letter, is_name_byte, AreListed, statement_operands, statement_mnemonic}
 use Rattle.bq_asm.specs.Operands.{register, operand, distance, memory, jump_insn, jump_mnemonic, jump_operands}
 use Rattle.bq_asm.specs.Reading.{◌>>=◌, strip, positive_at, negative_at, signed_at, signed_else, distance_at, distance_else, positive_of, negative_of, fits, register_at, operand_at, operand_else, place_of, place_else, place_at, memory_at, is_name, jump_bits, target_at, target_else, pair_at, trimmed, statement_at}
 use Rattle.bq_asm.proofs.Parts.{Lacks, cut_none, cut_at, strip_none}

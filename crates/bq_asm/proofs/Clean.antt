@@ -5,7 +5,7 @@ use Rattle.std.specs.List.{AllByRecursion, list_all}
 use Rattle.std.specs.Int.{w16, w32}
 use Rattle.std.specs.Char.{is_ascii_digit}
 use Rattle.std.specs.Fmt.{decimal}
-use Rattle.std.proofs.lemmas.Bool.{cond-false, and_parts, not-true}
+use Rattle.std.proofs.lemmas.Bool.{cond-false, and_parts}
 use Rattle.std.proofs.lemmas.Bool.Decides.{nat_tests}
 use Rattle.std.proofs.lemmas.Fmt.{digits_decimal, decimal_nonempty}
 use Rattle.bq_insn.specs.declared.insn.Operand.TheVariants as operands
@@ -37,19 +37,19 @@ clean_lacks k [] f h = tt
 clean_lacks k (c ∷ s) f h = (f c h.0, clean_lacks k s f h.1)
 
 pub no_space : (c : ℕ) → is_clean c ≡ true → eqb c 32 ≡ false
-no_space c h = not-true _ (and_parts _ _ h).0
+no_space c h = grind (arith, nat_tests)
 
 pub no_hash : (c : ℕ) → is_clean c ≡ true → eqb c 35 ≡ false
-no_hash c h = not-true _ (and_parts _ _ (and_parts _ _ h).1).0
+no_hash c h = grind (arith, nat_tests)
 
 pub no_comma : (c : ℕ) → is_clean c ≡ true → eqb c 44 ≡ false
-no_comma c h = not-true _ (and_parts _ _ (and_parts _ _ (and_parts _ _ h).1).1).0
+no_comma c h = grind (arith, nat_tests)
 
 pub no_colon : (c : ℕ) → is_clean c ≡ true → eqb c 58 ≡ false
-no_colon c h = not-true (eqb c 58) (and_parts _ _ (and_parts (not (eqb c 44)) (not (eqb c 58) && not (eqb c 10)) (and_parts _ _ (and_parts _ _ h).1).1).1).0
+no_colon c h = grind (arith, nat_tests)
 
 pub no_line_feed : (c : ℕ) → is_clean c ≡ true → eqb c 10 ≡ false
-no_line_feed c h = not-true (eqb c 10) (and_parts (not (eqb c 58)) (not (eqb c 10)) (and_parts (not (eqb c 44)) (not (eqb c 58) && not (eqb c 10)) (and_parts _ _ (and_parts _ _ h).1).1).1).1
+no_line_feed c h = grind (arith, nat_tests)
 
 -- ---- words
 
@@ -98,10 +98,9 @@ wider (pos n) h = omega arith
 wider (negsuc n) h = omega arith
 
 pub memory_word : (b : ℕ) (o : ℤ) → b < 11 → FitsSigned w16 o → Word (memory b o)
-memory_word b o h k = record {
-  clean = (refl, clean_append (register b ++ distance o) (codes "]") (clean_append (register b) (distance o) (register_word b h).clean (distance_word o (wider o k)).clean) (refl, tt));
-  some = omega arith;
-}
+memory_word b o h k =
+    let clean = clean_append (register b) (distance o) (register_word b h).clean (distance_word o (wider o k)).clean in
+    record { clean = (refl, clean_append (register b ++ distance o) (codes "]") clean (refl, tt)); some = omega arith }
 
 name_byte_clean : (c : ℕ) → is_name_byte c ≡ true → is_clean c ≡ true
 name_byte_clean c h = grind (arith, nat_tests)

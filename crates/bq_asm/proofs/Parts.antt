@@ -1,6 +1,6 @@
 -- Cutting, stripping and trimming of a text, by bytes.
-use Rattle.std.proofs.Common.{◌≡◌, ◌≢◌, ℕ, suc, ◌-◌, ◌<◌, false, eqb, List, [], ◌∷◌, ◌++◌, length, get_or, take, drop, Option, Some, None, refl, ap, sym, ◌∙◌, arith, Bor, lit<}
-use Rattle.std.specs.Prelude.{option_map, MatchOption, IfSome}
+use Rattle.std.proofs.Common.{◌≡◌, ◌≢◌, ℕ, suc, ◌-◌, ◌<◌, false, eqb, List, [], ◌∷◌, ◌++◌, length, get_or, take, drop, refl, ap, sym, ◌∙◌, arith, Bor, lit<}
+use Rattle.std.specs.Prelude.{option_map, MatchOption, IfSome, Option, Some, None}
 use Rattle.std.specs.List.{AllByRecursion}
 use Rattle.std.specs.Str.Pattern.{HasCharAt, FindsCharPrefix, FindsCharSuffix, CutsPrefixes, CutsSuffixes, IsTrimStartMatches, IsTrimEndMatches}
 use Rattle.std.proofs.lemmas.Bool.{cond-false, cond-true, eq-eqb, ne_eqb}
@@ -66,7 +66,9 @@ starts : (s : List ℕ) (n : ℕ) → HasCharAt 32 s 0 n → s ≡ 32 ∷ drop n
 starts s n h = drop_at_char 32 s 0 n h (lit< tt)
 
 ends : (s : List ℕ) (k : ℕ) → HasCharAt 32 s k (length s) → s ≡ take k s ++ (32 ∷ [])
-ends s k h = sym (take-append-drop k s) ∙ ap (λ (xs : List ℕ). take k s ++ xs) (drop_at_char 32 s k (length s) h (lit< tt) ∙ ap (λ (xs : List ℕ). 32 ∷ xs) (drop_all (length s) s (omega arith)))
+ends s k h =
+    let last = drop_at_char 32 s k (length s) h (lit< tt) ∙ ap (λ (xs : List ℕ). 32 ∷ xs) (drop_all (length s) s (omega arith)) in
+    sym (take-append-drop k s) ∙ ap (λ (xs : List ℕ). take k s ++ xs) last
 
 prefixes : (s : List ℕ) (ns : List ℕ) (r : List ℕ) → CutsPrefixes (FindsCharPrefix 32) s ns r → trim_start s ≡ trim_start r
 prefixes s [] r h = ap trim_start (sym h)
@@ -74,7 +76,9 @@ prefixes s (n ∷ ns) r h = prefixes s ns h.0 h.1 ∙ ap trim_start (starts h.0 
 
 suffixes : (s : List ℕ) (ns : List ℕ) (r : List ℕ) → CutsSuffixes (FindsCharSuffix 32) s ns r → trim_end s ≡ trim_end r
 suffixes s [] r h = ap trim_end (sym h)
-suffixes s (n ∷ ns) r h = suffixes s ns h.0 h.1 ∙ ap trim_end (ends h.0 (length h.0 - n) h.2.1) ∙ trim_end_push (take (length h.0 - n) h.0) ∙ ap trim_end (sym h.3)
+suffixes s (n ∷ ns) r h =
+    let k = length h.0 - n in
+    suffixes s ns h.0 h.1 ∙ ap trim_end (ends h.0 k h.2.1) ∙ trim_end_push (take k h.0) ∙ ap trim_end (sym h.3)
 
 no_prefix : (s : List ℕ) (o : Option ℕ) → FindsCharPrefix 32 s o → IfSome o (λ n. n ≡ 0) → (rest : List ℕ) → s ≢ 32 ∷ rest
 no_prefix s None h z = λ rest e. h rest (e ∙ ap (λ (xs : List ℕ). xs ++ rest) (sym (encode_ascii 32 (lit< tt))))

@@ -1,5 +1,6 @@
 -- Which names lines define.
-use Rattle.std.proofs.Common.{◌≡◌, ℕ, ◌+◌, ◌<◌, Bool, true, false, cond, ◌||◌, List, [], ◌∷◌, ◌++◌, length, map, take, drop, get_or, refl, ap, sym, ◌∙◌, subst, inl, inr, Bor}
+use Rattle.std.proofs.Common.{◌≡◌, ℕ, ◌+◌, ◌<◌, Bool, true, false, cond, ◌||◌, map, take, drop, get_or, refl, ap, sym, ◌∙◌, subst, inl, inr, Bor}
+use Rattle.std.specs.Prelude.{List, [], ◌∷◌, ◌++◌, length}
 use Rattle.std.specs.Str.{bytes_eq}
 use Rattle.std.specs.HashSet.{HashSet, contains_by}
 use Rattle.std.proofs.lemmas.Bool.{false≢true, or_cases, or_left, or_right}
@@ -10,7 +11,7 @@ use Rattle.bq_asm.specs.declared.statement.Line.TheVariants as said
 use Rattle.bq_asm.specs.View.{line_view}
 use Rattle.bq_asm.specs.Statement.{Line, Blank, Label, Instruction}
 use Rattle.bq_asm.specs.Labels.{IsDefined, IsRepeated, IsFirstLine}
-use Rattle.bq_asm.proofs.First.{Going, going_on, going_found, at}
+use Rattle.bq_asm.proofs.First.{Going, going_on, going_found, At, at}
 
 abbrev pub defines_line : List ℕ → Line → Bool
 defines_line q (Label label) = bytes_eq q label
@@ -27,12 +28,12 @@ line_defines q (Instruction s) e = absurd cc
 
 pub defined_from : (q : List ℕ) (lines : List Line) → defines q lines ≡ true → IsDefined q lines
 defined_from q [] e = absurd cc
-defined_from q (line ∷ lines) e = elim (or_cases (defines_line q line) (defines q lines) e) [ inl h ↦ inl (line_defines q line h) | inr h ↦ inr (defined_from q lines h) ]
+defined_from q (line ∷ lines) e = elim (or_cases _ _ e) [ inl h ↦ inl (line_defines q line h) | inr h ↦ inr (defined_from q lines h) ]
 
 pub defined_to : (q : List ℕ) (lines : List Line) → IsDefined q lines → defines q lines ≡ true
 defined_to q [] h = absurd h
-defined_to q (line ∷ lines) (inl e) = or_left (defines_line q line) (defines q lines) (ap (defines_line q) e ∙ (bytes_eq-Decides q q).1 refl)
-defined_to q (line ∷ lines) (inr h) = or_right (defines_line q line) (defines q lines) (defined_to q lines h)
+defined_to q (line ∷ lines) (inl e) = or_left _ _ (ap (defines_line q) e ∙ (bytes_eq-Decides q q).1 refl)
+defined_to q (line ∷ lines) (inr h) = or_right _ _ (defined_to q lines h)
 
 swap_or : (a b c : Bool) → (a || (b || c)) ≡ (b || (a || c))
 swap_or true true c = refl
@@ -42,65 +43,80 @@ swap_or false false c = refl
 
 pub defines_push : (q : List ℕ) (lines : List Line) (line : Line) → defines q (lines ++ line ∷ []) ≡ (defines_line q line || defines q lines)
 defines_push q [] line = refl
-defines_push q (l ∷ lines) line = ap (λ b. defines_line q l || b) (defines_push q lines line) ∙ swap_or (defines_line q l) (defines_line q line) (defines q lines)
-
--- the names that are kept are those that the lines define
-pub record Keeps {S : Type 0} (names : HashSet (Bor (List ℕ)) S) (all before after : List Line) : Type 0 where
-  pub known : (q : Bor (List ℕ)) → contains_by (λ k. bytes_eq q.now k.now) names ≡ defines q.now before
-  pub going : Going IsRepeated all before after
+defines_push q (l ∷ lines) line = ap (λ b. defines_line q l || b) (defines_push q lines line) ∙ swap_or (defines_line q l) _ _
 
 pub bytes_eq_sym : (a b : List ℕ) → bytes_eq a b ≡ bytes_eq b a
-bytes_eq_sym a b = same_from_decides (bytes_eq a b) (bytes_eq b a) (bytes_eq-Decides a b) (λ e. sym ((bytes_eq-Decides b a).0 e), λ e. (bytes_eq-Decides b a).1 (sym e))
+bytes_eq_sym a b =
+    let same = bytes_eq-Decides b a in
+    same_from_decides _ _ (bytes_eq-Decides a b) (λ e. sym (same.0 e), λ e. same.1 (sym e))
 
 cond_or : (b c : Bool) → cond b true c ≡ (b || c)
 cond_or true c = refl
 cond_or false c = refl
 
-module _ {S : Type 0} (all before after : List Line) where
-  pub repeats : (names : HashSet (Bor (List ℕ)) S) (q : Bor (List ℕ)) → Keeps names all before (Label q.now ∷ after)
-      → contains_by (λ k. bytes_eq q.now k.now) names ≡ true → IsFirstLine IsRepeated [] all (length before + 1)
-  repeats names q k e = going_found IsRepeated all before (Label q.now) after (defined_from q.now before (sym (k.known q) ∙ e)) k.going
+more_or : (q p : List ℕ) (b : Bool) → cond (bytes_eq q p) true b ≡ (bytes_eq p q || b)
+more_or q p b = cond_or (bytes_eq q p) b ∙ ap (λ c. c || b) (bytes_eq_sym q p)
 
-  pub keeps_new : (names new : HashSet (Bor (List ℕ)) S) (q : Bor (List ℕ)) → Keeps names all before (Label q.now ∷ after) → contains_by (λ k. bytes_eq q.now k.now) names ≡ false
-      → ((p : Bor (List ℕ)) → contains_by (λ k. bytes_eq p.now k.now) new ≡ cond (bytes_eq q.now p.now) true (contains_by (λ k. bytes_eq p.now k.now) names)) → Keeps new all (before ++ Label q.now ∷ []) after
-  keeps_new names new q k e u = record {
-    known = λ p. u p ∙ cond_or (bytes_eq q.now p.now) (contains_by (λ k. bytes_eq p.now k.now) names) ∙ ap (λ b. b || contains_by (λ k. bytes_eq p.now k.now) names) (bytes_eq_sym q.now p.now) ∙ ap (λ b. bytes_eq p.now q.now || b) (k.known p) ∙ sym (defines_push p.now before (Label q.now));
-    going = going_on IsRepeated all before (Label q.now) after (λ h. false≢true (sym e ∙ k.known q ∙ defined_to q.now before h)) k.going;
-  }
+-- ---- the names that are kept
 
-  pub keeps_other : (names : HashSet (Bor (List ℕ)) S) (line : Line) → ((q : List ℕ) → line ≡ Label q → ⊥) → Keeps names all before (line ∷ after)
-      → Keeps names all (before ++ line ∷ []) after
-  keeps_other names (Label q) n k = absurd (n q refl)
-  keeps_other names Blank n k = record { known = λ p. k.known p ∙ sym (defines_push p.now before Blank); going = going_on IsRepeated all before Blank after (λ h. h) k.going }
-  keeps_other names (Instruction s) n k = record { known = λ p. k.known p ∙ sym (defines_push p.now before (Instruction s)); going = going_on IsRepeated all before (Instruction s) after (λ h. h) k.going }
+-- whether the set has the name
+abbrev pub has : {S : Type 0} → HashSet (Bor (List ℕ)) S → Bor (List ℕ) → Bool
+has names q = contains_by (λ k. bytes_eq q.now k.now) names
+
+-- the names that are kept are those that the lines define
+pub record Keeps {S : Type 0} (names : HashSet (Bor (List ℕ)) S) (all before after : List Line) : Type 0 where
+  pub known : (q : Bor (List ℕ)) → has names q ≡ defines q.now before
+  pub going : Going IsRepeated all before after
+
+keeps_on : {S : Type 0} {names new : HashSet (Bor (List ℕ)) S} {all before after : List Line} {line : Line} → Keeps names all before (line ∷ after)
+    → (IsRepeated before line after → ⊥) → ((p : Bor (List ℕ)) → has new p ≡ (defines_line p.now line || has names p))
+    → Keeps new all (before ++ line ∷ []) after
+keeps_on {before = before} {line = line} k n u = record {
+  known = λ p. u p ∙ ap (λ b. defines_line p.now line || b) (k.known p) ∙ sym (defines_push p.now before line);
+  going = going_on n k.going;
+}
 
 -- ---- the same at a place of the program's lines
 
-no_label : (x : code.Line) → ((q : Bor (List ℕ)) → x ≡ said.Label q → ⊥) → (q : List ℕ) → line_view x ≡ Label q → ⊥
-no_label (said.Label r) n q e = n r refl
-no_label said.Blank n q e = cc
-no_label (said.Instruction s) n q e = cc
+-- the names of the lines before this place
+abbrev pub KeepsAt : {S : Type 0} → HashSet (Bor (List ℕ)) S → List code.Line → ℕ → Type 0
+KeepsAt names xs i = Keeps names (map line_view xs) (map line_view (take i xs)) (map line_view (drop i xs))
 
-module _ {S : Type 0} (names : HashSet (Bor (List ℕ)) S) (xs : List code.Line) (i : ℕ) (x : code.Line) (l : i < length xs) (e : x ≡ get_or xs i x) (k : Keeps names (map line_view xs) (map line_view (take i xs)) (map line_view (drop i xs))) where
-  here : Keeps names (map line_view xs) (map line_view (take i xs)) (line_view x ∷ map line_view (drop (i + 1) xs))
-  here = subst (λ u. Keeps names (map line_view xs) (map line_view (take i xs)) u) (at line_view xs i x l e).rest k
+no_label : (x : code.Line) → ((q : Bor (List ℕ)) → x ≡ said.Label q → ⊥) → (p : List ℕ) (before after : List Line)
+    → (IsRepeated before (line_view x) after → ⊥) × (defines_line p (line_view x) ≡ false)
+no_label (said.Label r) n p before after = absurd (n r refl)
+no_label said.Blank n p before after = (λ h. h, refl)
+no_label (said.Instruction s) n p before after = (λ h. h, refl)
 
-  pub found_repeated : (q : Bor (List ℕ)) → x ≡ said.Label q → contains_by (λ k. bytes_eq q.now k.now) names ≡ true
-      → IsFirstLine IsRepeated [] (map line_view xs) (i + 1)
+module _ {S : Type 0} {names : HashSet (Bor (List ℕ)) S} (xs : List code.Line) (i : ℕ) {x : code.Line}
+    (l : i < length xs) (e : x ≡ get_or xs i x) (k : KeepsAt names xs i) where
+  place : At line_view xs i x
+  place = at line_view xs i x l e
+
+  abbrev before : List Line
+  before = map line_view (take i xs)
+
+  abbrev after : List Line
+  after = map line_view (drop (i + 1) xs)
+
+  here : Keeps names (map line_view xs) before (line_view x ∷ after)
+  here = subst (Keeps names (map line_view xs) before) place.rest k
+
+  more : (new : HashSet (Bor (List ℕ)) S) → (IsRepeated before (line_view x) after → ⊥)
+      → ((p : Bor (List ℕ)) → has new p ≡ (defines_line p.now (line_view x) || has names p)) → KeepsAt new xs (i + 1)
+  more new n u = subst (λ lines. Keeps new (map line_view xs) lines after) (sym place.front) (keeps_on here n u)
+
+  pub found_repeated : (q : Bor (List ℕ)) → x ≡ said.Label q → has names q ≡ true → IsFirstLine IsRepeated [] (map line_view xs) (i + 1)
   found_repeated q f c =
-      subst (λ n. IsFirstLine IsRepeated [] (map line_view xs) (n + 1)) (at line_view xs i x l e).len
-      (repeats (map line_view xs) (map line_view (take i xs)) (map line_view (drop (i + 1) xs)) names q
-      (subst (λ y. Keeps names (map line_view xs) (map line_view (take i xs)) (line_view y ∷ map line_view (drop (i + 1) xs))) f here) c)
+      let defined = defined_from q.now before (sym (here.known q) ∙ c) in
+      subst (λ n. IsFirstLine IsRepeated [] (map line_view xs) (n + 1)) place.len
+      (going_found (subst (λ y. IsRepeated before (line_view y) after) (sym f) defined) here.going)
 
-  pub more_new : (new : HashSet (Bor (List ℕ)) S) (q : Bor (List ℕ)) → x ≡ said.Label q → contains_by (λ k. bytes_eq q.now k.now) names ≡ false
-      → ((p : Bor (List ℕ)) → contains_by (λ k. bytes_eq p.now k.now) new ≡ cond (bytes_eq q.now p.now) true (contains_by (λ k. bytes_eq p.now k.now) names)) → Keeps new (map line_view xs) (map line_view (take (i + 1) xs)) (map line_view (drop (i + 1) xs))
+  pub more_new : (new : HashSet (Bor (List ℕ)) S) (q : Bor (List ℕ)) → x ≡ said.Label q → has names q ≡ false
+      → ((p : Bor (List ℕ)) → has new p ≡ cond (bytes_eq q.now p.now) true (has names p)) → KeepsAt new xs (i + 1)
   more_new new q f c u =
-      subst (λ v. Keeps new (map line_view xs) v (map line_view (drop (i + 1) xs))) (ap (λ y. map line_view (take i xs) ++ line_view y ∷ []) (sym f) ∙ sym (at line_view xs i x l e).front)
-      (keeps_new (map line_view xs) (map line_view (take i xs)) (map line_view (drop (i + 1) xs)) names new q
-      (subst (λ y. Keeps names (map line_view xs) (map line_view (take i xs)) (line_view y ∷ map line_view (drop (i + 1) xs))) f here) c u)
+      more new (subst (λ y. IsRepeated before (line_view y) after → ⊥) (sym f) (λ h. false≢true (sym c ∙ here.known q ∙ defined_to q.now before h)))
+      (λ p. u p ∙ more_or q.now p.now (has names p) ∙ ap (λ y. defines_line p.now (line_view y) || has names p) (sym f))
 
-  pub more_other : ((q : Bor (List ℕ)) → x ≡ said.Label q → ⊥)
-      → Keeps names (map line_view xs) (map line_view (take (i + 1) xs)) (map line_view (drop (i + 1) xs))
-  more_other n =
-      subst (λ v. Keeps names (map line_view xs) v (map line_view (drop (i + 1) xs))) (sym (at line_view xs i x l e).front)
-      (keeps_other (map line_view xs) (map line_view (take i xs)) (map line_view (drop (i + 1) xs)) names (line_view x) (no_label x n) here)
+  pub more_other : ((q : Bor (List ℕ)) → x ≡ said.Label q → ⊥) → KeepsAt names xs (i + 1)
+  more_other n = more names (no_label x n [] before after).0 (λ p. ap (λ b. b || has names p) (sym (no_label x n p.now before after).1))

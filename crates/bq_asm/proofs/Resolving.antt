@@ -1,6 +1,6 @@
 -- Lines resolved from the last to the first.
-use Rattle.std.proofs.Common.{◌≡◌, ℕ, ◌+◌, ◌-◌, ◌*◌, ◌≤◌, Bool, true, false, cond, List, [], ◌∷◌, ◌++◌, length, map, Option, Some, None, ap, sym, ◌∙◌, subst, inl, inr, arith, Bor}
-use Rattle.std.specs.Prelude.{MatchOption, option_map, reverse}
+use Rattle.std.proofs.Common.{◌≡◌, ℕ, ◌+◌, ◌-◌, ◌*◌, ◌≤◌, Bool, true, false, cond, List, [], ◌∷◌, ◌++◌, length, map, ap, sym, ◌∙◌, subst, inl, inr, arith, Bor}
+use Rattle.std.specs.Prelude.{Option, Some, None, MatchOption, option_map, reverse}
 use Rattle.std.specs.Str.{bytes_eq}
 use Rattle.std.specs.HashMap.{HashMap, get_by}
 use Rattle.std.proofs.lemmas.Bool.{cond-true, cond-false}
@@ -42,7 +42,8 @@ Finds before later found unresolved = MatchOption unresolved
     (NoLine IsUnresolved before later × Mean later (reverse found))
     (IsFirstLine IsUnresolved before later)
 
-pub record Solves {S : Type 0} (all items : List code.Line) (labels : HashMap (Bor (List ℕ)) ℕ S) (total : ℕ) (found : List Insn) (unresolved : Option ℕ) : Type 0 where
+pub record Solves {S : Type 0} (all items : List code.Line) (labels : HashMap (Bor (List ℕ)) ℕ S) (total : ℕ)
+    (found : List Insn) (unresolved : Option ℕ) : Type 0 where
   pub later : List code.Line
   pub parts : all ≡ items ++ later
   pub placed : IsPlaced labels total (map line_view later)
@@ -60,62 +61,57 @@ solved : (before later : List Line) (s : Statement) (found : List Insn) (i : Ins
 solved before later s found i None m f = ((λ n. n i m, f.0), subst (Mean (Instruction s ∷ later)) (sym (reverse-append found (i ∷ []))) (m, f.1))
 solved before later s found i (Some k) m f = inr (λ n. n i m, f)
 
-module _ {S : Type 0} (all items front : List code.Line) (x : code.Line) (labels : HashMap (Bor (List ℕ)) ℕ S) (total : ℕ) (found : List Insn) (unresolved : Option ℕ) (e : items ≡ front ++ x ∷ []) (k : Solves all items labels total found unresolved) where
+module _ {S : Type 0} {all items : List code.Line} {labels : HashMap (Bor (List ℕ)) ℕ S} {total : ℕ} {found : List Insn} {unresolved : Option ℕ}
+    (front : List code.Line) (x : code.Line) (e : items ≡ front ++ x ∷ []) (k : Solves all items labels total found unresolved) where
+  abbrev before : List Line
+  before = map line_view front
+
+  abbrev behind : List Line
+  behind = map line_view k.later
+
   parts : all ≡ front ++ x ∷ k.later
   parts = k.parts ∙ ap (λ (u : List code.Line). u ++ k.later) e ∙ append_assoc front (x ∷ []) k.later
 
-  views : map line_view items ≡ map line_view front ++ line_view x ∷ []
-  views = ap (map line_view) e ∙ map_push line_view front x
+  here : (line : Line) → line_view x ≡ line → Finds (before ++ line ∷ []) behind found unresolved
+  here line f =
+      subst (λ u. Finds u behind found unresolved) (ap (map line_view) e ∙ map_push line_view front x ∙ ap (λ y. before ++ y ∷ []) f) k.finds
 
-  here : (line : Line) → line_view x ≡ line → Finds (map line_view front ++ line ∷ []) (map line_view k.later) found unresolved
-  here line f = subst (λ u. Finds u (map line_view k.later) found unresolved) (views ∙ ap (λ y. map line_view front ++ y ∷ []) f) k.finds
+  -- one line more
+  solves : (line : Line) {new : HashMap (Bor (List ℕ)) ℕ S} {total_now : ℕ} {found_now : List Insn} {unresolved_now : Option ℕ} → line_view x ≡ line
+      → IsPlaced new total_now (line ∷ behind) → total_now ≤ total + 2 → Finds before (line ∷ behind) found_now unresolved_now
+      → Solves all front new total_now found_now unresolved_now
+  solves line {new} {total_now} {found_now} {unresolved_now} f p l h = record {
+    later = x ∷ k.later;
+    parts = parts;
+    placed = subst (λ y. IsPlaced new total_now (y ∷ behind)) (sym f) p;
+    few = (let few = k.few in omega arith);
+    finds = subst (λ y. Finds before (y ∷ behind) found_now unresolved_now) (sym f) h;
+  }
 
   pub solve_blank : line_view x ≡ Blank → Solves all front labels total found unresolved
-  solve_blank f = record {
-    later = x ∷ k.later;
-    parts = parts;
-    placed = subst (λ y. IsPlaced labels total (y ∷ map line_view k.later)) (sym f) k.placed;
-    few = (let h = k.few in omega arith);
-    finds = subst (λ y. Finds (map line_view front) (y ∷ map line_view k.later) found unresolved) (sym f)
-        (skips (map line_view front) (map line_view k.later) Blank found unresolved (λ n. n) (λ m. m) (here Blank f));
-  }
+  solve_blank f = solves Blank f k.placed (omega arith) (skips before behind Blank found unresolved (λ n. n) (λ m. m) (here Blank f))
 
   pub solve_label : (new : HashMap (Bor (List ℕ)) ℕ S) (q : Bor (List ℕ)) → line_view x ≡ Label q.now
-      → ((p : Bor (List ℕ)) → get_by (λ c. bytes_eq p.now c.now) new ≡ cond (bytes_eq q.now p.now) (Some total) (get_by (λ c. bytes_eq p.now c.now) labels)) → Solves all front new total found unresolved
-  solve_label new q f u = record {
-    later = x ∷ k.later;
-    parts = parts;
-    placed = λ p. subst (λ y. Places p.now total (y ∷ map line_view k.later) (get_by (λ c. bytes_eq p.now c.now) new)) (sym f)
-        (subst (Places p.now total (Label q.now ∷ map line_view k.later)) (sym (u p))
-        (placed_label p.now q.now total (map line_view k.later) (get_by (λ c. bytes_eq p.now c.now) labels) (bytes_eq q.now p.now) (bytes_eq_sym p.now q.now) (k.placed p)));
-    few = (let h = k.few in omega arith);
-    finds = subst (λ y. Finds (map line_view front) (y ∷ map line_view k.later) found unresolved) (sym f)
-        (skips (map line_view front) (map line_view k.later) (Label q.now) found unresolved (λ n. n) (λ m. m) (here (Label q.now) f));
-  }
+      → ((p : Bor (List ℕ)) → get_by (λ c. bytes_eq p.now c.now) new ≡ cond (bytes_eq q.now p.now) (Some total) (get_by (λ c. bytes_eq p.now c.now) labels))
+      → Solves all front new total found unresolved
+  solve_label new q f u =
+      let placed : IsPlaced new total (Label q.now ∷ behind) = λ p. subst (Places p.now total (Label q.now ∷ behind)) (sym (u p))
+      (placed_label p.now q.now total behind (get_by (λ c. bytes_eq p.now c.now) labels) (bytes_eq q.now p.now) (bytes_eq_sym p.now q.now) (k.placed p)) in
+      solves (Label q.now) f placed (omega arith) (skips before behind (Label q.now) found unresolved (λ n. n) (λ m. m) (here (Label q.now) f))
 
-  placed_next : (s : Statement) → line_view x ≡ Instruction s → IsPlaced labels (total + statement_units s) (line_view x ∷ map line_view k.later)
-  placed_next s f p = subst (λ y. Places p.now (total + statement_units s) (y ∷ map line_view k.later) (get_by (λ c. bytes_eq p.now c.now) labels)) (sym f)
-      (placed_more p.now total (map line_view k.later) s (get_by (λ c. bytes_eq p.now c.now) labels) (k.placed p))
+  placed_next : (s : Statement) → IsPlaced labels (total + statement_units s) (Instruction s ∷ behind)
+  placed_next s p = placed_more p.now total behind s (get_by (λ c. bytes_eq p.now c.now) labels) (k.placed p)
 
   pub solve_some : (s : Statement) (i : Insn) → line_view x ≡ Instruction s → ((later : List Line) → IsPlaced labels total later → Means s later i)
       → Solves all front labels (total + statement_units s) (found ++ i ∷ []) unresolved
-  solve_some s i f m = record {
-    later = x ∷ k.later;
-    parts = parts;
-    placed = placed_next s f;
-    few = (let h = k.few in let g = units_few s in omega arith);
-    finds = subst (λ y. Finds (map line_view front) (y ∷ map line_view k.later) (found ++ i ∷ []) unresolved) (sym f)
-        (solved (map line_view front) (map line_view k.later) s found i unresolved (m (map line_view k.later) k.placed) (here (Instruction s) f));
-  }
+  solve_some s i f m =
+      let units = units_few s in
+      solves (Instruction s) f (placed_next s) (omega (arith, units)) (solved before behind s found i unresolved (m behind k.placed) (here (Instruction s) f))
 
   pub solve_none : (s : Statement) (n : ℕ) → n ≡ length front → line_view x ≡ Instruction s
       → ((later : List Line) → IsPlaced labels total later → (i : Insn) → Means s later i → ⊥)
       → Solves all front labels (total + statement_units s) found (Some (n + 1))
-  solve_none s n d f m = record {
-    later = x ∷ k.later;
-    parts = parts;
-    placed = placed_next s f;
-    few = (let h = k.few in let g = units_few s in omega arith);
-    finds = subst (λ y. IsFirstLine IsUnresolved (map line_view front) (y ∷ map line_view k.later) (n + 1)) (sym f)
-        (inl (m (map line_view k.later) k.placed, ap (λ j. j + 1) (d ∙ sym (length-map front line_view))));
-  }
+  solve_none s n d f m =
+      let units = units_few s in
+      solves (Instruction s) f (placed_next s) (omega (arith, units))
+      (inl (m behind k.placed, ap (λ j. j + 1) (d ∙ sym (length-map front line_view))))

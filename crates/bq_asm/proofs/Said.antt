@@ -1,17 +1,19 @@
 -- A line spells what is read from it, and nothing else.
-use Rattle.std.proofs.Common.{◌≡◌, ◌≢◌, ℕ, ◌<◌, Bool, true, false, cond, eqb, ltb, not, ◌&&◌, List, [], ◌∷◌, ◌++◌, length, Option, Some, None, refl, ap, sym, ◌∙◌, subst, inl, inr, ◌⊎◌, arith}
+use Rattle.std.proofs.Common.{◌≡◌, ◌≢◌, ℕ, ◌≤◌, ◌<◌, Bool, true, false, cond, eqb, ltb, not, ◌&&◌, refl, ap, sym, ◌∙◌, subst, inl, inr, ◌⊎◌, arith}
+use Rattle.std.specs.Prelude.{List, [], ◌∷◌, ◌++◌, length, Option, Some, None}
 use Rattle.std.specs.List.{AllByRecursion}
 use Rattle.std.proofs.lemmas.Bool.{eqb-true, eqb-false, and_parts, ltb-true, not-true}
 use Rattle.std.proofs.lemmas.Option.{cond_some}
 use Rattle.std.proofs.lemmas.List.{append_assoc, append-nil, nil_from_length}
 use Rattle.bq_asm.specs.Mnemonic.{name, mnemonic_at}
-use Rattle.bq_asm.specs.Line.{Statement, Line, Blank, Instruction, IsStatement, IsComment, AreListed, AreSpaces, IsGap, statement_operands, statement_mnemonic, Spells}
+use Rattle.bq_asm.specs.Statement.{Statement, Line, Blank, Instruction}
+use Rattle.bq_asm.specs.Line.{IsStatement, IsComment, AreListed, AreSpaces, IsGap, statement_operands, statement_mnemonic, Spells}
 use Rattle.bq_asm.specs.Reading.{◌>>=◌, cut, trimmed, is_comment, is_name, statement_at, instruction_at, words_else, words_at, label_else, line_else, line_at}
-use Rattle.bq_asm.proofs.Spaces.{Starts, spaces_append, trimmed_spaces, trimmed_of, cut-some}
+use Rattle.bq_asm.proofs.Spaces.{Starts, Trimmed, spaces_append, trimmed_spaces, trimmed_of, cut-some}
 use Rattle.bq_asm.proofs.Mnemonics.{mnemonic_sound}
 use Rattle.bq_asm.proofs.Again.{Words, listed_starts, operands_words}
 use Rattle.bq_asm.proofs.Sound.{bind_some, guard_some, name_sound, Spread, statement_sound}
-use Rattle.bq_asm.proofs.Spelled.{line_again}
+use Rattle.bq_asm.proofs.Spelled.{Core, line_again}
 
 comment_sound : (c : List ℕ) → is_comment c ≡ true → AllByRecursion (λ d. (d < 128) × (d ≢ 13)) c
 comment_sound [] h = tt
@@ -22,17 +24,16 @@ comment_sound (d ∷ c) h =
 
 -- ---- the code of a line
 
+-- a statement's code, with spaces about it
 pub record Code (text : List ℕ) (s : Statement) : Type 0 where
-  before : List ℕ
   gap : List ℕ
   list : List ℕ
-  after : List ℕ
-  spaces_before : AreSpaces before
-  spaces_after : AreSpaces after
-  is_gap : IsGap (statement_operands s) gap
-  are_listed : AreListed (statement_operands s) list
-  legal : IsStatement s
-  parts : text ≡ before ++ (name (statement_mnemonic s) ++ (gap ++ (list ++ after)))
+  core : Core s gap list
+  about : Trimmed text (name (statement_mnemonic s) ++ (gap ++ list))
+
+core_from : {s : Statement} (xs : List (List ℕ)) (gap list : List ℕ) → xs ≡ statement_operands s → IsStatement s → IsGap xs gap → AreListed xs list
+    → Core s gap list
+core_from xs gap list e h g l = record { legal = h; gaps = subst (λ ys. IsGap ys gap) e g; listed = subst (λ ys. AreListed ys list) e l }
 
 nil_parts : (a b : List ℕ) → [] ≡ a ++ b → (a ≡ []) × (b ≡ [])
 nil_parts [] b e = (refl, sym e)
@@ -40,67 +41,58 @@ nil_parts (c ∷ a) b e = absurd cc
 
 code_alone : (text : List ℕ) (s : Statement) (xs : List (List ℕ)) → xs ≡ statement_operands s → IsStatement s
     → trimmed text ≡ name (statement_mnemonic s) → Words xs → Spread xs (trimmed []) → Code text s
-code_alone text s [] e h t w p =
-    let a = trimmed_of text in
-    record {
-      before = a.before;
-      gap = [];
-      list = [];
-      after = a.after;
-      spaces_before = a.spaces_before;
-      spaces_after = a.spaces_after;
-      is_gap = subst (λ ys. IsGap ys []) e refl;
-      are_listed = subst (λ ys. AreListed ys []) e refl;
-      legal = h;
-      parts = a.parts ∙ ap (λ (u : List ℕ). a.before ++ (u ++ a.after)) t;
-    }
+code_alone text s [] e h t w p = record {
+  gap = [];
+  list = [];
+  core = core_from [] [] [] e h refl refl;
+  about = rw (append-nil (name (statement_mnemonic s)), sym t) (trimmed_of text);
+}
 code_alone text s (x ∷ xs) e h t w p =
     let n = nil_parts p.before (p.list ++ p.after) (sym (trimmed_spaces [] tt) ∙ p.parts) in
     let m = nil_parts p.list p.after (sym n.1) in
     absurd (subst Starts m.0 (listed_starts (x ∷ xs) p.list tt w p.listed))
 
-rest_parts : (a n b c l d e f : List ℕ) → a ++ ((n ++ (32 ∷ (b ++ ((c ++ (l ++ d)) ++ e)))) ++ f) ≡ a ++ (n ++ ((32 ∷ (b ++ c)) ++ (l ++ (d ++ (e ++ f)))))
-rest_parts a n b c l d e f = simp append_assoc
+-- of a text between spaces, spaces at its end are no part
+trimmed_less : {text t : List ℕ} (u more : List ℕ) → Trimmed text t → t ≡ u ++ more → AreSpaces more → Trimmed text u
+trimmed_less u more a e h = record {
+  before = a.before;
+  after = more ++ a.after;
+  spaces_before = a.spaces_before;
+  spaces_after = spaces_append more a.after h a.spaces_after;
+  parts = a.parts ∙ ap (λ (v : List ℕ). a.before ++ (v ++ a.after)) e ∙ ap (λ (v : List ℕ). a.before ++ v) (append_assoc u more a.after);
+}
 
-code_rest : (text rest : List ℕ) (s : Statement) (xs : List (List ℕ)) → xs ≡ statement_operands s → IsStatement s
-    → trimmed text ≡ name (statement_mnemonic s) ++ (32 ∷ rest) → Spread xs (trimmed rest) → Code text s
-code_rest text rest s [] e h t p =
-    let a = trimmed_of text in
-    let b = trimmed_of rest in
+code_spread : (text : List ℕ) (s : Statement) (xs : List (List ℕ)) (gap list after : List ℕ) → xs ≡ statement_operands s → IsStatement s
+    → AreSpaces gap → 1 ≤ length gap → AreListed xs list → AreSpaces after → trimmed text ≡ name (statement_mnemonic s) ++ (gap ++ (list ++ after))
+    → Code text s
+code_spread text s [] gap list after e h g some l a t =
     let m = name (statement_mnemonic s) in
-    let whole : rest ≡ b.before ++ ((p.before ++ (p.list ++ p.after)) ++ b.after) = b.parts ∙ ap (λ (u : List ℕ). b.before ++ (u ++ b.after)) p.parts in
-    let gap = 32 ∷ (b.before ++ p.before) in
-    let tail = p.after ++ (b.after ++ a.after) in
+    let nothing = ap (λ (u : List ℕ). m ++ (gap ++ (u ++ after))) l ∙ ap (λ (u : List ℕ). u ++ (gap ++ after)) (sym (append-nil m)) in
     record {
-      before = a.before;
       gap = [];
       list = [];
-      after = gap ++ tail;
-      spaces_before = a.spaces_before;
-      spaces_after = spaces_append gap tail (refl, spaces_append b.before p.before b.spaces_before p.spaces_before) (spaces_append p.after (b.after ++ a.after) p.spaces_after (spaces_append b.after a.after b.spaces_after a.spaces_after));
-      is_gap = subst (λ ys. IsGap ys []) e refl;
-      are_listed = subst (λ ys. AreListed ys []) e refl;
-      legal = h;
-      parts = a.parts ∙ ap (λ (u : List ℕ). a.before ++ (u ++ a.after)) (t ∙ ap (λ (u : List ℕ). m ++ (32 ∷ u)) whole) ∙ rest_parts a.before m b.before p.before p.list p.after b.after a.after ∙ ap (λ (u : List ℕ). a.before ++ (m ++ (gap ++ (u ++ tail)))) p.listed;
+      core = core_from [] [] [] e h refl refl;
+      about = trimmed_less (m ++ []) (gap ++ after) (trimmed_of text) (t ∙ nothing) (spaces_append gap after g a);
     }
-code_rest text rest s (x ∷ xs) e h t p =
-    let a = trimmed_of text in
+code_spread text s (x ∷ xs) gap list after e h g some l a t = record {
+  gap = gap;
+  list = list;
+  core = core_from (x ∷ xs) gap list e h (g, some) l;
+  about = trimmed_less (name (statement_mnemonic s) ++ (gap ++ list)) after (trimmed_of text) (t ∙ simp append_assoc) a;
+}
+
+code_rest : (text rest : List ℕ) (s : Statement) → IsStatement s → trimmed text ≡ name (statement_mnemonic s) ++ (32 ∷ rest)
+    → Spread (statement_operands s) (trimmed rest) → Code text s
+code_rest text rest s h t p =
     let b = trimmed_of rest in
-    let m = name (statement_mnemonic s) in
-    let whole : rest ≡ b.before ++ ((p.before ++ (p.list ++ p.after)) ++ b.after) = b.parts ∙ ap (λ (u : List ℕ). b.before ++ (u ++ b.after)) p.parts in
     let gap = 32 ∷ (b.before ++ p.before) in
-    record {
-      before = a.before;
-      gap = gap;
-      list = p.list;
-      after = p.after ++ (b.after ++ a.after);
-      spaces_before = a.spaces_before;
-      spaces_after = spaces_append p.after (b.after ++ a.after) p.spaces_after (spaces_append b.after a.after b.spaces_after a.spaces_after);
-      is_gap = subst (λ ys. IsGap ys gap) e ((refl, spaces_append b.before p.before b.spaces_before p.spaces_before), omega arith);
-      are_listed = subst (λ ys. AreListed ys p.list) e p.listed;
-      legal = h;
-      parts = a.parts ∙ ap (λ (u : List ℕ). a.before ++ (u ++ a.after)) (t ∙ ap (λ (u : List ℕ). m ++ (32 ∷ u)) whole) ∙ rest_parts a.before m b.before p.before p.list p.after b.after a.after;
-    }
+    let after = p.after ++ b.after in
+    let gap_spaces : AreSpaces gap = (refl, spaces_append b.before p.before b.spaces_before p.spaces_before) in
+    let after_spaces = spaces_append p.after b.after p.spaces_after b.spaces_after in
+    let whole : rest ≡ b.before ++ ((p.before ++ (p.list ++ p.after)) ++ b.after) = b.parts ∙ ap (λ (u : List ℕ). b.before ++ (u ++ b.after)) p.parts in
+    let parts : trimmed text ≡ name (statement_mnemonic s) ++ (gap ++ (p.list ++ after)) =
+    t ∙ ap (λ (u : List ℕ). name (statement_mnemonic s) ++ (32 ∷ u)) whole ∙ simp append_assoc in
+    code_spread text s (statement_operands s) gap p.list after refl h gap_spaces (omega arith) p.listed after_spaces parts
 
 pub record Said (first rest : List ℕ) (v : Line) : Type 0 where
   statement : Statement
@@ -127,7 +119,8 @@ words_by text v None c e =
     inr (r.statement, r.is, code_alone text r.statement (statement_operands r.statement) refl r.legal r.mnemonic (operands_words r.statement r.legal) r.spread)
 words_by text v (Some p) c e =
     let r = said p.0 p.1 v e in
-    inr (r.statement, r.is, code_rest text p.1 r.statement (statement_operands r.statement) refl r.legal (cut-some 32 (trimmed text) p c ∙ ap (λ (u : List ℕ). u ++ (32 ∷ p.1)) r.mnemonic) r.spread)
+    let parts = cut-some 32 (trimmed text) p c ∙ ap (λ (u : List ℕ). u ++ (32 ∷ p.1)) r.mnemonic in
+    inr (r.statement, r.is, code_rest text p.1 r.statement r.legal parts r.spread)
 
 words_empty : (text : List ℕ) → trimmed text ≡ [] → AreSpaces text
 words_empty text e =
@@ -145,27 +138,24 @@ words_sound text v e = words_cases text v (eqb (length (trimmed text)) 0) refl e
 
 -- ---- lines
 
-code_parts : (a n g l d c : List ℕ) → (a ++ (n ++ (g ++ (l ++ d)))) ++ c ≡ a ++ (n ++ (g ++ (l ++ (d ++ c))))
-code_parts a n g l d c = simp append_assoc
-
 -- code with a comment behind it, or none
 spelled : (line code comment : List ℕ) (v : Line) → line ≡ code ++ comment → IsComment comment → IsCode code v → Spells line v
 spelled line code comment v e h (inl k) = subst (Spells line) k.0 (record { spaces = code; comment = comment; are_spaces = k.1; is_comment = h; parts = e })
 spelled line code comment v e h (inr k) =
     let c = k.2 in
     subst (Spells line) k.1 (record {
-      before = c.before;
+      before = c.about.before;
       gap = c.gap;
       list = c.list;
-      after = c.after;
+      after = c.about.after;
       comment = comment;
-      spaces_before = c.spaces_before;
-      is_gap = c.is_gap;
-      are_listed = c.are_listed;
-      spaces_after = c.spaces_after;
+      spaces_before = c.about.spaces_before;
+      is_gap = c.core.gaps;
+      are_listed = c.core.listed;
+      spaces_after = c.about.spaces_after;
       is_comment = h;
-      legal = c.legal;
-      parts = e ∙ ap (λ (u : List ℕ). u ++ comment) c.parts ∙ code_parts c.before (name (statement_mnemonic k.0)) c.gap c.list c.after comment;
+      legal = c.core.legal;
+      parts = e ∙ ap (λ (u : List ℕ). u ++ comment) c.about.parts ∙ simp append_assoc;
     })
 
 label_by : (line : List ℕ) (v : Line) (o : Option (List ℕ × List ℕ)) → cut 58 (trimmed line) ≡ o → label_else line o ≡ Some v → Spells line v

@@ -1,6 +1,6 @@
 -- What is read from a line is spelled by it.
-use Rattle.std.proofs.Common.{◌≡◌, ℕ, suc, ◌-◌, ◌^◌, ◌<◌, Bool, true, false, cond, eqb, ltb, ◌&&◌, List, [], ◌∷◌, ◌++◌, length, Option, Some, None, refl, ap, sym, ◌∙◌, subst, arith, IsTrue}
-use Rattle.std.specs.Prelude.{ℤ, pos, negsuc, FitsSigned, option_map}
+use Rattle.std.proofs.Common.{◌≡◌, ℕ, ◌-◌, ◌^◌, ◌<◌, Bool, true, false, cond, eqb, ltb, ◌&&◌, List, [], ◌∷◌, ◌++◌, length, refl, ap, sym, ◌∙◌, subst, arith}
+use Rattle.std.specs.Prelude.{ℤ, pos, negsuc, FitsSigned, Option, Some, None, IsTrue, suc}
 use Rattle.std.specs.List.{AllByRecursion, list_all}
 use Rattle.std.specs.Int.{w16, w32}
 use Rattle.std.specs.Fmt.{decimal, signed_decimal}
@@ -11,25 +11,22 @@ use Rattle.bq_insn.specs.declared.insn.Operand.TheVariants as operands
 use Rattle.bq_insn.specs.declared.insn.Operand.{Operand}
 use Rattle.bq_insn.specs.declared.insn.Insn.{Insn}
 use Rattle.bq_insn.specs.declared.insn.Insn.TheVariants as insns
-use Rattle.bq_insn.specs.Insn.{IsOperand, IsInsn}
+use Rattle.bq_insn.specs.Insn.{IsOperand}
 use Rattle.bq_asm.specs.declared.mnemonic.Mnemonic.{Mnemonic}
 use Rattle.bq_asm.specs.declared.mnemonic.Mnemonic.TheVariants as mnemonics
 use Rattle.bq_asm.specs.declared.jump.Jump.{Jump}
 use Rattle.bq_asm.specs.declared.jump.Jump.TheVariants as jumps
-use Rattle.bq_asm.specs.Line.{Statement, Complete, IsName, IsJump, IsStatement, is_letter, is_name_byte, AreListed, AreSpaces, IsComma, statement_operands, statement_mnemonic}
+use Rattle.bq_asm.specs.Statement.{Statement, Complete}
+use Rattle.bq_asm.specs.Line.{IsName, IsJump, IsStatement, is_letter, is_name_byte, AreListed, AreSpaces, IsComma, statement_operands, statement_mnemonic}
 use Rattle.bq_asm.specs.Operands.{register, operand, distance, memory, jump_insn, jump_mnemonic, jump_operands}
 use Rattle.bq_asm.specs.Reading.{◌>>=◌, strip, cut, positive_at, negative_at, signed_at, signed_else, distance_at, distance_else, positive_of, negative_of, fits, fitting, register_of, register_at, operand_at, operand_else, place_of, place_else, place_at, memory_at, is_name, jump_bits, jump_by, target_at, target_else, pair_at, trimmed, statement_at}
 use Rattle.spelling.specs.Natural.{natural_at}
 use Rattle.spelling.proofs.Decimal.{natural_sound}
-use Rattle.bq_asm.proofs.Spaces.{spaces_append, trimmed_of, cut-some}
+use Rattle.bq_asm.proofs.Spaces.{spaces_append, trimmed_of, map_some, cut-some}
 
 pub bind_some : {A B : Type 0} (o : Option A) (f : A → Option B) (y : B) → (o >>= f) ≡ Some y → (x : A) × (o ≡ Some x) × (f x ≡ Some y)
 bind_some None f y e = absurd cc
 bind_some (Some x) f y e = (x, refl, e)
-
-map_some : {A B : Type 0} (o : Option A) (f : A → B) (y : B) → option_map f o ≡ Some y → (x : A) × (o ≡ Some x) × (f x ≡ y)
-map_some None f y e = absurd cc
-map_some (Some x) f y e = (x, refl, cc)
 
 pub guard_some : {A : Type 0} (b : Bool) (o : Option A) (y : A) → cond b o None ≡ Some y → (b ≡ true) × (o ≡ Some y)
 guard_some true o y e = (refl, e)
@@ -60,21 +57,23 @@ negative_sound : (text : List ℕ) (z : ℤ) → negative_at text ≡ Some z →
 unfolding negative_at
 negative_sound text z e = let b = bind_some (natural_at text) negative_of z e in negative_by b.0 z text (natural_sound text b.0 b.1).0 b.2
 
+-- a minus, and a number behind it
+minus_sound : (text : List ℕ) (z : ℤ) → (strip 45 text >>= negative_at) ≡ Some z → (n : ℕ) × (z ≡ negsuc n) × (text ≡ 45 ∷ decimal (suc n))
+minus_sound text z e =
+    let b = bind_some (strip 45 text) negative_at z e in
+    let p = negative_sound b.0 z b.2 in
+    (p.0, p.1, strip_sound 45 text b.0 b.1 ∙ ap (λ (xs : List ℕ). 45 ∷ xs) p.2)
+
 signed_by : (text : List ℕ) (z : ℤ) (o : Option (List ℕ)) → strip 45 text ≡ o → signed_else text o ≡ Some z → text ≡ signed_decimal z
 signed_by text z None s e = let p = positive_sound text z e in p.2 ∙ ap signed_decimal (sym p.1)
-signed_by text z (Some ds) s e =
-    let p = negative_sound ds z e in
-    strip_sound 45 text ds s ∙ ap (λ (xs : List ℕ). 45 ∷ xs) p.2 ∙ ap signed_decimal (sym p.1)
+signed_by text z (Some ds) s e = let p = minus_sound text z (ap (λ o. o >>= negative_at) s ∙ e) in p.2 ∙ ap signed_decimal (sym p.1)
 
 signed_sound : (text : List ℕ) (z : ℤ) → signed_at text ≡ Some z → text ≡ signed_decimal z
 unfolding signed_at
 signed_sound text z e = signed_by text z (strip 45 text) refl e
 
 distance_by : (text : List ℕ) (z : ℤ) (o : Option (List ℕ)) → strip 43 text ≡ o → distance_else text o ≡ Some z → text ≡ distance z
-distance_by text z None s e =
-    let b = bind_some (strip 45 text) negative_at z e in
-    let p = negative_sound b.0 z b.2 in
-    strip_sound 45 text b.0 b.1 ∙ ap (λ (xs : List ℕ). 45 ∷ xs) p.2 ∙ ap distance (sym p.1)
+distance_by text z None s e = let p = minus_sound text z e in p.2 ∙ ap distance (sym p.1)
 distance_by text z (Some ds) s e =
     let p = positive_sound ds z e in
     strip_sound 43 text ds s ∙ ap (λ (xs : List ℕ). 43 ∷ xs) p.2 ∙ ap distance (sym p.1)
@@ -153,12 +152,13 @@ place_sound : (text : List ℕ) (p : ℕ × ℤ) → place_at text ≡ Some p �
 unfolding place_at
 place_sound text p e = place_by text p (cut 43 text) refl e
 
-pub record IsMemory (text : List ℕ) (p : ℕ × ℤ) : Type 0 where
-  pub base : p.0 < 11
-  pub offset : FitsSigned w16 p.1
-  pub parts : text ≡ memory p.0 p.1
+abbrev write_memory : ℕ × ℤ → List ℕ
+write_memory p = memory p.0 p.1
 
-memory_sound : (text : List ℕ) (p : ℕ × ℤ) → memory_at text ≡ Some p → IsMemory text p
+abbrev IsPlaceInMemory : ℕ × ℤ → Type 0
+IsPlaceInMemory p = (p.0 < 11) × FitsSigned w16 p.1
+
+memory_sound : (text : List ℕ) (p : ℕ × ℤ) → memory_at text ≡ Some p → (text ≡ write_memory p) × IsPlaceInMemory p
 unfolding memory_at
 memory_sound text p e =
     let b = bind_some (strip 91 text) (λ inner. cut 93 inner >>= λ q. cond (eqb (length q.1) 0) (place_at q.0) None) p e in
@@ -167,11 +167,7 @@ memory_sound text p e =
     let k = place_sound q.0.0 p h.1 in
     let nothing = ap (λ (xs : List ℕ). q.0.0 ++ (93 ∷ xs)) (nil_from_length q.0.1 (eqb-true _ 0 h.0)) in
     let inner = cut-some 93 b.0 q.0 q.1 ∙ nothing ∙ ap (λ (xs : List ℕ). xs ++ (93 ∷ [])) k.parts in
-    record {
-      base = k.base;
-      offset = k.offset;
-      parts = strip_sound 91 text b.0 b.1 ∙ ap (λ (xs : List ℕ). 91 ∷ xs) inner;
-    }
+    (strip_sound 91 text b.0 b.1 ∙ ap (λ (xs : List ℕ). 91 ∷ xs) inner, (k.base, k.offset))
 
 -- ---- names and jumps
 
@@ -192,15 +188,10 @@ pub record Jumps (j : Jump) (target : List ℕ) (s : Statement) : Type 0 where
   pub operands : statement_operands s ≡ jump_operands j target
   pub legal : IsStatement s
 
-jump_legal : (j : Jump) (z : ℤ) → IsJump j → fits (jump_bits j) z ≡ true → IsInsn (jump_insn j z)
-jump_legal jumps.Always z h f = fits_16 z f
-jump_legal jumps.Far z h f = fits_32 z f
-jump_legal (jumps.Branch w r d x) z h f = (h.0, h.1, fits_16 z f)
-
 jump_is : (j : Jump) (z : ℤ) → IsJump j → fits (jump_bits j) z ≡ true → Jumps j (distance z) (Complete (jump_insn j z))
-jump_is jumps.Always z h f = record { mnemonic = refl; operands = refl; legal = jump_legal jumps.Always z h f }
-jump_is jumps.Far z h f = record { mnemonic = refl; operands = refl; legal = jump_legal jumps.Far z h f }
-jump_is (jumps.Branch w r d x) z h f = record { mnemonic = refl; operands = refl; legal = jump_legal (jumps.Branch w r d x) z h f }
+jump_is jumps.Always z h f = record { mnemonic = refl; operands = refl; legal = fits_16 z f }
+jump_is jumps.Far z h f = record { mnemonic = refl; operands = refl; legal = fits_32 z f }
+jump_is (jumps.Branch w r d x) z h f = record { mnemonic = refl; operands = refl; legal = (h.0, h.1, fits_16 z f) }
 
 target_by : (j : Jump) (text : List ℕ) (s : Statement) (o : Option ℤ) → IsJump j → distance_at text ≡ o → target_else j text o ≡ Some s → Jumps j text s
 target_by j text s (Some z) h d e =
@@ -297,15 +288,6 @@ reads_two one two write_one write_two IsOne IsTwo one_sound two_sound m make tex
 abbrev IsRegister : ℕ → Type 0
 IsRegister r = r < 11
 
-abbrev IsPlaceInMemory : ℕ × ℤ → Type 0
-IsPlaceInMemory p = (p.0 < 11) × FitsSigned w16 p.1
-
-abbrev write_memory : ℕ × ℤ → List ℕ
-write_memory p = memory p.0 p.1
-
-memory_kept : (text : List ℕ) (p : ℕ × ℤ) → memory_at text ≡ Some p → (text ≡ write_memory p) × IsPlaceInMemory p
-memory_kept text p e = let k = memory_sound text p e in (k.parts, (k.base, k.offset))
-
 pub statement_sound : (m : Mnemonic) (text : List ℕ) (s : Statement) → statement_at m text ≡ Some s → Reads m text s
 unfolding statement_at
 statement_sound (mnemonics.Alu w op) text s e =
@@ -346,13 +328,13 @@ statement_sound mnemonics.Exit text s e =
     let h = cond_some (eqb (length text) 0) (Complete insns.Exit) s e in
     subst (Reads mnemonics.Exit text) h.1 (record { mnemonic = refl; legal = tt; spread = spread_none text (nil_from_length text (eqb-true _ 0 h.0)) })
 statement_sound (mnemonics.Load z) text s e =
-    reads_two register_at memory_at register write_memory IsRegister IsPlaceInMemory register_sound memory_kept (mnemonics.Load z)
+    reads_two register_at memory_at register write_memory IsRegister IsPlaceInMemory register_sound memory_sound (mnemonics.Load z)
     (λ d p. insns.Load z d p.0 p.1) text s (λ d p low is spread. record { mnemonic = refl; legal = (low, is.0, is.1); spread = spread }) e
 statement_sound (mnemonics.LoadSigned z) text s e =
-    reads_two register_at memory_at register write_memory IsRegister IsPlaceInMemory register_sound memory_kept (mnemonics.LoadSigned z)
+    reads_two register_at memory_at register write_memory IsRegister IsPlaceInMemory register_sound memory_sound (mnemonics.LoadSigned z)
     (λ d p. insns.LoadSigned z d p.0 p.1) text s (λ d p low is spread. record { mnemonic = refl; legal = (low, is.0, is.1); spread = spread }) e
 statement_sound (mnemonics.Store z) text s e =
-    reads_two memory_at operand_at write_memory operand IsPlaceInMemory IsOperand memory_kept operand_sound (mnemonics.Store z)
+    reads_two memory_at operand_at write_memory operand IsPlaceInMemory IsOperand memory_sound operand_sound (mnemonics.Store z)
     (λ p x. insns.Store z p.0 p.1 x) text s (λ p x place is spread. record { mnemonic = refl; legal = (place.0, place.1, is); spread = spread }) e
 statement_sound mnemonics.Wide text s e =
     reads_two register_at natural_at register decimal IsRegister (λ v. v < 2 ^ 64) register_sound natural_sound mnemonics.Wide insns.Wide

@@ -1,8 +1,9 @@
 -- Texts with spaces about them.
-use Rattle.std.proofs.Common.{◌≡◌, ℕ, ◌<◌, true, false, eqb, List, [], ◌∷◌, ◌++◌, length, Option, Some, None, refl, ap, sym, ◌∙◌, subst, inl, inr, ◌⊎◌, arith, length-append}
-use Rattle.std.specs.Prelude.{option_map}
+use Rattle.std.proofs.Common.{◌≡◌, ℕ, ◌<◌, true, false, eqb, List, [], ◌∷◌, ◌++◌, length, refl, ap, sym, ◌∙◌, subst, inl, inr, ◌⊎◌, arith, length-append}
+use Rattle.std.specs.Prelude.{option_map, Option, Some, None}
 use Rattle.std.proofs.lemmas.Bool.{cond-false, cond-true, eq-eqb, eqb-true, cases_Bool}
 use Rattle.std.proofs.lemmas.List.{append_assoc, append-nil}
+use Rattle.std.proofs.lemmas.Option.{same_Some}
 use Rattle.bq_asm.specs.Reading.{cut, trim_start, trim_end, before_spaces, trimmed}
 use Rattle.bq_asm.specs.Line.{AreSpaces}
 use Rattle.bq_asm.proofs.Parts.{Lacks, trim_end_push}
@@ -96,29 +97,31 @@ pub record Back (s : List ℕ) : Type 0 where
   spaces : AreSpaces after
   parts : s ≡ trim_end s ++ after
 
-back_empty : (c : ℕ) (s : List ℕ) → [] ≡ trim_end s → Back s → (eqb c 32 ≡ true) ⊎ (eqb c 32 ≡ false) → Back (c ∷ s)
-back_empty c s e b (inl k) = record {
-  after = c ∷ s;
-  spaces = (eqb-true c 32 k, subst AreSpaces (sym (b.parts ∙ ap (λ (xs : List ℕ). xs ++ b.after) (sym e))) b.spaces);
-  parts = ap (λ (xs : List ℕ). xs ++ (c ∷ s)) (sym (cond-true (eqb c 32) [] (c ∷ []) k) ∙ ap (before_spaces c) e);
-}
-back_empty c s e b (inr k) = record {
-  after = b.after;
-  spaces = b.spaces;
-  parts = ap (λ (xs : List ℕ). c ∷ xs) (b.parts ∙ ap (λ (xs : List ℕ). xs ++ b.after) (sym e)) ∙ ap (λ (xs : List ℕ). xs ++ b.after) (sym (cond-false (eqb c 32) [] (c ∷ []) k) ∙ ap (before_spaces c) e);
-}
+-- before spaces alone a byte stays, or is a space; before others it stays
+before_by : (c : ℕ) (t : List ℕ) → ((c ≡ 32) × (t ≡ []) × (before_spaces c t ≡ [])) ⊎ (before_spaces c t ≡ c ∷ t)
+before_by c [] = elim (cases_Bool (eqb c 32)) [
+  | inl e ↦ inl (eqb-true c 32 e, refl, cond-true (eqb c 32) _ _ e)
+  | inr e ↦ inr (cond-false (eqb c 32) _ _ e)
+]
+before_by c (d ∷ ds) = inr refl
 
-back_by : (c : ℕ) (s t : List ℕ) → t ≡ trim_end s → Back s → Back (c ∷ s)
-back_by c s [] e b = back_empty c s e b (cases_Bool (eqb c 32))
-back_by c s (d ∷ ds) e b = record {
-  after = b.after;
-  spaces = b.spaces;
-  parts = ap (λ (xs : List ℕ). c ∷ xs) (b.parts ∙ ap (λ (xs : List ℕ). xs ++ b.after) (sym e)) ∙ ap (λ (xs : List ℕ). before_spaces c xs ++ b.after) e;
-}
+back_by : (c : ℕ) (s : List ℕ) → Back s → Back (c ∷ s)
+back_by c s b = elim (before_by c (trim_end s)) [
+  | inl h ↦ record {
+    after = c ∷ s;
+    spaces = (h.0, subst AreSpaces (sym (b.parts ∙ ap (λ (xs : List ℕ). xs ++ b.after) h.1)) b.spaces);
+    parts = ap (λ (xs : List ℕ). xs ++ (c ∷ s)) (sym h.2);
+  }
+  | inr h ↦ record {
+    after = b.after;
+    spaces = b.spaces;
+    parts = ap (λ (xs : List ℕ). c ∷ xs) b.parts ∙ ap (λ (xs : List ℕ). xs ++ b.after) (sym h);
+  }
+]
 
 back_of : (s : List ℕ) → Back s
 back_of [] = record { after = []; spaces = tt; parts = refl }
-back_of (c ∷ s) = back_by c s (trim_end s) refl (back_of s)
+back_of (c ∷ s) = back_by c s (back_of s)
 
 -- a text is what trimming leaves, between spaces
 pub record Trimmed (s t : List ℕ) : Type 0 where
@@ -143,20 +146,19 @@ trimmed_of s =
 
 -- ---- what was cut
 
+pub map_some : {A B : Type 0} (o : Option A) (f : A → B) (y : B) → option_map f o ≡ Some y → (x : A) × (o ≡ Some x) × (f x ≡ y)
+map_some None f y e = absurd cc
+map_some (Some x) f y e = (x, refl, cc)
+
 cut_by : (c d : ℕ) (s : List ℕ) (p : List ℕ × List ℕ) → ((q : List ℕ × List ℕ) → cut c s ≡ Some q → s ≡ q.0 ++ (c ∷ q.1))
-    → (o : Option (List ℕ × List ℕ)) → cut c s ≡ o → (eqb d c ≡ true) ⊎ (eqb d c ≡ false) → cut c (d ∷ s) ≡ Some p → d ∷ s ≡ p.0 ++ (c ∷ p.1)
-cut_by c d s p f o e (inl k) h =
-    let g : ◌≡◌ {A = Option (List ℕ × List ℕ)} (Some ([], s)) (Some p) = sym (cond-true (eqb d c) _ _ k) ∙ h in
-    let q : ◌≡◌ {A = List ℕ × List ℕ} ([], s) p = cc in
-    ap (λ (x : ℕ). x ∷ s) (eqb-true d c k) ∙ ap (λ (r : List ℕ × List ℕ). r.0 ++ (c ∷ r.1)) q
-cut_by c d s p f None e (inr k) h =
-    let g : ◌≡◌ {A = Option (List ℕ × List ℕ)} None (Some p) = ap (option_map (λ (r : List ℕ × List ℕ). (d ∷ r.0, r.1))) (sym e) ∙ sym (cond-false (eqb d c) _ _ k) ∙ h in
-    absurd cc
-cut_by c d s p f (Some q) e (inr k) h =
-    let g : ◌≡◌ {A = Option (List ℕ × List ℕ)} (Some (d ∷ q.0, q.1)) (Some p) = ap (option_map (λ (r : List ℕ × List ℕ). (d ∷ r.0, r.1))) (sym e) ∙ sym (cond-false (eqb d c) _ _ k) ∙ h in
-    let r : ◌≡◌ {A = List ℕ × List ℕ} (d ∷ q.0, q.1) p = cc in
-    ap (λ (xs : List ℕ). d ∷ xs) (f q e) ∙ ap (λ (x : List ℕ × List ℕ). x.0 ++ (c ∷ x.1)) r
+    → (eqb d c ≡ true) ⊎ (eqb d c ≡ false) → cut c (d ∷ s) ≡ Some p → d ∷ s ≡ p.0 ++ (c ∷ p.1)
+cut_by c d s p f (inl k) h =
+    let e = same_Some ([], s) p (sym (cond-true (eqb d c) _ _ k) ∙ h) in
+    ap (λ (x : ℕ). x ∷ s) (eqb-true d c k) ∙ ap (λ (r : List ℕ × List ℕ). r.0 ++ (c ∷ r.1)) e
+cut_by c d s p f (inr k) h =
+    let m = map_some (cut c s) (λ (r : List ℕ × List ℕ). (d ∷ r.0, r.1)) p (sym (cond-false (eqb d c) _ _ k) ∙ h) in
+    ap (λ (xs : List ℕ). d ∷ xs) (f m.0 m.1) ∙ ap (λ (r : List ℕ × List ℕ). r.0 ++ (c ∷ r.1)) m.2
 
 pub cut-some : (c : ℕ) (s : List ℕ) (p : List ℕ × List ℕ) → cut c s ≡ Some p → s ≡ p.0 ++ (c ∷ p.1)
 cut-some c [] p h = absurd cc
-cut-some c (d ∷ s) p h = cut_by c d s p (cut-some c s) (cut c s) refl (cases_Bool (eqb d c)) h
+cut-some c (d ∷ s) p h = cut_by c d s p (cut-some c s) (cases_Bool (eqb d c)) h

@@ -1,6 +1,6 @@
 -- A source spells one text at most, and one that spells a text has no fault.
-use Rattle.std.proofs.Common.{◌≡◌, ℕ, ◌<◌, ◌≤◌, List, [], ◌∷◌, ◌++◌, length, Option, Some, None, refl, ap, sym, ◌∙◌, subst, inl, inr, ◌⊎◌, arith, length-append}
-use Rattle.std.specs.Prelude.{pos, min, MatchOption, MatchResult, IfOk, IfErr, IsErr, IsErrAnd, Result, Ok, Err}
+use Rattle.std.proofs.Common.{◌≡◌, ℕ, ◌<◌, ◌≤◌, List, [], ◌∷◌, ◌++◌, Option, Some, None, refl, ap, sym, ◌∙◌, subst, inl, inr, ◌⊎◌, arith}
+use Rattle.std.specs.Prelude.{pos, min, MatchOption, MatchResult, IfOk, IfErr, IsErrAnd, Result, Ok, Err}
 use Rattle.std.specs.List.{AllZip}
 use Rattle.bq_insn.specs.declared.insn.Insn.{Insn}
 use Rattle.bq_insn.specs.Slots.{units, IsText}
@@ -11,6 +11,7 @@ use Rattle.bq_asm.specs.Line.{Statement, Complete, JumpTo, Line, Blank, Label, I
 use Rattle.bq_asm.specs.Labels.{NoLine, IsFirstLine, IsRepeated, IsUnresolved, HasLabelFault, Mean, Means}
 use Rattle.bq_asm.specs.Source.{lines_of, Says, IsSource, IsUnreadable, IsFault, HasOneFault}
 use Rattle.bq_asm.specs.Steps.{IsLengthFault, least}
+use Rattle.bq_asm.proofs.First.{first_above}
 use Rattle.bq_asm.proofs.Said.{one_saying}
 
 says_unique : (texts : List (List ℕ)) (v w : List Line) → AllZip Spells texts v → AllZip Spells texts w → v ≡ w
@@ -54,29 +55,34 @@ no_unreadable before (t ∷ texts) [] n h f = h
 no_unreadable before (t ∷ texts) (x ∷ v) n h (inl f) = f.0 x h.0
 no_unreadable before (t ∷ texts) (x ∷ v) n h (inr f) = no_unreadable (before ++ t ∷ []) texts v n h.1 f.1
 
-rest_of : (line : Line) (lines : List Line) (t : List Insn) → Mean (line ∷ lines) t → (u : List Insn) × Mean lines u
-rest_of Blank lines t m = (t, m)
-rest_of (Label label) lines t m = (t, m)
-rest_of (Instruction s) lines [] m = absurd m
-rest_of (Instruction s) lines (i ∷ t) m = (t, m.1)
+rest_of : (before : List Line) (line : Line) (lines : List Line) (t : List Insn) → Mean (line ∷ lines) t
+    → (u : List Insn) × Mean lines u × (IsUnresolved before line lines → ⊥)
+rest_of before Blank lines t m = (t, m, λ n. n)
+rest_of before (Label label) lines t m = (t, m, λ n. n)
+rest_of before (Instruction s) lines [] m = absurd m
+rest_of before (Instruction s) lines (i ∷ t) m = (t, m.1, λ n. n i m.0)
 
 no_label_fault : (before lines : List Line) (t : List Insn) (n : ℕ) → NoLine IsRepeated before lines → Mean lines t
     → IsFirstLine HasLabelFault before lines n → ⊥
 no_label_fault before [] t n h m f = f
-no_label_fault before (line ∷ lines) t n h m (inr f) = no_label_fault (before ++ line ∷ []) lines (rest_of line lines t m).0 n h.1 (rest_of line lines t m).1 f.1
-no_label_fault before (Blank ∷ lines) t n h m (inl (inl r, e)) = r
-no_label_fault before (Blank ∷ lines) t n h m (inl (inr u, e)) = u
-no_label_fault before (Label label ∷ lines) t n h m (inl (inl r, e)) = h.0 r
-no_label_fault before (Label label ∷ lines) t n h m (inl (inr u, e)) = u
-no_label_fault before (Instruction s ∷ lines) t n h m (inl (inl r, e)) = r
-no_label_fault before (Instruction s ∷ lines) [] n h m (inl (inr u, e)) = m
-no_label_fault before (Instruction s ∷ lines) (i ∷ t) n h m (inl (inr u, e)) = u i m.0
+no_label_fault before (line ∷ lines) t n h m (inl (inl r, e)) = h.0 r
+no_label_fault before (line ∷ lines) t n h m (inl (inr u, e)) = (rest_of before line lines t m).2 u
+no_label_fault before (line ∷ lines) t n h m (inr f) =
+    let rest = rest_of before line lines t m in
+    no_label_fault (before ++ line ∷ []) lines rest.0 n h.1 rest.1 f.1
+
+-- where each line says something, none is unreadable, so want of memory may be told
+readable : (source : List ℕ) (lines : List Line) (n : ℕ) → Says source lines → IsFault source (faults.Syntax n) → ⊥
+readable source lines n says f = no_unreadable [] (lines_of source) lines n says f
+
+labelled : (source : List ℕ) (t : List Insn) (n : ℕ) → IsSource source t → IsFault source (faults.Label n) → ⊥
+labelled source t n h f =
+    let e = says_unique (lines_of source) f.0 h.lines f.1 h.says in
+    no_label_fault [] h.lines t n h.once h.means (subst (λ lines. IsFirstLine HasLabelFault [] lines n) e f.2)
 
 pub no_fault : (source : List ℕ) (t : List Insn) (e : AsmFault) → IsText t → IsSource source t → IsFault source e → e ≡ faults.OutOfMemory
-no_fault source t (faults.Syntax n) x h f = absurd (no_unreadable [] (lines_of source) h.lines n h.says f)
-no_fault source t (faults.Label n) x h f =
-    let e = says_unique (lines_of source) f.0 h.lines f.1 h.says in
-    absurd (no_label_fault [] h.lines t n h.once h.means (subst (λ lines. IsFirstLine HasLabelFault [] lines n) e f.2))
+no_fault source t (faults.Syntax n) x h f = absurd (readable source h.lines n h.says f)
+no_fault source t (faults.Label n) x h f = absurd (labelled source t n h f)
 no_fault source t faults.BadLength x h f =
     let e = one_text source t [] h f in
     let u = subst (λ (y : List Insn). 1 ≤ units y) e x.some in
@@ -97,22 +103,13 @@ module _ {A : Type 0} (P : List A → A → List A → Type 0) where
   one_first_line before (line ∷ lines) m n (inr f) (inl g) = absurd (f.0 g.0)
   one_first_line before (line ∷ lines) m n (inr f) (inr g) = one_first_line (before ++ line ∷ []) lines m n f.1 g.1
 
--- where each line says something, none is unreadable, so want of memory may be told
-readable : (source : List ℕ) (lines : List Line) (n : ℕ) → Says source lines → IsFault source (faults.Syntax n) → ⊥
-readable source lines n says f = no_unreadable [] (lines_of source) lines n says f
-
-pub may_run_out : (source : List ℕ) (lines : List Line) → Says source lines → IsFault source faults.OutOfMemory
+may_run_out : (source : List ℕ) (lines : List Line) → Says source lines → IsFault source faults.OutOfMemory
 may_run_out source lines says = λ f. readable source lines 1 says f
 
-pub run_out : {A : Type 0} (source : List ℕ) (r : Result A AsmFault) → IsFault source faults.OutOfMemory → IsErr r
+pub run_out : {A : Type 0} (source : List ℕ) (lines : List Line) → Says source lines → (r : Result A AsmFault)
     → IsErrAnd r (λ e. e ≡ faults.OutOfMemory) → IfErr r (IsFault source)
-run_out source (Ok a) out h k = tt
-run_out source (Err e) out h k = subst (IsFault source) (sym k) out
-
-labelled : (source : List ℕ) (t : List Insn) (n : ℕ) → IsSource source t → IsFault source (faults.Label n) → ⊥
-labelled source t n h f =
-    let e = says_unique (lines_of source) f.0 h.lines f.1 h.says in
-    no_label_fault [] h.lines t n h.once h.means (subst (λ lines. IsFirstLine HasLabelFault [] lines n) e f.2)
+run_out source lines says (Ok a) k = tt
+run_out source lines says (Err e) k = subst (IsFault source) (sym k) (may_run_out source lines says)
 
 short : (source : List ℕ) → IsFault source faults.BadLength → IsFault source faults.TooLong → ⊥
 short source h f =
@@ -149,11 +146,6 @@ all_from (Err e) source t x h s f = no_fault source t e x h f
 
 -- ---- the least line of either kind
 
-first_above : {A : Type 0} (P : List A → A → List A → Type 0) (before lines : List A) (n : ℕ) → IsFirstLine P before lines n → length before < n
-first_above P before [] n f = absurd f
-first_above P before (line ∷ lines) n (inl f) = omega (arith, f.1)
-first_above P before (line ∷ lines) n (inr f) = omega (arith, first_above P (before ++ line ∷ []) lines n f.1, length-append before (line ∷ []))
-
 abbrev Either : {A : Type 0} → (List A → A → List A → Type 0) → (List A → A → List A → Type 0) → List A → A → List A → Type 0
 Either P Q before line after = P before line after ⊎ Q before line after
 
@@ -172,31 +164,28 @@ module _ {A : Type 0} (P Q : List A → A → List A → Type 0) where
   first_right before (line ∷ lines) n h (inl f) = inl (inr f.0, f.1)
   first_right before (line ∷ lines) n h (inr f) = inr (neither h.0 f.0, first_right (before ++ line ∷ []) lines n h.1 f.1)
 
-  first_both : (before lines : List A) (m n : ℕ) → IsFirstLine P before lines m → IsFirstLine Q before lines n → IsFirstLine (Either P Q) before lines (min m n)
+  first_both : (before lines : List A) (m n : ℕ) → IsFirstLine P before lines m → IsFirstLine Q before lines n
+      → IsFirstLine (Either P Q) before lines (min m n)
   first_both before [] m n f g = f
   first_both before (line ∷ lines) m n (inl f) g = let l = first_above Q before (line ∷ lines) n g in inl (inl f.0, omega (arith, f.1, l))
   first_both before (line ∷ lines) m n (inr f) (inl g) = let l = first_above P before (line ∷ lines) m (inr f) in inl (inr g.0, omega (arith, g.1, l))
   first_both before (line ∷ lines) m n (inr f) (inr g) = inr (neither f.0 g.0, first_both (before ++ line ∷ []) lines m n f.1 g.1)
 
-abbrev pub Repeats : List Line → Option ℕ → Type 0
-Repeats lines o = MatchOption o (NoLine IsRepeated [] lines) (IsFirstLine IsRepeated [] lines)
+-- the least line that repeats a name, or none, and the instructions, or the least line that is not resolved
+pub record IsPassed (lines : List Line) (t : List Insn) (repeated unresolved : Option ℕ) : Type 0 where
+  pub once : MatchOption repeated (NoLine IsRepeated [] lines) (IsFirstLine IsRepeated [] lines)
+  pub means : MatchOption unresolved (NoLine IsUnresolved [] lines × Mean lines t) (IsFirstLine IsUnresolved [] lines)
 
-abbrev pub Resolves : List Line → List Insn → Option ℕ → Type 0
-Resolves lines t o = MatchOption o (NoLine IsUnresolved [] lines × Mean lines t) (IsFirstLine IsUnresolved [] lines)
+least_fault : (lines : List Line) (t : List Insn) (a b : Option ℕ) → IsPassed lines t a b
+    → MatchOption (least a b) (NoLine IsRepeated [] lines × Mean lines t) (IsFirstLine HasLabelFault [] lines)
+least_fault lines t None None p = (p.once, p.means.1)
+least_fault lines t None (Some m) p = first_right IsRepeated IsUnresolved [] lines m p.once p.means
+least_fault lines t (Some m) None p = first_left IsRepeated IsUnresolved [] lines m p.once p.means.0
+least_fault lines t (Some m) (Some n) p = first_both IsRepeated IsUnresolved [] lines m n p.once p.means
 
-pub label_fault : (lines : List Line) (t : List Insn) (a b : Option ℕ) (n : ℕ) → Repeats lines a → Resolves lines t b → least a b ≡ Some n
-    → IsFirstLine HasLabelFault [] lines n
-label_fault lines t None None n h k e = absurd cc
-label_fault lines t None (Some m) n h k e = let f : m ≡ n = cc in subst (IsFirstLine HasLabelFault [] lines) f (first_right IsRepeated IsUnresolved [] lines m h k)
-label_fault lines t (Some m) None n h k e = let f : m ≡ n = cc in subst (IsFirstLine HasLabelFault [] lines) f (first_left IsRepeated IsUnresolved [] lines m h k.0)
-label_fault lines t (Some m) (Some l) n h k e = let f : min m l ≡ n = cc in subst (IsFirstLine HasLabelFault [] lines) f (first_both IsRepeated IsUnresolved [] lines m l h k)
-
-pub no_label : (lines : List Line) (t : List Insn) (a b : Option ℕ) → Repeats lines a → Resolves lines t b → least a b ≡ None
-    → NoLine IsRepeated [] lines × Mean lines t
-no_label lines t None None h k e = (h, k.1)
-no_label lines t None (Some m) h k e = absurd cc
-no_label lines t (Some m) None h k e = absurd cc
-no_label lines t (Some m) (Some l) h k e = absurd cc
+pub label_fault : {lines : List Line} {t : List Insn} {a b : Option ℕ} → IsPassed lines t a b → (o : Option ℕ) → o ≡ least a b
+    → MatchOption o (NoLine IsRepeated [] lines × Mean lines t) (IsFirstLine HasLabelFault [] lines)
+label_fault {lines} {t} {a} {b} p o e = rw e (least_fault lines t a b p)
 
 -- what is wrong with the instructions' length is wrong with the source that means them
 pub length_fault : (source : List ℕ) (lines : List Line) (t : List Insn) (r : Result (List Insn) AsmFault) → Says source lines

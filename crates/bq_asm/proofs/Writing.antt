@@ -8,35 +8,30 @@ use Rattle.std.proofs.lemmas.List.Elements.{All-from_recursion}
 use Rattle.std.proofs.lemmas.List.Splits.{slice_split_at}
 use Rattle.bq_insn.specs.declared.insn.Insn.{Insn}
 use Rattle.bq_insn.specs.Insn.{IsInsn}
-use Rattle.bq_insn.specs.Slots.{slots, slots_of, begun}
-use Rattle.bq_insn.proofs.Reading.{begun-append, begun-slots_of}
+use Rattle.bq_insn.specs.Slots.{slots, begun}
+use Rattle.bq_insn.proofs.Reading.{begun-append}
+use Rattle.bq_insn.proofs.Listed.{begun-slots}
 use Rattle.bq_asm.specs.Mnemonic.{name}
 use Rattle.bq_asm.specs.Operands.{mnemonic_of, operands_of}
-use Rattle.bq_asm.specs.Line.{Complete, Line, Blank, Instruction, AreListed, IsGap, Spells}
+use Rattle.bq_asm.specs.Line.{Complete, Line, Blank, Instruction, IsComma, AreListed, IsGap, Spells}
 use Rattle.bq_asm.specs.Labels.{NoLine, IsRepeated, Mean}
 use Rattle.bq_asm.specs.Source.{lines_of, IsSource, listed, spaced, insn_line, disassembly}
 use Rattle.bq_asm.proofs.Parts.{Lacks}
-use Rattle.bq_asm.proofs.Spaces.{lacks_append}
-use Rattle.bq_asm.proofs.Clean.{no_line_feed, clean_lacks}
-use Rattle.bq_asm.proofs.Mnemonics.{name_clean}
-use Rattle.bq_asm.proofs.Again.{Words, operands_words}
+use Rattle.bq_asm.proofs.Clean.{no_line_feed}
+use Rattle.bq_asm.proofs.Spelled.{Core, core_lacks}
 
 -- ---- unit by unit
 
-pub line_more : (t : List Insn) (k : ℕ) (o : Option Insn) (before after : List ℕ) → k < length (slots t) → o ≡ get_or (slots t) k None
+pub line_more : (t : List Insn) (k : ℕ) {o : Option Insn} {before after : List ℕ} → k < length (slots t) → o ≡ get_or (slots t) k None
     → before ≡ disassembly (begun (take k (slots t))) → after ≡ before ++ disassembly (begun (o ∷ []))
     → after ≡ disassembly (begun (take (k + 1) (slots t)))
-line_more t k o before after l e b a =
+line_more t k {o} l e b a =
     let s : take (k + 1) (slots t) ≡ take k (slots t) ++ o ∷ [] = take_more (slots t) k None l ∙ ap (λ (p : Option Insn). take k (slots t) ++ p ∷ []) (sym e) in
     a ∙ ap (λ (u : List ℕ). u ++ disassembly (begun (o ∷ []))) b ∙ sym (flat_map-append insn_line (begun (take k (slots t))) (begun (o ∷ [])))
     ∙ ap disassembly (sym (begun-append (take k (slots t)) (o ∷ []))) ∙ ap (λ u. disassembly (begun u)) (sym s)
 
-pub begun-slots : (t : List Insn) → begun (slots t) ≡ t
-begun-slots [] = refl
-begun-slots (i ∷ t) = begun-append (slots_of i) (slots t) ∙ ap (λ (u : List Insn). u ++ begun (slots t)) (begun-slots_of i) ∙ ap (λ (u : List Insn). i ∷ u) (begun-slots t)
-
-pub all_written : (t : List Insn) (k : ℕ) (out : List ℕ) → length (slots t) ≤ k → out ≡ disassembly (begun (take k (slots t))) → out ≡ disassembly t
-all_written t k out l e = e ∙ ap (λ u. disassembly (begun u)) (take_all k (slots t) l) ∙ ap disassembly (begun-slots t)
+pub all_written : (t : List Insn) (k : ℕ) {out : List ℕ} → length (slots t) ≤ k → out ≡ disassembly (begun (take k (slots t))) → out ≡ disassembly t
+all_written t k l e = e ∙ ap (λ u. disassembly (begun u)) (take_all k (slots t) l) ∙ ap disassembly (begun-slots t)
 
 -- ---- the line of an instruction
 
@@ -46,44 +41,36 @@ text_of i = name (mnemonic_of i) ++ spaced (operands_of i)
 are_listed : (xs : List (List ℕ)) → AreListed xs (listed xs)
 are_listed [] = refl
 are_listed (x ∷ []) = refl
-are_listed (x ∷ y ∷ xs) = (codes ", ", listed (y ∷ xs), record { before = []; after = 32 ∷ []; spaces_before = tt; spaces_after = (refl, tt); parts = refl }, are_listed (y ∷ xs), refl)
+are_listed (x ∷ y ∷ xs) =
+    let comma : IsComma (codes ", ") = record { before = []; after = 32 ∷ []; spaces_before = tt; spaces_after = (refl, tt); parts = refl } in
+    (codes ", ", listed (y ∷ xs), comma, are_listed (y ∷ xs), refl)
 
-listed_lacks : (xs : List (List ℕ)) → Words xs → Lacks 10 (listed xs)
-listed_lacks [] w = tt
-listed_lacks (x ∷ []) w = clean_lacks 10 x no_line_feed w.0.clean
-listed_lacks (x ∷ y ∷ xs) w = lacks_append 10 x (codes ", " ++ listed (y ∷ xs)) (clean_lacks 10 x no_line_feed w.0.clean) (refl, (refl, listed_lacks (y ∷ xs) w.1))
+gap_of : (xs : List (List ℕ)) → (gap : List ℕ) × IsGap xs gap × (spaced xs ≡ gap ++ listed xs)
+gap_of [] = ([], refl, refl)
+gap_of (x ∷ xs) = (32 ∷ [], ((refl, tt), omega arith), refl)
 
-spaced_lacks : (xs : List (List ℕ)) → Words xs → Lacks 10 (spaced xs)
-spaced_lacks [] w = tt
-spaced_lacks (x ∷ xs) w = (refl, listed_lacks (x ∷ xs) w)
-
-text_lacks : (i : Insn) → IsInsn i → Lacks 10 (text_of i)
-text_lacks i h = lacks_append 10 (name (mnemonic_of i)) (spaced (operands_of i)) (clean_lacks 10 _ no_line_feed (name_clean (mnemonic_of i))) (spaced_lacks (operands_of i) (operands_words (Complete i) h))
-
--- a line with nothing before its instruction and nothing behind it
-bare : (i : Insn) (line gap list : List ℕ) → IsInsn i → IsGap (operands_of i) gap → AreListed (operands_of i) list
-    → line ≡ name (mnemonic_of i) ++ (gap ++ (list ++ [])) → Spells line (Instruction (Complete i))
-bare i line gap list h before_list listed_so parts = record {
-  before = [];
-  gap = gap;
-  list = list;
-  after = [];
-  comment = [];
-  spaces_before = tt;
-  is_gap = before_list;
-  are_listed = listed_so;
-  spaces_after = tt;
-  is_comment = tt;
-  legal = h;
-  parts = parts;
-}
-
-spells_by : (i : Insn) (xs : List (List ℕ)) → xs ≡ operands_of i → IsInsn i → Spells (name (mnemonic_of i) ++ spaced xs) (Instruction (Complete i))
-spells_by i [] e h = bare i (name (mnemonic_of i) ++ spaced []) [] [] h (subst (λ ys. IsGap ys []) e refl) (subst (λ ys. AreListed ys []) e refl) refl
-spells_by i (x ∷ xs) e h =
-    bare i (name (mnemonic_of i) ++ spaced (x ∷ xs)) (32 ∷ []) (listed (x ∷ xs)) h (subst (λ ys. IsGap ys (32 ∷ [])) e ((refl, tt), omega arith))
-    (subst (λ ys. AreListed ys (listed (x ∷ xs))) e (are_listed (x ∷ xs)))
-    (ap (λ (u : List ℕ). name (mnemonic_of i) ++ (32 ∷ u)) (sym (append-nil (listed (x ∷ xs)))))
+-- the text of an instruction has no line feed, and spells it
+text_says : (i : Insn) → IsInsn i → Lacks 10 (text_of i) × Spells (text_of i) (Instruction (Complete i))
+text_says i h =
+    let list = listed (operands_of i) in
+    let gap = gap_of (operands_of i) in
+    let core : Core (Complete i) gap.0 list = record { legal = h; gaps = gap.1; listed = are_listed (operands_of i) } in (
+      rw gap.2 (core_lacks core 10 no_line_feed refl refl),
+      record {
+        before = [];
+        gap = gap.0;
+        list = list;
+        after = [];
+        comment = [];
+        spaces_before = tt;
+        is_gap = gap.1;
+        are_listed = core.listed;
+        spaces_after = tt;
+        is_comment = tt;
+        legal = h;
+        parts = ap (λ (u : List ℕ). name (mnemonic_of i) ++ u) (gap.2 ∙ ap (λ (u : List ℕ). gap.0 ++ u) (sym (append-nil list)));
+      },
+    )
 
 -- ---- the whole
 
@@ -93,12 +80,13 @@ said (i ∷ t) = Instruction (Complete i) ∷ said t
 
 cut_line : (i : Insn) (rest : List ℕ) → IsInsn i → lines_of (insn_line i ++ rest) ≡ text_of i ∷ lines_of rest
 cut_line i rest h =
-    ap lines_of (ap (λ (u : List ℕ). u ++ rest) (sym (append_assoc (name (mnemonic_of i)) (spaced (operands_of i)) (10 ∷ []))) ∙ append_assoc (text_of i) (10 ∷ []) rest)
-    ∙ slice_split_at (λ c. eqb c 10) (text_of i) 10 rest (All-from_recursion (λ c. eqb c 10 ≡ false) (text_of i) (text_lacks i h)) refl
+    let parts : insn_line i ++ rest ≡ text_of i ++ (10 ∷ rest) = simp append_assoc in
+    ap lines_of parts
+    ∙ slice_split_at (λ c. eqb c 10) (text_of i) 10 rest (All-from_recursion (λ c. eqb c 10 ≡ false) (text_of i) (text_says i h).0) refl
 
 says : (t : List Insn) → AllByRecursion IsInsn t → AllZip Spells (lines_of (disassembly t)) (said t)
 says [] h = (record { spaces = []; comment = []; are_spaces = tt; is_comment = tt; parts = refl }, tt)
-says (i ∷ t) h = subst (λ u. AllZip Spells u (said (i ∷ t))) (sym (cut_line i (disassembly t) h.0)) (spells_by i (operands_of i) refl h.0, says t h.1)
+says (i ∷ t) h = subst (λ u. AllZip Spells u (said (i ∷ t))) (sym (cut_line i (disassembly t) h.0)) ((text_says i h.0).1, says t h.1)
 
 said_once : (before : List Line) (t : List Insn) → NoLine IsRepeated before (said t)
 said_once before [] = (λ h. h, tt)

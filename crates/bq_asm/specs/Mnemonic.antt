@@ -18,6 +18,7 @@ use Rattle.bq_insn.specs.declared.insn.ByteOrder.{ByteOrder}
 use Rattle.bq_insn.specs.declared.insn.ByteOrder.TheVariants as orders
 use Rattle.bq_insn.specs.declared.insn.Size.{Size}
 use Rattle.bq_insn.specs.declared.insn.Size.TheVariants as sizes
+use Rattle.bq_insn.specs.Opcode.{all_relations, all_sizes}
 use Rattle.bq_asm.specs.declared.mnemonic.Mnemonic.{Mnemonic}
 use Rattle.bq_asm.specs.declared.mnemonic.Mnemonic.TheVariants as mnemonics
 
@@ -114,14 +115,8 @@ all_orders = orders.Little ∷ orders.Big ∷ orders.Swapped ∷ []
 abbrev pub all_bits : List SwapBits
 all_bits = swaps.B16 ∷ swaps.B32 ∷ swaps.B64 ∷ []
 
-abbrev pub all_relations : List Relation
-all_relations = relations.Equal ∷ relations.Greater ∷ relations.GreaterOrEqual ∷ relations.CommonBit ∷ relations.NotEqual ∷ relations.SignedGreater ∷ relations.SignedGreaterOrEqual ∷ relations.Less ∷ relations.LessOrEqual ∷ relations.SignedLess ∷ relations.SignedLessOrEqual ∷ []
-
 abbrev pub all_widths : List Width
 all_widths = W64 ∷ W32 ∷ []
-
-abbrev pub all_sizes : List Size
-all_sizes = sizes.B1 ∷ sizes.B2 ∷ sizes.B4 ∷ sizes.B8 ∷ []
 
 abbrev pub all_signs : List SignBits
 all_signs = signs.B8 ∷ signs.B16 ∷ signs.B32 ∷ []

@@ -3,7 +3,7 @@ use Rattle.std.proofs.Common.{◌≡◌, ℕ, ◌<◌, ◌^◌, ℤ, pos, negsuc
 use Rattle.std.proofs.lemmas.Int.{ints}
 use Rattle.std.specs.Int.{w32, cast_unsigned}
 use Rattle.spelling.specs.Numbers.{number_bytes}
-use Rattle.spelling.specs.Codes.{IsPrefixCode}
+use Rattle.spelling.specs.Codes.{IsPrefixCode, BeginsNone}
 use Rattle.spelling.proofs.Codes.{one_byte, other_byte, numbers_are_code, once, counted, AreCounted, HasParts, two_parts}
 use Rattle.bq_range.specs.Interval.{Interval, IsInterval, between}
 use Rattle.bq_state.specs.Offsets.{Span, IsSpan}
@@ -115,6 +115,9 @@ byte_bytes b = b ∷ []
 abbrev pub IsAny : ℕ → Type 0
 IsAny b = Unit {0}
 
+pub no_byte : (bytes : List ℕ) → bytes ≡ [] → BeginsNone byte_bytes IsAny bytes
+no_byte bytes empty = record { none = λ b more p e. let bad : [] ≡ b ∷ more = sym empty ∙ e in cc }
+
 bytes_are_code : IsPrefixCode byte_bytes IsAny
 bytes_are_code = record { one = λ a b x y p q e. one_byte a b x y e }
 
@@ -139,7 +142,8 @@ module _ (form : NotesForm) where
 
   -- ---- states and notes
 
-  pub state_parts : HasParts (λ (s : StateKinds). s.lengths) (λ (s : StateKinds). s.kinds) (lengths_bytes form) kinds_bytes (HasLengths form) (IsKinds form) (IsState form)
+  pub state_parts : HasParts (λ (s : StateKinds). s.lengths) (λ (s : StateKinds). s.kinds) (lengths_bytes form) kinds_bytes
+      (HasLengths form) (IsKinds form) (IsState form)
   state_parts = record {
     front = lengths_are_code form;
     behind = kinds_are_code;

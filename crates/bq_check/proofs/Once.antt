@@ -1,8 +1,7 @@
 -- Notes that pass have no fault, and other notes have one first fault.
-use Rattle.std.proofs.Common.{◌≡◌, ℕ, ◌<◌, List, length, Option, Some, None, Result, Ok, Err, refl, sym, ap, subst, ◌∙◌, arith, inl, inr}
+use Rattle.std.proofs.Common.{◌≡◌, ℕ, ◌<◌, List, length, Option, Result, Ok, Err, refl, sym, ap, subst, ◌∙◌, arith}
 use Rattle.std.specs.Prelude.{MatchResult, IfErr, ⊤}
-use Rattle.std.proofs.lemmas.Bool.{cases_lt}
-use Rattle.std.proofs.lemmas.List.{get_or_past}
+use Rattle.std.proofs.lemmas.Option.{same_Some}
 use Rattle.bq_insn.specs.Slots.{units, insn_at}
 use Rattle.bq_insn.specs.declared.insn.Insn.{Insn}
 use Rattle.bq_flow.proofs.Units.{insn_within}
@@ -13,6 +12,7 @@ use Rattle.bq_state.specs.declared.rule.Rule.{Rule as Broken}
 use Rattle.bq_state.specs.Rules.{transfer}
 use Rattle.bq_state.specs.Edges.{edges}
 use Rattle.bq_sound.specs.Passes.{note_at, AllCovered, NoHalves, AllFitLengths, IsFine, AllFine, Passes}
+use Rattle.bq_sound.proofs.Along.{note_within}
 use Rattle.bq_check.specs.Certificate.{Certificate}
 use Rattle.bq_check.specs.declared.fault.CheckFault.{CheckFault}
 use Rattle.bq_check.specs.declared.fault.CheckFault.TheVariants.{WrongCount, Flow, NoteForm, Entry, Rule, NotCovered, OutOfMemory}
@@ -21,21 +21,12 @@ use Rattle.bq_check.specs.Faults.{IsReached, AllMayHaveStates, IsFirstWrongState
 module _ (l : Interval) (text : List Insn) (notes : List (Option StateKinds)) where
   -- ---- where states stand
 
-  no_state : (state : StateKinds) (o : Option StateKinds) → o ≡ None → o ≡ Some state → ⊥
-  no_state state o e f = let bad : Some state ≡ None = sym f ∙ e in cc
-
-  note_within : (unit : ℕ) (state : StateKinds) → note_at notes unit ≡ Some state → unit < length notes
-  note_within unit state noted = elim (cases_lt unit (length notes)) [
-    | inl low ↦ low
-    | inr g ↦ absurd (no_state state (note_at notes unit) (get_or_past notes unit None g) noted)
-  ]
-
   -- states that may stand where they do are none at a second half, and fit the lengths
   no_halves : AllMayHaveStates l text notes (units text) → NoHalves text notes (units text)
   no_halves h = record { each = λ unit state low noted. (h.each unit state low noted).begins }
 
   all_fit_lengths : length notes ≡ units text → AllMayHaveStates l text notes (units text) → AllFitLengths l notes
-  all_fit_lengths count h = record { each = λ unit state noted. (h.each unit state (let low = note_within unit state noted in omega (arith, low, count)) noted).fits }
+  all_fit_lengths count h = record { each = λ unit state noted. (h.each unit state (omega (arith, note_within notes unit state noted, count)) noted).fits }
 
   pub opened_passes : IsOpened l text notes → AllFine text notes (units text) → Passes l text notes
   opened_passes opened fine = record {
@@ -54,16 +45,10 @@ module _ (l : Interval) (text : List Insn) (notes : List (Option StateKinds)) wh
   wrong_before unit n f h low = f.wrong (h.each unit f.state low f.noted)
 
   none_wrong : (unit : ℕ) → IsFirstWrongState l text notes unit → length notes ≡ units text → AllMayHaveStates l text notes (units text) → ⊥
-  none_wrong unit f count h = wrong_before unit (units text) f h (let low = note_within unit f.state f.noted in omega (arith, low, count))
+  none_wrong unit f count h = wrong_before unit (units text) f h (omega (arith, note_within notes unit f.state f.noted, count))
 
   one_wrong : (unit other : ℕ) → IsFirstWrongState l text notes unit → IsFirstWrongState l text notes other → unit ≡ other
-  one_wrong unit other f g = elim (cases_lt unit other) [
-    | inl low ↦ absurd (wrong_before unit other f g.below low)
-    | inr m ↦ elim (cases_lt other unit) [
-      | inl low ↦ absurd (wrong_before other unit g f.below low)
-      | inr n ↦ omega (arith, m, n)
-    ]
-  ]
+  one_wrong unit other f g = omega (arith, wrong_before unit other f g.below, wrong_before other unit g f.below)
 
   -- ---- units
 
@@ -74,23 +59,20 @@ module _ (l : Interval) (text : List Insn) (notes : List (Option StateKinds)) wh
 
   broken_is_bad : (unit : ℕ) (i : Insn) (state : StateKinds) (rule : Broken) → IsReached text notes unit i state → transfer i state ≡ Err rule
       → IsFirstBad unit i state
-  broken_is_bad unit i state rule reached e = record { reached = reached; bad = λ fine. bad fine }
-    where
-      differ : (after : StateKinds) (r : Result StateKinds Broken) → r ≡ Ok after → r ≡ Err rule → ⊥
-      differ after r p q = let no_way : Ok after ≡ Err rule = sym p ∙ q in cc
-
-      bad : IsFine notes unit i state → ⊥
-      bad fine = differ fine.after (transfer i state) fine.rules e
+  broken_is_bad unit i state rule reached e = record {
+    reached = reached;
+    bad = λ fine. let no_way : Ok fine.after ≡ Err rule = sym fine.rules ∙ e in cc;
+  }
 
   uncovered_is_bad : (unit : ℕ) (i : Insn) (state after : StateKinds) → IsReached text notes unit i state → transfer i state ≡ Ok after
       → (AllCovered notes (edges unit i after) → ⊥) → IsFirstBad unit i state
-  uncovered_is_bad unit i state after reached e uncovered = record { reached = reached; bad = λ fine. bad fine }
-    where
-      same : (a b : StateKinds) (r : Result StateKinds Broken) → r ≡ Ok a → r ≡ Ok b → a ≡ b
-      same a b r p q = let both : Ok a ≡ Ok b = sym p ∙ q in cc
-
-      bad : IsFine notes unit i state → ⊥
-      bad fine = uncovered (subst (λ s. AllCovered notes (edges unit i s)) (same fine.after after (transfer i state) fine.rules e) fine.covered)
+  uncovered_is_bad unit i state after reached e uncovered = record {
+    reached = reached;
+    bad = λ fine.
+        let both : Ok fine.after ≡ Ok after = sym fine.rules ∙ e in
+        let same : fine.after ≡ after = cc in
+        uncovered (subst (λ s. AllCovered notes (edges unit i s)) same fine.covered);
+  }
 
   bad_before : (unit n : ℕ) (i : Insn) (state : StateKinds) → IsFirstBad unit i state → AllFine text notes n → unit < n → ⊥
   bad_before unit n i state b fine low = b.bad (fine.each unit state i low b.reached.noted b.reached.there)
@@ -99,24 +81,15 @@ module _ (l : Interval) (text : List Insn) (notes : List (Option StateKinds)) wh
   not_all_fine unit i state b fine = bad_before unit (units text) i state b fine (insn_within text unit i b.reached.there)
 
   one_bad : (unit other : ℕ) (i j : Insn) (state old : StateKinds) → IsFirstBad unit i state → IsFirstBad other j old → unit ≡ other
-  one_bad unit other i j state old f g = elim (cases_lt unit other) [
-    | inl low ↦ absurd (bad_before unit other i state f g.reached.below low)
-    | inr m ↦ elim (cases_lt other unit) [
-      | inl low ↦ absurd (bad_before other unit j old g f.reached.below low)
-      | inr n ↦ omega (arith, m, n)
-    ]
-  ]
-
-  same_state : (unit other : ℕ) (a b : StateKinds) → unit ≡ other → note_at notes unit ≡ Some a → note_at notes other ≡ Some b → a ≡ b
-  same_state unit other a b e p q = let h : Some a ≡ Some b = sym p ∙ ap (note_at notes) e ∙ q in cc
-
-  same_insn : (unit other : ℕ) (i j : Insn) → unit ≡ other → insn_at text unit ≡ Some i → insn_at text other ≡ Some j → i ≡ j
-  same_insn unit other i j e p q = let h : Some i ≡ Some j = sym p ∙ ap (insn_at text) e ∙ q in cc
+  one_bad unit other i j state old f g =
+      omega (arith, bad_before unit other i state f g.reached.below, bad_before other unit j old g f.reached.below)
 
   same_transfer : (unit other : ℕ) (i j : Insn) (state old : StateKinds) → unit ≡ other → IsReached text notes unit i state
       → IsReached text notes other j old → transfer i state ≡ transfer j old
   same_transfer unit other i j state old e r s =
-      ap (λ x. transfer x state) (same_insn unit other i j e r.there s.there) ∙ ap (transfer j) (same_state unit other state old e r.noted s.noted)
+      let insns = same_Some i j (sym r.there ∙ ap (insn_at text) e ∙ s.there) in
+      let states = same_Some state old (sym r.noted ∙ ap (note_at notes) e ∙ s.noted) in
+      ap (λ x. transfer x state) insns ∙ ap (transfer j) states
 
   one_rule : (rule wrong : Broken) (r s : Result StateKinds Broken) → r ≡ s → r ≡ Err rule → s ≡ Err wrong → rule ≡ wrong
   one_rule rule wrong r s e p q = let h : Err rule ≡ Err wrong = sym p ∙ e ∙ q in cc
@@ -151,14 +124,13 @@ module _ (l : Interval) (text : List Insn) (notes : List (Option StateKinds)) wh
 
   pub one_fault : (f g : CheckFault) → IsFirstFault l text notes f → IsFirstFault l text notes g → (f ≡ OutOfMemory → ⊥) → (g ≡ OutOfMemory → ⊥) → f ≡ g
   one_fault OutOfMemory g p q no_f no_g = absurd (no_f refl)
-  one_fault WrongCount OutOfMemory p q no_f no_g = absurd (no_g refl)
+  one_fault f OutOfMemory p q no_f no_g = absurd (no_g refl)
   one_fault WrongCount WrongCount p q no_f no_g = refl
   one_fault WrongCount (Flow v s) p q no_f no_g = absurd (p q.0)
   one_fault WrongCount (NoteForm v) p q no_f no_g = absurd (p q.0)
   one_fault WrongCount Entry p q no_f no_g = absurd (p q.0)
   one_fault WrongCount (Rule v s) p q no_f no_g = absurd (p q.0.count)
   one_fault WrongCount (NotCovered v) p q no_f no_g = absurd (p q.0.count)
-  one_fault (Flow u r) OutOfMemory p q no_f no_g = absurd (no_g refl)
   one_fault (Flow u r) WrongCount p q no_f no_g = absurd (q p.0)
   one_fault (Flow u r) (Flow v s) p q no_f no_g =
       let e = one_first text u v r s p.1 q.1 in
@@ -167,21 +139,18 @@ module _ (l : Interval) (text : List Insn) (notes : List (Option StateKinds)) wh
   one_fault (Flow u r) Entry p q no_f no_g = absurd (not_legal text u r p.1 q.1)
   one_fault (Flow u r) (Rule v s) p q no_f no_g = absurd (not_legal text u r p.1 q.0.flow)
   one_fault (Flow u r) (NotCovered v) p q no_f no_g = absurd (not_legal text u r p.1 q.0.flow)
-  one_fault (NoteForm u) OutOfMemory p q no_f no_g = absurd (no_g refl)
   one_fault (NoteForm u) WrongCount p q no_f no_g = absurd (q p.0)
   one_fault (NoteForm u) (Flow v s) p q no_f no_g = absurd (not_legal text v s q.1 p.1)
   one_fault (NoteForm u) (NoteForm v) p q no_f no_g = ap NoteForm (one_wrong u v p.2 q.2)
   one_fault (NoteForm u) Entry p q no_f no_g = absurd (none_wrong u p.2 p.0 q.2)
   one_fault (NoteForm u) (Rule v s) p q no_f no_g = absurd (none_wrong u p.2 p.0 q.0.standing)
   one_fault (NoteForm u) (NotCovered v) p q no_f no_g = absurd (none_wrong u p.2 p.0 q.0.standing)
-  one_fault Entry OutOfMemory p q no_f no_g = absurd (no_g refl)
   one_fault Entry WrongCount p q no_f no_g = absurd (q p.0)
   one_fault Entry (Flow v s) p q no_f no_g = absurd (not_legal text v s q.1 p.1)
   one_fault Entry (NoteForm v) p q no_f no_g = absurd (none_wrong v q.2 q.0 p.2)
   one_fault Entry Entry p q no_f no_g = refl
   one_fault Entry (Rule v s) p q no_f no_g = absurd (p.3 q.0.entry)
   one_fault Entry (NotCovered v) p q no_f no_g = absurd (p.3 q.0.entry)
-  one_fault (Rule u r) OutOfMemory p q no_f no_g = absurd (no_g refl)
   one_fault (Rule u r) WrongCount p q no_f no_g = absurd (q p.0.count)
   one_fault (Rule u r) (Flow v s) p q no_f no_g = absurd (not_legal text v s q.1 p.0.flow)
   one_fault (Rule u r) (NoteForm v) p q no_f no_g = absurd (none_wrong v q.2 q.0 p.0.standing)
@@ -193,7 +162,6 @@ module _ (l : Interval) (text : List Insn) (notes : List (Option StateKinds)) wh
       let t = same_transfer u v p.1.0 q.1.0 p.1.1 q.1.1 e p.1.2 q.1.2 in
       ap (λ n. Rule n r) e ∙ ap (λ n. Rule v n) (one_rule r s (transfer p.1.0 p.1.1) (transfer q.1.0 q.1.1) t p.1.3 q.1.3)
   one_fault (Rule u r) (NotCovered v) p q no_f no_g = absurd (rule_or_uncovered u v r p q)
-  one_fault (NotCovered u) OutOfMemory p q no_f no_g = absurd (no_g refl)
   one_fault (NotCovered u) WrongCount p q no_f no_g = absurd (q p.0.count)
   one_fault (NotCovered u) (Flow v s) p q no_f no_g = absurd (not_legal text v s q.1 p.0.flow)
   one_fault (NotCovered u) (NoteForm v) p q no_f no_g = absurd (none_wrong v q.2 q.0 p.0.standing)

@@ -1,6 +1,6 @@
 -- What was read, and bytes that are refused.
-use Rattle.std.proofs.Common.{◌≡◌, ℕ, ◌+◌, ◌<◌, ◌≤◌, ◌^◌, ℤ, pos, negsuc, List, [], ◌∷◌, ◌++◌, length, take, set, Option, Some, None, IfNone, SomeIff, Result, Ok, Err, refl, sym, ap, subst, ◌∙◌, arith, append_assoc}
-use Rattle.std.specs.Prelude.{IfOk, IfErr, MatchResult}
+use Rattle.std.proofs.Common.{◌≡◌, ℕ, ◌+◌, ◌<◌, ◌≤◌, ◌^◌, Option, Some, None, Result, Ok, Err, refl, sym, ap, subst, ◌∙◌, arith, append_assoc}
+use Rattle.std.specs.Prelude.{ℤ, pos, negsuc, List, [], ◌∷◌, ◌++◌, length, take, set, IfNone, SomeIff, IfOk, IfErr, MatchResult}
 use Rattle.std.proofs.lemmas.List.{append-nil, take_more_set, take_all, length-take}
 use Rattle.std.proofs.lemmas.Int.{ints}
 use Rattle.std.specs.List.{flat_map, AllByRecursion}
@@ -8,7 +8,7 @@ use Rattle.std.specs.Int.{w32, cast_unsigned}
 use mir.Val.{to_z, of_z}
 use Rattle.spelling.specs.Numbers.{number_bytes}
 use Rattle.spelling.specs.Codes.{BeginsNone}
-use Rattle.spelling.proofs.Codes.{one_byte, number_front, flat_map_push, all_push, stops, AreCounted, ReadSome, read_none, read_more, read_all, too_few, no_first, no_second, no_both}
+use Rattle.spelling.proofs.Codes.{one_byte, number_front, parts_on, flat_map_push, all_push, stops, no_first, no_second, no_both}
 use Rattle.spelling.proofs.Codes as counts
 use Rattle.bq_range.specs.Interval.{Interval, IsInterval, between}
 use Rattle.bq_state.specs.Offsets.{Span, IsSpan}
@@ -21,7 +21,7 @@ use Rattle.bq_check.specs.declared.fault.NotesFault.TheVariants.{NoteForm, OutOf
 use Rattle.bq_check.specs.declared.form.NotesForm.{NotesForm}
 use Rattle.bq_check.specs.declared.form.NotesForm.TheVariants.{Second}
 use Rattle.bq_check.specs.Spelling.{range_bytes, span_bytes, kind_bytes, kinds_bytes, lengths_bytes, state_bytes, note_bytes, notes_bytes, TellsLengths, IsKind, IsKinds, HasLengths, IsState, IsNote, IsNotes}
-use Rattle.bq_check.proofs.Fields.{IsOffset, are_offsets, byte_bytes, IsAny, lengths_parts, state_parts, kind_is_code, note_is_code, are_counted, notes_are_code}
+use Rattle.bq_check.proofs.Fields.{IsOffset, are_offsets, no_byte, lengths_parts, state_parts, kind_is_code, note_is_code, are_counted, notes_are_code}
 
 pub if_none : {A P : Type 0} (o : Option A) → P → IfNone o P
 if_none None p = p
@@ -41,20 +41,21 @@ same_offset (negsuc k) h = omega (arith, ints, h.0)
 read_offset : (a x : ℤ) (m : ℕ) → IsOffset a → x ≡ to_z w32 m → cast_unsigned w32 a ≡ m → to_z w32 (of_z w32 x) ≡ a
 read_offset a x m h is e = ap (λ z. to_z w32 (of_z w32 z)) (is ∙ ap (to_z w32) (sym e) ∙ same_offset a h) ∙ same_offset a h
 
+-- the span that was read
+abbrev pub span_of : ℤ → ℤ → Span
+span_of x y = record { lo = to_z w32 (of_z w32 x); hi = to_z w32 (of_z w32 y) }
+
 -- two numbers that were read as offsets, and are those of no span
-pub no_span : (x y : ℤ) (m n : ℕ) → x ≡ to_z w32 m → y ≡ to_z w32 n → (IsSpan (record { lo = to_z w32 (of_z w32 x); hi = to_z w32 (of_z w32 y) }) → ⊥) → (a : Span) → IsSpan a → cast_unsigned w32 a.lo ≡ m → cast_unsigned w32 a.hi ≡ n → ⊥
+pub no_span : (x y : ℤ) (m n : ℕ) → x ≡ to_z w32 m → y ≡ to_z w32 n → (IsSpan (span_of x y) → ⊥) → (a : Span) → IsSpan a
+    → cast_unsigned w32 a.lo ≡ m → cast_unsigned w32 a.hi ≡ n → ⊥
 no_span x y m n lo hi apart a is lo_is hi_is =
     let offsets = are_offsets a is in
     let same_lo = sym (read_offset a.lo x m offsets.0 lo lo_is) in
     let same_hi = sym (read_offset a.hi y n offsets.1 hi hi_is) in
-    let read : Span = record { lo = to_z w32 (of_z w32 x); hi = to_z w32 (of_z w32 y) } in
-    let same : a ≡ read = λ i. record { lo = same_lo i; hi = same_hi i } in
+    let same : a ≡ span_of x y = λ i. record { lo = same_lo i; hi = same_hi i } in
     apart (subst IsSpan same is)
 
 -- ---- lengths
-
-no_byte : (bytes : List ℕ) → bytes ≡ [] → BeginsNone byte_bytes IsAny bytes
-no_byte bytes empty = record { none = λ b more p e. let bad : [] ≡ b ∷ more = sym empty ∙ e in cc }
 
 pub no_least : (bytes : List ℕ) → bytes ≡ [] → BeginsNone (lengths_bytes Second) (HasLengths Second) bytes
 no_least bytes empty = no_first lengths_parts bytes (no_byte bytes empty)
@@ -112,10 +113,11 @@ module _ (form : NotesForm) where
       → IsKind form k → rest ≡ kind_bytes k ++ after → length (set kinds n k) ≡ length kinds → ReadKinds bytes (set kinds n k) (n + 1) after
   kinds_more bytes kinds n rest after k read lt is parts same =
       let t : take (n + 1) (set kinds n k) ≡ take n kinds ++ k ∷ [] = take_more_set kinds n k (omega (arith, lt, read.count)) in
+      let pushed = sym (flat_map_push kind_bytes (take n kinds) k) ∙ ap kinds_bytes (sym t) in
       record {
         count = same ∙ read.count;
         legal = subst (AllByRecursion (IsKind form)) (sym t) (all_push (IsKind form) (take n kinds) k read.legal is);
-        parts = read.parts ∙ ap (λ l. kinds_bytes (take n kinds) ++ l) parts ∙ sym (append_assoc (kinds_bytes (take n kinds)) (kind_bytes k) after) ∙ ap (λ l. l ++ after) (sym (flat_map_push kind_bytes (take n kinds) k)) ∙ ap (λ l. kinds_bytes l ++ after) (sym t);
+        parts = parts_on (kinds_bytes (take n kinds)) (kind_bytes k) bytes rest after read.parts parts ∙ ap (λ l. l ++ after) pushed;
       }
 
   pub kinds_all : (bytes : List ℕ) (kinds : List Kind) (n : ℕ) (rest : List ℕ) → ReadKinds bytes kinds n rest → 11 ≤ n
@@ -126,7 +128,11 @@ module _ (form : NotesForm) where
 
   pub no_kinds : (bytes : List ℕ) (kinds : List Kind) (n : ℕ) (rest : List ℕ) → ReadKinds bytes kinds n rest → n < 11
       → BeginsNone kind_bytes (IsKind form) rest → BeginsNone kinds_bytes (IsKinds form) bytes
-  no_kinds bytes kinds n rest read lt none = record { none = λ ks more is e. stops kind_bytes (IsKind form) (kind_is_code form) (take n kinds) ks rest more none read.legal is.each (omega (arith, lt, is.count, length-take n kinds)) (sym read.parts ∙ e) }
+  no_kinds bytes kinds n rest read lt none = record {
+    none = λ ks more is e.
+        stops kind_bytes (IsKind form) (kind_is_code form) (take n kinds) ks rest more none read.legal is.each
+        (omega (arith, lt, is.count, length-take n kinds)) (sym read.parts ∙ e);
+  }
 
   -- ---- states
 
@@ -140,7 +146,7 @@ module _ (form : NotesForm) where
 
   pub state_read : (bytes middle rest : List ℕ) (s : StateKinds) → bytes ≡ lengths_bytes form s.lengths ++ middle
       → middle ≡ kinds_bytes s.kinds ++ rest → bytes ≡ state_bytes form s ++ rest
-  state_read bytes middle rest s front behind = front ∙ ap (λ l. lengths_bytes form s.lengths ++ l) behind ∙ sym (append_assoc (lengths_bytes form s.lengths) (kinds_bytes s.kinds) rest)
+  state_read bytes middle rest s front behind = parts_on (lengths_bytes form s.lengths) (kinds_bytes s.kinds) bytes middle rest front behind
 
   -- ---- notes
 
@@ -163,20 +169,20 @@ module _ (form : NotesForm) where
 
   -- some of so many notes were read, and rest is what is left of the bytes
   abbrev pub ReadNotes : List ℕ → ℕ → List (Option StateKinds) → List ℕ → Type 0
-  ReadNotes = ReadSome (note_bytes form) (IsNote form) (note_is_code form) 4
+  ReadNotes = counts.ReadSome (note_bytes form) (IsNote form) (note_is_code form) 4
 
   pub notes_none : (bytes : List ℕ) (count : ℕ) (rest : List ℕ) → bytes ≡ number_bytes 4 count ++ rest → ReadNotes bytes count [] rest
-  notes_none = read_none (note_bytes form) (IsNote form) (note_is_code form) 4
+  notes_none = counts.read_none (note_bytes form) (IsNote form) (note_is_code form) 4
 
   pub notes_more : (bytes : List ℕ) (count : ℕ) (notes : List (Option StateKinds)) (rest after : List ℕ) (o : Option StateKinds)
       → ReadNotes bytes count notes rest → IsNote form o → rest ≡ note_bytes form o ++ after → ReadNotes bytes count (notes ++ o ∷ []) after
-  notes_more = read_more (note_bytes form) (IsNote form) (note_is_code form) 4
+  notes_more = counts.read_more (note_bytes form) (IsNote form) (note_is_code form) 4
 
   pub notes_all : (bytes : List ℕ) (count : ℕ) (notes : List (Option StateKinds)) (rest : List ℕ) → ReadNotes bytes count notes rest
       → length notes ≡ count → bytes ≡ notes_bytes form notes ++ rest
-  notes_all = read_all (note_bytes form) (IsNote form) (note_is_code form) 4
+  notes_all = counts.read_all (note_bytes form) (IsNote form) (note_is_code form) 4
 
-  unread : (bytes : List ℕ) → BeginsNone (notes_bytes form) (AreCounted (note_bytes form) (IsNote form) (note_is_code form) 4) bytes
+  unread : (bytes : List ℕ) → BeginsNone (notes_bytes form) (counts.AreCounted (note_bytes form) (IsNote form) (note_is_code form) 4) bytes
       → BeginsNone (notes_bytes form) (IsNotes form) bytes
   unread bytes left = record { none = λ n more is e. left.none n more (are_counted form n is) e }
 
@@ -185,41 +191,45 @@ module _ (form : NotesForm) where
 
   pub many : (bytes rest : List ℕ) (count : ℕ) → count < 2 ^ 32 → bytes ≡ number_bytes 4 count ++ rest → 4096 < count
       → BeginsNone (notes_bytes form) (IsNotes form) bytes
-  many bytes rest count fits parts above = record { none = λ n more is e. none n more is e }
-    where
-      none : (n : List (Option StateKinds)) (more : List ℕ) → IsNotes form n → bytes ≡ notes_bytes form n ++ more → ⊥
-      none n more is e =
-          let s = number_front 4 count (length n) rest (flat_map (note_bytes form) n ++ more) fits (omega (arith, is.few)) (sym parts ∙ e ∙ append_assoc (number_bytes 4 (length n)) (flat_map (note_bytes form) n) more) in
-          omega (arith, s.0, is.few, above)
+  many bytes rest count fits parts above = record {
+    none = λ n more is e.
+        let left = flat_map (note_bytes form) n in
+        let same = sym parts ∙ e ∙ append_assoc (number_bytes 4 (length n)) left more in
+        omega (arith, (number_front 4 count (length n) rest (left ++ more) fits (omega (arith, is.few)) same).0, is.few, above);
+  }
 
   pub no_notes : (bytes : List ℕ) (count : ℕ) (notes : List (Option StateKinds)) (rest : List ℕ) → count < 2 ^ 32 → ReadNotes bytes count notes rest
       → length notes < count → BeginsNone (note_bytes form) (IsNote form) rest → BeginsNone (notes_bytes form) (IsNotes form) bytes
-  no_notes bytes count notes rest fits read lt left = unread bytes (too_few (note_bytes form) (IsNote form) (note_is_code form) 4 bytes count notes rest fits read lt left)
+  no_notes bytes count notes rest fits read lt left =
+      unread bytes (counts.too_few (note_bytes form) (IsNote form) (note_is_code form) 4 bytes count notes rest fits read lt left)
 
   -- ---- whole bytes
 
-  pub no_whole : (bytes : List ℕ) → BeginsNone (notes_bytes form) (IsNotes form) bytes → (n : List (Option StateKinds)) → IsNotes form n
-      → bytes ≡ notes_bytes form n → ⊥
+  -- they spell no notes
+  abbrev pub SpellNone : List ℕ → Type 0
+  SpellNone bytes = (n : List (Option StateKinds)) → IsNotes form n → bytes ≡ notes_bytes form n → ⊥
+
+  pub no_whole : (bytes : List ℕ) → BeginsNone (notes_bytes form) (IsNotes form) bytes → SpellNone bytes
   no_whole bytes none n is e = none.none n [] is (e ∙ sym (append-nil (notes_bytes form n)))
 
   pub passed_on : (bytes : List ℕ) (r : Result (List (Option StateKinds)) NotesFault) (x d : NotesFault) → r ≡ Err x → x ≡ d
-      → (d ≡ NoteForm → BeginsNone (notes_bytes form) (IsNotes form) bytes)
-      → IfErr r (λ e. e ≡ NoteForm → (n : List (Option StateKinds)) → IsNotes form n → bytes ≡ notes_bytes form n → ⊥)
+      → (d ≡ NoteForm → BeginsNone (notes_bytes form) (IsNotes form) bytes) → IfErr r (λ e. e ≡ NoteForm → SpellNone bytes)
   passed_on bytes r x d is same refused =
-      let P : Result (List (Option StateKinds)) NotesFault → Type 0 = λ s. IfErr s (λ e. e ≡ NoteForm → (n : List (Option StateKinds)) → IsNotes form n → bytes ≡ notes_bytes form n → ⊥) in
+      let P : Result (List (Option StateKinds)) NotesFault → Type 0 = λ s. IfErr s (λ e. e ≡ NoteForm → SpellNone bytes) in
       subst P (sym is) (λ e. no_whole bytes (refused (sym same ∙ e)))
 
   pub left_over : (bytes : List ℕ) (m : List (Option StateKinds)) (rest : List ℕ) → IsNotes form m → bytes ≡ notes_bytes form m ++ rest
-      → (rest ≡ [] → ⊥) → (n : List (Option StateKinds)) → IsNotes form n → bytes ≡ notes_bytes form n → ⊥
-  left_over bytes m rest legal parts some n is e = some ((notes_are_code form).one m n rest [] legal is (sym parts ∙ e ∙ sym (append-nil (notes_bytes form n)))).1
+      → (rest ≡ [] → ⊥) → SpellNone bytes
+  left_over bytes m rest legal parts some n is e =
+      some ((notes_are_code form).one m n rest [] legal is (sym parts ∙ e ∙ sym (append-nil (notes_bytes form n)))).1
 
   pub one_notes : (m n : List (Option StateKinds)) → IsNotes form m → IsNotes form n → notes_bytes form m ≡ notes_bytes form n → m ≡ n
   one_notes m n p q e = ((notes_are_code form).one m n [] [] p q (ap (λ l. l ++ []) e)).0
 
   -- what spells notes is read as these, unless memory runs out
   pub reads : (bytes : List ℕ) (r : Result (List (Option StateKinds)) NotesFault) → IfOk r (IsNotes form) → IfOk r (λ n. bytes ≡ notes_bytes form n)
-      → IfErr r (λ e. e ≡ NoteForm → (n : List (Option StateKinds)) → IsNotes form n → bytes ≡ notes_bytes form n → ⊥)
-      → (n : List (Option StateKinds)) → IsNotes form n → bytes ≡ notes_bytes form n → MatchResult r (λ m. m ≡ n) (λ e. e ≡ OutOfMemory)
+      → IfErr r (λ e. e ≡ NoteForm → SpellNone bytes) → (n : List (Option StateKinds)) → IsNotes form n → bytes ≡ notes_bytes form n
+      → MatchResult r (λ m. m ≡ n) (λ e. e ≡ OutOfMemory)
   reads bytes (Ok m) legal spelled refused n is e = one_notes m n legal is (sym spelled ∙ e)
   reads bytes (Err NoteForm) legal spelled refused n is e = absurd (refused refl n is e)
   reads bytes (Err OutOfMemory) legal spelled refused n is e = refl

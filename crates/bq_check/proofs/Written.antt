@@ -16,9 +16,9 @@ module _ {A : Type 0} (bytes_of : A → List ℕ) (before : List ℕ) (xs : List
       → after ≡ out ++ bytes_of x → Written bytes_of before xs (n + 1) after
   written_more n x out after w lt at more =
       let t : take (n + 1) xs ≡ take n xs ++ x ∷ [] = take_more xs n x lt ∙ ap (λ (y : A). take n xs ++ y ∷ []) (sym at) in
-      record {
-        parts = more ∙ ap (λ l. l ++ bytes_of x) w.parts ∙ append_assoc before (flat_map bytes_of (take n xs)) (bytes_of x) ∙ ap (λ l. before ++ l) (sym (flat_map_push bytes_of (take n xs) x)) ∙ ap (λ l. before ++ flat_map bytes_of l) (sym t);
-      }
+      let pushed = sym (flat_map_push bytes_of (take n xs) x) ∙ ap (flat_map bytes_of) (sym t) in
+      let whole = append_assoc before (flat_map bytes_of (take n xs)) (bytes_of x) ∙ ap (λ l. before ++ l) pushed in
+      record { parts = more ∙ ap (λ l. l ++ bytes_of x) w.parts ∙ whole }
 
   pub written_all : (n : ℕ) (out : List ℕ) → Written bytes_of before xs n out → length xs ≤ n → out ≡ before ++ flat_map bytes_of xs
   written_all n out w all = w.parts ∙ ap (λ l. before ++ flat_map bytes_of l) (take_all n xs all)

@@ -1,5 +1,5 @@
 -- Parts that are written one behind the other, and what lies where a part was written.
-use Rattle.std.proofs.Common.{◌≡◌, ◌∙◌, ℕ, ◌+◌, ◌≤◌, List, ◌++◌, length, take, drop, ap, refl, sym, arith, length-append}
+use Rattle.std.proofs.Common.{◌≡◌, ◌∙◌, ℕ, ◌+◌, ◌≤◌, List, ◌++◌, length, take, drop, ap, sym, arith, length-append}
 use Rattle.std.specs.List.{splice}
 use Rattle.std.proofs.lemmas.List.{append_assoc, drop-drop, drop_at, length-take-le, take_at, take-append-drop, take-append-le, take-take}
 use Rattle.std.proofs.Math.Seq.{take-append_seam, take-append-add}
@@ -19,18 +19,6 @@ adjacent xs p q a b k is inside =
     ∙ append_assoc (take a xs) p (q ++ drop (b + k) xs)
     ∙ ap (λ l. take a xs ++ l) (sym (append_assoc p q (drop (b + k) xs)))
 
-module _ (xs ys : List ℕ) (a b : ℕ) (inside : a ≤ length xs) where
-  first : length (take a xs) ≡ a
-  first = length-take-le a xs inside
-
-  -- what lies before a part
-  pub before_part : take a (splice xs a b ys) ≡ take a xs
-  before_part = take_at (take a xs) (ys ++ drop b xs) a first
-
-  -- the part itself
-  pub part_there : take (length ys) (drop a (splice xs a b ys)) ≡ ys
-  part_there = ap (take (length ys)) (drop_at (take a xs) (ys ++ drop b xs) a first) ∙ take-append_seam ys (drop b xs)
-
 -- what lies in front and behind, once all behind a place is given
 module _ (xs new behind : List ℕ) (a : ℕ) (inside : a ≤ length xs) (whole : new ≡ take a xs ++ behind) where
   pub front_kept : take a new ≡ take a xs
@@ -39,11 +27,19 @@ module _ (xs new behind : List ℕ) (a : ℕ) (inside : a ≤ length xs) (whole 
   pub behind_there : drop a new ≡ behind
   behind_there = ap (drop a) whole ∙ drop_at (take a xs) behind a (length-take-le a xs inside)
 
+-- what lies before a part that was put, and the part itself
+module _ (xs new ys : List ℕ) (a b : ℕ) (inside : a ≤ length xs) (put : new ≡ splice xs a b ys) where
+  pub before_part : take a new ≡ take a xs
+  before_part = front_kept xs new (ys ++ drop b xs) a inside put
+
+  pub part_there : take (length ys) (drop a new) ≡ ys
+  part_there = ap (take (length ys)) (behind_there xs new (ys ++ drop b xs) a inside put) ∙ take-append_seam ys (drop b xs)
+
 -- the first n bytes of a part of which the first m lie there
 pub part_first : (xs room new : List ℕ) (a n m : ℕ) → n ≤ m → m ≤ length room → a ≤ length xs → new ≡ splice xs a (a + m) (take m room)
     → take n (drop a new) ≡ take n room
 part_first xs room new a n m few inside within is =
-    ap (λ l. take n (drop a l)) is ∙ ap (take n) (behind_there xs (splice xs a (a + m) (take m room)) (take m room ++ drop (a + m) xs) a within refl)
+    ap (take n) (behind_there xs new (take m room ++ drop (a + m) xs) a within is)
     ∙ take-append-le n (take m room) (drop (a + m) xs) (omega (arith, few, length-take-le m room inside)) ∙ take-take n m room few
 
 -- the two numbers of an entry, and behind them the value

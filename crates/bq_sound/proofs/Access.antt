@@ -1,5 +1,5 @@
 -- An access that the bounds allow lies in one region, at every placement.
-use Rattle.std.proofs.Common.{◌≡◌, ℕ, ◌+◌, ◌-◌, ◌^◌, ◌<◌, ◌≤◌, refl, ap, ◌∙◌, inl, inr, arith, Some, true, false, Result, Ok, Err}
+use Rattle.std.proofs.Common.{◌≡◌, ℕ, ◌+◌, ◌-◌, ◌^◌, ◌<◌, ◌≤◌, refl, ap, ◌∙◌, inl, inr, arith, Option, Some, true, false, Result, Ok, Err}
 use Rattle.std.specs.Prelude.{ℤ, pos, negsuc, ◌+ℤ◌, ◌≤ℤ◌, int_le}
 use Rattle.std.proofs.lemmas.Int.{ints}
 use Rattle.std.proofs.lemmas.Bool.{and_parts, cases_Bool}
@@ -20,7 +20,7 @@ use Rattle.bq_state.specs.declared.rule.Rule.{Rule}
 use Rattle.bq_state.specs.declared.rule.Rule.TheVariants.{OutsideFrame}
 use Rattle.bq_state.specs.Rules.{and_then, extent, outside, readable, storable}
 use Rattle.bq_sound.proofs.Words.{moved_on}
-use Rattle.bq_sound.proofs.Tags.{Tagged, Num, Ptr, image, same_word, same_pointer, HoldsPointer, TagHolds}
+use Rattle.bq_sound.proofs.Tags.{Tagged, Num, Ptr, image, TagHolds}
 
 abbrev pub location : Region → ℕ → Location
 location regions.Frame at = Frame at
@@ -51,18 +51,6 @@ inside len region s distance z size least few e h =
     let n = natural (z +ℤ distance) (omega (arith, ints, b.0, h.low)) in
     record { at = n.0; is = n.1; room = omega (arith, ints, b.1, n.1, h.high, few) }
 
-region_fits : (p : Place) → IsPlacement p → (len : ℕ) → len ≤ record_room → (region : Region) → start p region + room_of len region < 2 ^ 64
-region_fits p place len few regions.Frame = place.frame_fits
-region_fits p place len few regions.Record = omega (arith, place.record_fits, few)
-
-address_is : (p : Place) → IsPlacement p → (len : ℕ) → len ≤ record_room
-    → (region : Region) (z distance : ℤ) (size : ℕ) (h : Inside len region z distance size)
-    → moved (moved (start p region) z) distance ≡ start p region + h.at
-address_is p place len few region z distance size h = moved_on (start p region) z distance ∙ ap (moved (start p region)) h.is ∙ below (start p region) h.at (omega (arith, region_fits p place len few region, h.room))
-  where
-    below : (a n : ℕ) → a + n < 2 ^ 64 → moved a (pos n) ≡ a + n
-    below a n h = omega arith
-
 before : (p : Place) (at size : ℕ) → 1 ≤ size → p.frame + 512 ≤ p.record → is_inside p.frame 512 (p.record + at) size ≡ false
 before p at size some h = grind (arith, nat_tests)
 
@@ -72,59 +60,78 @@ behind p at size some room h = grind (arith, nat_tests)
 within : (start len at size : ℕ) → at + size ≤ len → is_inside start len (start + at) size ≡ true
 within start len at size h = grind (arith, nat_tests)
 
--- an access to a record within its room goes to the same place of the same region
-pub accesses : (p : Place) → IsPlacement p → (len : ℕ) → len ≤ record_room → (region : Region) (z distance : ℤ) (size : ℕ) → 1 ≤ size → (h : Inside len region z distance size)
-    → access p len (moved (image p (Ptr region z)) distance) size ≡ Some (location region h.at)
-accesses p place len few regions.Frame z distance size some h =
-    let e = address_is p place len few regions.Frame z distance size h in
-    let t = within p.frame 512 h.at size h.room in
-    let same : p.frame + h.at - p.frame ≡ h.at = omega arith in
-    rw (e, t, same) refl
-accesses p place len few regions.Record z distance size some h =
-    let e = address_is p place len few regions.Record z distance size h in
-    let f : is_inside p.frame 512 (p.record + h.at) size ≡ false = elim place.apart [ inl a ↦ before p h.at size some a | inr b ↦ behind p h.at size some (omega (arith, h.room, few)) b ] in
-    let t = within p.record len h.at size h.room in
-    let same : p.record + h.at - p.record ≡ h.at = omega arith in
-    rw (e, f, t, same) refl
+-- a placement, and a length for which there is room
+module _ (p : Place) (place : IsPlacement p) (len : ℕ) (few : len ≤ record_room) where
+  region_fits : (region : Region) → start p region + room_of len region < 2 ^ 64
+  region_fits regions.Frame = place.frame_fits
+  region_fits regions.Record = omega (arith, place.record_fits, few)
+
+  address_is : (region : Region) (z distance : ℤ) (size : ℕ) (h : Inside len region z distance size)
+      → moved (moved (start p region) z) distance ≡ start p region + h.at
+  address_is region z distance size h =
+      moved_on (start p region) z distance ∙ ap (moved (start p region)) h.is
+      ∙ below (start p region) h.at (omega (arith, region_fits region, h.room))
+    where
+      below : (a n : ℕ) → a + n < 2 ^ 64 → moved a (pos n) ≡ a + n
+      below a n h = omega arith
+
+  -- what lies in the record lies outside the frame
+  apart : (at size : ℕ) → 1 ≤ size → at + size ≤ len → is_inside p.frame 512 (p.record + at) size ≡ false
+  apart at size some room = elim place.apart [ inl a ↦ before p at size some a | inr b ↦ behind p at size some (omega (arith, room, few)) b ]
+
+  -- an access to a record within its room goes to the same place of the same region
+  pub accesses : (region : Region) (z distance : ℤ) (size : ℕ) → 1 ≤ size → (h : Inside len region z distance size)
+      → access p len (moved (image p (Ptr region z)) distance) size ≡ Some (location region h.at)
+  accesses regions.Frame z distance size some h =
+      let e = address_is regions.Frame z distance size h in
+      let t = within p.frame 512 h.at size h.room in
+      let same : p.frame + h.at - p.frame ≡ h.at = omega arith in
+      rw (e, t, same) refl
+  accesses regions.Record z distance size some h =
+      let e = address_is regions.Record z distance size h in
+      let t = within p.record len h.at size h.room in
+      let same : p.record + h.at - p.record ≡ h.at = omega arith in
+      rw (e, apart h.at size some h.room, t, same) refl
 
 -- ---- the rules on accesses
 
 -- a pointer whose access is allowed
-pub record Reads (len : ℕ) (v : Tagged) (distance : ℤ) (size : ℕ) : Type 0 where
+pub record Reads (len : ℕ) (t : Option Tagged) (distance : ℤ) (size : ℕ) : Type 0 where
   pub region : Region
   pub z : ℤ
-  pub is : v ≡ Ptr region z
+  pub is : t ≡ Some (Ptr region z)
   pub inside : Inside len region z distance size
 
-reads_within : (len : ℕ) (l : Interval) → IsIn len l → (region : Region) (s : Span) (distance : ℤ) (size : ℕ) (v : Tagged)
-    → HoldsPointer region s (Some v) → fits s distance size (extent l region) ≡ true → Reads len v distance size
-reads_within len l i region s distance size v h e = record { region = region; z = h.offset; is = cc; inside = inside len region s distance h.offset size (extent l region) (has_room len l i region) e h.within }
-
-pub allows : {B : Type 0} (len : ℕ) (l : Interval) → IsIn len l → (k : Kind) (distance : ℤ) (size : ℕ) (go : Unit {0} → Result B Rule) (after : B) (v : Tagged) → TagHolds len k (Some v) → and_then (readable l k distance size) go ≡ Ok after
-    → Reads len v distance size × (go tt ≡ Ok after)
-allows len l i Unset distance size go after v h e = cc
-allows len l i (Number a) distance size go after v h e = cc
-allows len l i (Pointer region s) distance size go after v h e =
-    elim (cases_Bool (fits s distance size (extent l region))) [ inl t ↦ (reads_within len l i region s distance size v h t, rw t at e) | inr f ↦ let no : Err (outside region) ≡ Ok after = rw f at e in cc ]
-allows len l i Length distance size go after v h e = cc
-
 -- a pointer into the frame and a number that may be written there
-pub record Writes (len : ℕ) (u v : Tagged) (distance : ℤ) (size : ℕ) : Type 0 where
+pub record Writes (len : ℕ) (t u : Option Tagged) (distance : ℤ) (size : ℕ) : Type 0 where
   pub z : ℤ
-  pub is : u ≡ Ptr regions.Frame z
+  pub is : t ≡ Some (Ptr regions.Frame z)
   pub inside : Inside len regions.Frame z distance size
   pub word : ℕ
-  pub number : v ≡ Num word
+  pub number : u ≡ Some (Num word)
 
-pub stores : {B : Type 0} (len : ℕ) (k l : Kind) (distance : ℤ) (size : ℕ) (go : Unit {0} → Result B Rule) (after : B) (u v : Tagged) → TagHolds len k (Some u) → TagHolds len l (Some v)
-    → and_then (storable k l distance size) go ≡ Ok after → Writes len u v distance size × (go tt ≡ Ok after)
-stores len (Pointer regions.Frame s) (Number a) distance size go after u v h i e =
-    elim (cases_Bool (fits s distance size 512)) [
-      | inl t ↦ (record { z = h.offset; is = same_pointer u regions.Frame h.offset h.is; inside = inside len regions.Frame s distance h.offset size 512 (omega arith) t h.within; word = i.word; number = same_word v i.word i.is }, rw t at e)
-      | inr f ↦ let no : Err OutsideFrame ≡ Ok after = rw f at e in cc
-    ]
-stores len (Pointer regions.Record s) Unset distance size go after u v h i e = cc
-stores len (Pointer regions.Record s) (Number a) distance size go after u v h i e = cc
-stores len (Pointer regions.Record s) (Pointer region t) distance size go after u v h i e = cc
-stores len (Pointer regions.Record s) Length distance size go after u v h i e = cc
-stores len k l distance size go after u v h i e = cc
+-- an access that breaks no rule
+module _ {B : Type 0} (len : ℕ) (distance : ℤ) (size : ℕ) (go : Unit {0} → Result B Rule) {after : B} where
+  pub readable-ok : (l : Interval) → IsIn len l → (k : Kind) (t : Option Tagged) → TagHolds len k t → and_then (readable l k distance size) go ≡ Ok after
+      → Reads len t distance size × (go tt ≡ Ok after)
+  readable-ok l i (Pointer region s) t h e = elim (cases_Bool (fits s distance size (extent l region))) [
+    | inl f ↦
+        let allowed = inside len region s distance h.offset size (extent l region) (has_room len l i region) f h.within in
+        (record { region = region; z = h.offset; is = h.is; inside = allowed }, rw f at e)
+    | inr f ↦ let no : Err (outside region) ≡ Ok after = rw f at e in cc
+  ]
+  readable-ok l i k t h e = cc
+
+  pub storable-ok : (k l : Kind) (t u : Option Tagged) → TagHolds len k t → TagHolds len l u → and_then (storable k l distance size) go ≡ Ok after
+      → Writes len t u distance size × (go tt ≡ Ok after)
+  storable-ok (Pointer regions.Frame s) (Number a) t u h i e = elim (cases_Bool (fits s distance size 512)) [
+    | inl f ↦
+        let allowed = inside len regions.Frame s distance h.offset size 512 (omega arith) f h.within in
+        (record { z = h.offset; is = h.is; inside = allowed; word = i.word; number = i.is }, rw f at e)
+    | inr f ↦ let no : Err OutsideFrame ≡ Ok after = rw f at e in cc
+  ]
+  storable-ok (Pointer regions.Record s) Unset t u h i e = cc
+  storable-ok (Pointer regions.Record s) (Number a) t u h i e = cc
+  storable-ok (Pointer regions.Record s) (Pointer region v) t u h i e = cc
+  storable-ok (Pointer regions.Record s) Length t u h i e = cc
+  storable-ok k l t u h i e = cc

@@ -1,6 +1,6 @@
 -- Bytes that are read and written.
-use Rattle.std.proofs.Common.{◌≡◌, ℕ, zero, suc, ◌+◌, ◌-◌, ◌/◌, ◌^◌, ◌<◌, ◌≤◌, refl, ap, arith, List, [], ◌∷◌, ◌++◌, length, take, drop, length-drop, length-take, length-append}
-use Rattle.std.specs.Prelude.{All, slice_range}
+use Rattle.std.proofs.Common.{◌≡◌, ℕ, zero, suc, ◌+◌, ◌-◌, ◌/◌, ◌^◌, ◌<◌, ◌≤◌, refl, ap, arith, length-drop, length-take, length-append}
+use Rattle.std.specs.Prelude.{List, [], ◌∷◌, ◌++◌, length, take, drop, All, slice_range}
 use Rattle.std.specs.List.{AllByRecursion, splice}
 use Rattle.std.proofs.lemmas.List.Elements.{All-take, All-drop, All-append, All-from_recursion, recursion_from_All}
 use Rattle.std.proofs.Math.Nat.{pow-suc}
@@ -25,7 +25,7 @@ read_below len xs at size h room =
     omega arith
 
 -- the bytes of a number
-bytes_length : (k n : ℕ) → length (le_bytes k n) ≡ k
+pub bytes_length : (k n : ℕ) → length (le_bytes k n) ≡ k
 bytes_length zero n = refl
 bytes_length (suc k) n = ap suc (bytes_length k (n / 256))
 

@@ -16,14 +16,16 @@ use Rattle.bq_sound.specs.Safe.{IsSafe, LimitIsFree}
 use Rattle.bq_sound.proofs.Runs.{safe}
 
 -- the outcome under one limit that the run keeps is that under another
-moved_limit : (p : Place) (text : List Insn) (acc : ℕ) (bytes frame : List ℕ) (n answer : ℕ) (left : List ℕ) (limit other : ℕ) → RecordRun p text acc bytes frame n answer left → n ≤ limit → n ≤ other
-    → (result : Result Ended Fault) (after : List ℕ) → RunAnswers p text acc bytes frame limit result after → RunAnswers p text acc bytes frame other result after
-moved_limit p text acc bytes frame n answer left limit other run low small (Ok e) after h =
-    let same = same_end p text n e.steps (entry_machine p acc bytes frame) answer e.acc left after run.runs h.0.runs in
-    let s : n ≡ e.steps = same.0 in
-    (h.0, omega arith)
-moved_limit p text acc bytes frame n answer left limit other run low small (Err f) after h =
-    absurd (no_refusal p text n limit (entry_machine p acc bytes frame) answer left f run.runs low h.0)
+module _ {p : Place} {text : List Insn} {acc : ℕ} {bytes frame : List ℕ} {n answer : ℕ} {left : List ℕ}
+    (run : RecordRun p text acc bytes frame n answer left) where
+  moved_limit : (limit other : ℕ) → n ≤ limit → n ≤ other → (result : Result Ended Fault) (after : List ℕ)
+      → RunAnswers p text acc bytes frame limit result after → RunAnswers p text acc bytes frame other result after
+  moved_limit limit other low small (Ok e) after h =
+      let same = same_end p text n e.steps (entry_machine p acc bytes frame) answer e.acc left after run.runs h.0.runs in
+      let s : n ≡ e.steps = same.0 in
+      (h.0, omega arith)
+  moved_limit limit other low small (Err f) after h =
+      absurd (no_refusal p text n limit (entry_machine p acc bytes frame) answer left f run.runs low h.0)
 
 free : (len : ℕ) (text : List Insn) (longest : ℕ) → IsSafe len text longest → LimitIsFree len text longest
 free len text longest is p acc bytes frame limit place word whole full high result after =
@@ -31,8 +33,8 @@ free len text longest is p acc bytes frame limit place word whole full high resu
     let run = r.run p place in
     let within : r.steps ≤ longest = r.within in
     let below : r.steps ≤ limit = omega arith in (
-      moved_limit p text acc bytes frame r.steps r.answer r.after limit longest run below within result after,
-      moved_limit p text acc bytes frame r.steps r.answer r.after longest limit run within below result after,
+      moved_limit run limit longest below within result after,
+      moved_limit run longest limit within below result after,
     )
 
 pub any_limit : (l : Interval) (text : List Insn) (notes : List (Option StateKinds)) (longest len : ℕ) → AreLengths l → IsText text

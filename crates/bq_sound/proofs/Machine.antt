@@ -7,13 +7,14 @@ use Rattle.bq_insn.specs.declared.insn.Insn.{Insn}
 use Rattle.bq_insn.specs.declared.insn.Insn.TheVariants.{Exit}
 use Rattle.bq_flow.specs.Paths.{Among}
 use Rattle.bq_meaning.specs.Place.{Place, IsPlacement, record_room}
-use Rattle.bq_meaning.specs.Meaning.{Continues, Ends, at_unit, with_register, perform}
+use Rattle.bq_meaning.specs.Meaning.{Outcome, Continues, Ends, at_unit, with_register, perform}
 use Rattle.bq_meaning.specs.Memory.{MachineState as Machine}
 use Rattle.bq_state.specs.declared.kind.Kind.{Kind}
 use Rattle.bq_state.specs.Kinds.{StateKinds, with_kind}
 use Rattle.bq_state.specs.Edges.{edges}
 use Rattle.bq_sound.specs.Safe.{AreBytes}
-use Rattle.bq_sound.proofs.Tags.{Tagged, image, images, images_set, IsWord, tag_at, tag_set_same, tag_set_other, TagHolds, TagsHold, written_holds}
+use Rattle.bq_sound.proofs.Tags.{Tagged, images, images_set, IsWord, tag_at, tag_set_same, tag_set_other, TagsHold, written_holds}
+use Rattle.bq_sound.proofs.Made.{Made}
 
 pub record Common : Type 0 where
   pub unit : ℕ
@@ -39,24 +40,32 @@ pub record Stands (len : ℕ) (m : Common) (state : StateKinds) : Type 0 where
   pub whole : IsWhole len m
   pub holds : TagsHold len state m.tags
 
+-- what the instruction comes to, at every placement
+abbrev pub Performs : Insn → Common → (Place → Outcome) → Type 0
+Performs i m o = (p : Place) → IsPlacement p → perform p i (machine p m) ≡ o p
+
 -- it goes on, alike at every placement, along an edge whose state holds
 pub record GoesOn (len : ℕ) (m : Common) (i : Insn) (after : StateKinds) : Type 0 where
   pub next : Common
   pub left : StateKinds
   pub edge : Among (next.unit, left) (edges m.unit i after)
   pub stands : Stands len next left
-  pub steps : (p : Place) → IsPlacement p → perform p i (machine p m) ≡ Continues (machine p next)
+  pub steps : Performs i m (λ p. Continues (machine p next))
 
 -- it ends, alike at every placement
 pub record Stops (m : Common) (i : Insn) : Type 0 where
   pub answer : ℕ
   pub word : answer < 2 ^ 64
   pub exits : i ≡ Exit
-  pub steps : (p : Place) → IsPlacement p → perform p i (machine p m) ≡ Ends answer
+  pub steps : Performs i m (λ _. Ends answer)
 
-pub goes_on : {len : ℕ} (m next : Common) (i : Insn) (after left : StateKinds) → IsWhole len next → TagsHold len left next.tags → Among (next.unit, left) (edges m.unit i after)
-    → ((p : Place) → IsPlacement p → perform p i (machine p m) ≡ Continues (machine p next)) → GoesOn len m i after
-goes_on m next i after left whole holds among does = record { next = next; left = left; edge = among; stands = record { whole = whole; holds = holds }; steps = does }
+pub same_holds : {len : ℕ} {m : Common} {state after : StateKinds} → Stands len m state → state ≡ after → TagsHold len after m.tags
+same_holds {len} {m} s is = subst (λ q. TagsHold len q m.tags) is s.holds
+
+pub goes_on : {len : ℕ} {m : Common} {i : Insn} {after left : StateKinds} (next : Common) → IsWhole len next → TagsHold len left next.tags
+    → Among (next.unit, left) (edges m.unit i after) → Performs i m (λ p. Continues (machine p next)) → GoesOn len m i after
+goes_on {left = left} next whole holds among does =
+    record { next = next; left = left; edge = among; stands = record { whole = whole; holds = holds }; steps = does }
 
 -- ---- an instruction that writes a register
 
@@ -75,13 +84,14 @@ put_words tags d v h low small = record {
   ];
 }
 
-pub puts : {len : ℕ} (m : Common) (i : Insn) (unit d : ℕ) (state after : StateKinds) (k : Kind) (v : Tagged) → Stands len m state → d < 10
-    → TagHolds len k (Some v) → IsWord v → with_kind state d k ≡ after → Among (unit, after) (edges m.unit i after)
-    → ((p : Place) → IsPlacement p → perform p i (machine p m) ≡ Continues (at_unit (with_register (machine p m) d (image p v)) unit))
-    → GoesOn len m i after
-puts {len} m i unit d state after k v s low here small is among does =
-    goes_on m (put m unit d v) i after after
-    (record { words = put_words m.tags d v s.whole.words low small; frame = s.whole.frame; «record» = s.whole.record; fits = s.whole.fits })
-    (subst (λ q. TagsHold len q (slice_set m.tags d (Some v))) is (written_holds len state m.tags d k v s.holds (omega (arith, s.whole.words.count)) here))
+pub puts : {len : ℕ} {m : Common} {i : Insn} {state after : StateKinds} {k : Kind} {f : Place → ℕ} (unit d : ℕ) → Stands len m state → d < 10
+    → Made len k f → with_kind state d k ≡ after → Among (unit, after) (edges m.unit i after)
+    → Performs i m (λ p. Continues (at_unit (with_register (machine p m) d (f p)) unit)) → GoesOn len m i after
+puts {len} {m} {k = k} unit d s low made is among does =
+    let v = made.value in
+    goes_on (put m unit d v)
+    (record { words = put_words m.tags d v s.whole.words low made.known.word; frame = s.whole.frame; «record» = s.whole.record; fits = s.whole.fits })
+    (subst (λ q. TagsHold len q (slice_set m.tags d (Some v))) is (written_holds s.holds d k v (omega (arith, s.whole.words.count)) made.known.holds))
     among
-    (λ p place. does p place ∙ ap (λ (rs : List (Option ℕ)). Continues (record { unit = unit; registers = rs; frame = m.frame; «record» = m.record })) (images_set p m.tags d v))
+    (λ p place. does p place ∙ ap (λ (w : ℕ). Continues (at_unit (with_register (machine p m) d w) unit)) (made.is p)
+    ∙ ap (λ (rs : List (Option ℕ)). Continues (record { unit = unit; registers = rs; frame = m.frame; «record» = m.record })) (images_set p m.tags d v))

@@ -23,8 +23,13 @@ record Signed (a : Interval) (w : ℕ) : Type 0 where
 read_signed : (a : Interval) (w : ℕ) → w < 2 ^ 64 → IsIn w a → Signed a w
 read_signed a w small h =
     elim (cases_lt w (2 ^ 63)) [
-      | inl l ↦ record { z = pos w; is = words.word_is w small; within = record { low = grind (arith, nat_tests, ints); high = grind (arith, nat_tests, ints) } }
-      | inr l ↦ record { z = negsuc (2 ^ 64 - 1 - w); is = words.negative_is w small; within = record { low = grind (arith, nat_tests, ints); high = grind (arith, nat_tests, ints) } }
+      | inl l ↦
+          let within : IsOffset (pos w) (signed_of a) = record { low = grind (arith, nat_tests, ints); high = grind (arith, nat_tests, ints) } in
+          record { z = pos w; is = words.word_is w small; within = within }
+      | inr l ↦
+          let z : ℤ = negsuc (2 ^ 64 - 1 - w) in
+          let within : IsOffset z (signed_of a) = record { low = grind (arith, nat_tests, ints); high = grind (arith, nat_tests, ints) } in
+          record { z = z; is = words.negative_is w small; within = within }
     ]
 
 limited-some : (s t : Span) → limited s ≡ Some t → t ≡ s

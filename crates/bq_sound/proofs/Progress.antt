@@ -41,17 +41,17 @@ is_insn t unit i h e = elim (cases_lt unit (units t)) [
 
 -- ---- every instruction
 
-pub progress : {len : ℕ} (m : Common) (i : Insn) (state after : StateKinds) → IsInsn i → Stands len m state → transfer i state ≡ Ok after
+pub progress : {len : ℕ} {m : Common} {state after : StateKinds} (i : Insn) → IsInsn i → Stands len m state → transfer i state ≡ Ok after
     → GoesOn len m i after ⊎ Stops m i
-progress m (insns.Alu w op d x) state after legal s rules = inl (does_alu m w op d x state after s rules)
-progress m (insns.Negate w d) state after legal s rules = inl (does_negate m w d state after s rules)
-progress m (insns.Extend e d r) state after legal s rules = inl (does_extend m e d r state after s rules)
-progress m (insns.Order o bits d) state after legal s rules = inl (does_order m o bits d state after s rules)
-progress m (insns.Jump distance) state after legal s rules = inl (does_jump m distance state after s rules)
-progress m (insns.JumpFar distance) state after legal s rules = inl (does_jump_far m distance state after s rules)
-progress m (insns.Branch w r d x distance) state after legal s rules = inl (does_branch m w r d x distance state after s rules)
-progress m insns.Exit state after legal s rules = inr (does_exit m state after s rules)
-progress m (insns.Load size d base distance) state after legal s rules = inl (does_load m size d base distance state after s rules)
-progress m (insns.LoadSigned bits d base distance) state after legal s rules = inl (does_load_signed m bits d base distance state after s rules)
-progress m (insns.Store size base distance x) state after legal s rules = inl (does_store m size base distance x state after s rules)
-progress m (insns.Wide d v) state after legal s rules = inl (does_wide m d v state after legal.1 s rules)
+progress (insns.Alu w op d x) legal s rules = inl (does_alu w op d x s rules)
+progress (insns.Negate w d) legal s rules = inl (does_negate w d s rules)
+progress (insns.Extend e d r) legal s rules = inl (does_extend e d r s rules)
+progress (insns.Order o bits d) legal s rules = inl (does_order o bits d s rules)
+progress (insns.Jump distance) legal s rules = inl (does_jump distance s rules)
+progress (insns.JumpFar distance) legal s rules = inl (does_jump_far distance s rules)
+progress (insns.Branch w r d x distance) legal s rules = inl (does_branch w r d x distance s rules)
+progress insns.Exit legal s rules = inr (does_exit s rules)
+progress (insns.Load size d base distance) legal s rules = inl (does_load size d base distance s rules)
+progress (insns.LoadSigned bits d base distance) legal s rules = inl (does_load_signed bits d base distance s rules)
+progress (insns.Store size base distance x) legal s rules = inl (does_store size base distance x s rules)
+progress (insns.Wide d v) legal s rules = inl (does_wide d v legal.1 s rules)

@@ -1,5 +1,5 @@
 -- Instructions that work on registers alone.
-use Rattle.std.proofs.Common.{◌≡◌, ℕ, ◌+◌, ◌^◌, ◌<◌, ◌≤◌, refl, ◌∙◌, subst, inl, arith, Some, Ok}
+use Rattle.std.proofs.Common.{◌≡◌, ℕ, ◌+◌, ◌^◌, ◌<◌, ◌≤◌, refl, ◌∙◌, inl, arith, Some, Ok}
 use Rattle.std.proofs.lemmas.Bool.{lt-ltb}
 use Rattle.bq_word.specs.Word.{bits_of, operation, low, swap_bits, swapped, extended}
 use Rattle.bq_word.specs.declared.Width.{Width}
@@ -20,44 +20,40 @@ use Rattle.bq_insn.specs.declared.insn.ByteOrder.{ByteOrder}
 use Rattle.bq_insn.specs.declared.insn.ByteOrder.TheVariants as orders
 use Rattle.bq_flow.specs.Paths.{Among}
 use Rattle.bq_meaning.specs.Place.{Place}
-use Rattle.bq_meaning.specs.Meaning.{Outcome, Continues, Ends, held, value, ordered, reading, writing, written, perform}
+use Rattle.bq_meaning.specs.Meaning.{Outcome, Continues, held, ordered, reading, writing, written, perform}
 use Rattle.bq_meaning.specs.declared.fault.Fault.TheVariants.{ReadUnset}
 use Rattle.bq_range.specs.Interval.{Interval, IsIn, single}
 use Rattle.bq_range.specs.Table.{negated, sign_extended}
 use Rattle.bq_range.proofs.Held.{words}
 use Rattle.bq_range.proofs.Covers.{negated_covers, sign_extended_covers, low_range_covers, swapped_range_covers}
-use Rattle.bq_state.specs.declared.kind.Kind.TheVariants.{Number}
 use Rattle.bq_state.specs.declared.rule.Rule.TheVariants.{WrongKind, AnswerKind}
-use Rattle.bq_state.specs.Kinds.{StateKinds, read_kind, with_kind}
-use Rattle.bq_state.specs.Rules.{transfer, and_then, known, writable, number, allowed, operand_kind, taken_kind, alu_kind, mapped, ordered_range}
+use Rattle.bq_state.specs.Kinds.{StateKinds, read_kind}
+use Rattle.bq_state.specs.Rules.{transfer, operand_kind, taken_kind, alu_kind, mapped, ordered_range}
 use Rattle.bq_state.specs.Edges.{edges}
-use Rattle.bq_sound.proofs.Tags.{Tagged, Num, image, images, tag_at, HoldsNumber, holds_word, TagHolds, register_holds}
-use Rattle.bq_sound.proofs.Rules.{same_state, read, wrote, gave, numbered}
-use Rattle.bq_sound.proofs.Made.{alu_made, operation_word}
-use Rattle.bq_sound.proofs.Machine.{Common, machine, GoesOn, Stops, Stands, puts}
+use Rattle.bq_sound.proofs.Tags.{Tagged, Num, in_single, images, tag_at, register_holds}
+use Rattle.bq_sound.proofs.Rules.{same_state, known-ok, read-ok, writable-ok, allowed-ok, number-ok}
+use Rattle.bq_sound.proofs.Made.{made_number, result_of, alu_made, operation_word}
+use Rattle.bq_sound.proofs.Machine.{Common, machine, Performs, GoesOn, Stops, Stands, puts}
 use Rattle.bq_sound.proofs.Operands.{operand_tag, taken_tag, held_is, value_is, taken_is, operand_holds, taken_holds, operand_word, taken_word}
 
 -- ---- operations of two operands
 
-alu_performs : (p : Place) (m : Common) (w : Width) (op : AluOp) (d : ℕ) (x : Operand) (u v value : Tagged) → taken_tag m.tags op d ≡ Some u → operand_tag m.tags x ≡ Some v → d < 10
-    → operation (bits_of w) op (image p u) (image p v) ≡ image p value
-    → perform p (insns.Alu w op d x) (machine p m) ≡ Continues (written (machine p m) d (image p value))
-alu_performs p m w op d x u v value eu ev low is = rw (taken_is p m.tags op d u eu, value_is p m.tags x v ev, lt-ltb d 10 low, is) refl
-
-pub does_alu : {len : ℕ} (m : Common) (w : Width) (op : AluOp) (d : ℕ) (x : Operand) (state after : StateKinds)
-    → Stands len m state → transfer (insns.Alu w op d x) state ≡ Ok after → GoesOn len m (insns.Alu w op d x) after
-does_alu {len} m w op d x state after s rules =
+pub does_alu : {len : ℕ} {m : Common} {state after : StateKinds} (w : Width) (op : AluOp) (d : ℕ) (x : Operand) → Stands len m state
+    → transfer (insns.Alu w op d x) state ≡ Ok after → GoesOn len m (insns.Alu w op d x) after
+does_alu {len} {m} {state} w op d x s rules =
+    let tags = m.tags in
     let a = taken_kind state op d in
     let b = operand_kind state x in
-    let hu = taken_holds len state m.tags op d s.holds in
-    let hv = operand_holds len state m.tags x s.holds in
-    let ru = read len a (taken_tag m.tags op d) (λ a'. and_then (known b) (λ b'. and_then (writable d) (λ _. and_then (allowed (alu_kind state.lengths w op a' b')) (λ k. Ok (with_kind state d k))))) after hu rules in
-    let rv = read len b (operand_tag m.tags x) (λ b'. and_then (writable d) (λ _. and_then (allowed (alu_kind state.lengths w op a b')) (λ k. Ok (with_kind state d k)))) after hv ru.2 in
-    let low = wrote d (λ _. and_then (allowed (alu_kind state.lengths w op a b)) (λ k. Ok (with_kind state d k))) after rv.2 in
-    let is = gave (alu_kind state.lengths w op a b) (λ k. Ok (with_kind state d k)) after low.1 in
-    let made = alu_made len state.lengths w op a b is.0 ru.0 rv.0 s.holds.within is.1 (subst (TagHolds len a) ru.1 hu) (subst (TagHolds len b) rv.1 hv) (taken_word m.tags op d ru.0 s.whole.words ru.1) (operand_word m.tags x rv.0 s.whole.words rv.1) in
-    puts m (insns.Alu w op d x) (m.unit + 1) d state after is.0 made.value s low.0 made.holds made.word (same_state _ _ is.2) (inl refl)
-    (λ p place. alu_performs p m w op d x ru.0 rv.0 made.value ru.1 rv.1 low.0 (made.is p))
+    let u = read-ok len a (taken_tag tags op d) _ (taken_holds s.holds op d) (λ v is. taken_word tags op d v s.whole.words is) rules in
+    let v = read-ok len b (operand_tag tags x) _ (operand_holds s.holds x) (λ v is. operand_word tags x v s.whole.words is) u.1 in
+    let low = writable-ok d _ v.1 in
+    let k = allowed-ok (alu_kind state.lengths w op a b) _ low.1 in
+    let made = alu_made state.lengths w op a b k.0 s.holds.within k.1 u.0.known v.0.known in
+    puts (m.unit + 1) d s low.0 made (same_state _ _ k.2) (inl refl) (λ p place. performs p u.0.is v.0.is low.0)
+  where
+    performs : (p : Place) {u v : Tagged} → taken_tag m.tags op d ≡ Some u → operand_tag m.tags x ≡ Some v → d < 10
+        → perform p (insns.Alu w op d x) (machine p m) ≡ Continues (written (machine p m) d (result_of (bits_of w) op u v p))
+    performs p eu ev low = rw (taken_is p m.tags op d eu, value_is p m.tags x ev, lt-ltb d 10 low) refl
 
 -- ---- operations of one operand
 
@@ -69,31 +65,27 @@ record Covers (f : ℕ → ℕ) (g : Interval → Interval) : Type 0 where
 abbrev one : Common → Place → ℕ → ℕ → (ℕ → ℕ) → Outcome
 one m p d s f = reading ReadUnset (held (images p m.tags) s) (λ a. writing d (Continues (written (machine p m) d (f a))))
 
-one_performs : (p : Place) (m : Common) (d s : ℕ) (f : ℕ → ℕ) (w : ℕ) → tag_at m.tags s ≡ Some (Num w) → d < 10
-    → one m p d s f ≡ Continues (written (machine p m) d (f w))
-one_performs p m d s f w e low = rw (held_is p m.tags s (Num w) e, lt-ltb d 10 low) refl
-
-does_one : {len : ℕ} (m : Common) (i : Insn) (d s : ℕ) (f : ℕ → ℕ) (g : Interval → Interval) (state after : StateKinds)
-    → Covers f g → Stands len m state → mapped state d s g ≡ Ok after → Among (m.unit + 1, after) (edges m.unit i after)
-    → ((p : Place) → perform p i (machine p m) ≡ one m p d s f) → GoesOn len m i after
-does_one {len} m i d s f g state after c stands rules among does =
+does_one : {len : ℕ} {m : Common} {i : Insn} {state after : StateKinds} {f : ℕ → ℕ} {g : Interval → Interval} (d s : ℕ) → Covers f g
+    → Stands len m state → mapped state d s g ≡ Ok after → Among (m.unit + 1, after) (edges m.unit i after)
+    → Performs i m (λ p. one m p d s f) → GoesOn len m i after
+does_one {len} {m} {state = state} {f = f} {g = g} d s c stands rules among does =
     let k = read_kind state s in
-    let here = register_holds len state m.tags s stands.holds in
-    let r = read len k (tag_at m.tags s) (λ k'. and_then (writable d) (λ _. and_then (number WrongKind k') (λ a. Ok (with_kind state d (Number (g a)))))) after here rules in
-    let low = wrote d (λ _. and_then (number WrongKind k) (λ a. Ok (with_kind state d (Number (g a))))) after r.2 in
-    let n = numbered WrongKind k (λ a. Ok (with_kind state d (Number (g a)))) after low.1 in
-    let h : HoldsNumber n.0 (tag_at m.tags s) = subst (λ q. TagHolds len q (tag_at m.tags s)) n.1 here in
-    puts m i (m.unit + 1) d state after (Number (g n.0)) (Num (f h.word)) stands low.0
-    (holds_word (g n.0) (f h.word) (c.covers n.0 h.word h.within)) (c.small h.word) (same_state _ _ n.2) among
-    (λ p place. does p ∙ one_performs p m d s f h.word h.is low.0)
+    let low = writable-ok d _ (known-ok k _ rules) in
+    let n = number-ok len WrongKind k (tag_at m.tags s) _ (register_holds stands.holds s) low.1 in
+    let h = n.0.holds in
+    puts (m.unit + 1) d stands low.0
+    (made_number len (g n.0.range) (λ p. f h.word) (f h.word) (c.covers n.0.range h.word h.within) (c.small h.word) (λ p. refl))
+    (same_state _ _ n.1) among (λ p place. does p place ∙ performs p h.is low.0)
+  where
+    performs : (p : Place) {word : ℕ} → tag_at m.tags s ≡ Some (Num word) → d < 10 → one m p d s f ≡ Continues (written (machine p m) d (f word))
+    performs p e low = rw (held_is p m.tags s e, lt-ltb d 10 low) refl
 
 negation : (w : Width) → Covers (operation (bits_of w) Sub 0) (negated (bits_of w))
 negation w = record { small = operation_word w Sub 0; covers = negated_covers (bits_of w) }
 
-pub does_negate : {len : ℕ} (m : Common) (w : Width) (d : ℕ) (state after : StateKinds)
-    → Stands len m state → transfer (insns.Negate w d) state ≡ Ok after → GoesOn len m (insns.Negate w d) after
-does_negate m w d state after s rules =
-    does_one m (insns.Negate w d) d d (operation (bits_of w) Sub 0) (negated (bits_of w)) state after (negation w) s rules (inl refl) (λ p. refl)
+pub does_negate : {len : ℕ} {m : Common} {state after : StateKinds} (w : Width) (d : ℕ) → Stands len m state
+    → transfer (insns.Negate w d) state ≡ Ok after → GoesOn len m (insns.Negate w d) after
+does_negate w d s rules = does_one d d (negation w) s rules (inl refl) (λ _ _. refl)
 
 extended_word : (bits : ℕ) (w : Width) (x : ℕ) → extended bits (bits_of w) x < 2 ^ 64
 extended_word bits w x = let b = extended_bound bits (bits_of w) x in let c = words w in omega (arith, b, c)
@@ -106,10 +98,9 @@ extension extensions.W64From8 = record { small = extended_word 8 W64; covers = s
 extension extensions.W64From16 = record { small = extended_word 16 W64; covers = sign_extended_covers B16 W64 }
 extension extensions.W64From32 = record { small = extended_word 32 W64; covers = sign_extended_covers B32 W64 }
 
-pub does_extend : {len : ℕ} (m : Common) (e : Extension) (d r : ℕ) (state after : StateKinds)
-    → Stands len m state → transfer (insns.Extend e d r) state ≡ Ok after → GoesOn len m (insns.Extend e d r) after
-does_extend m e d r state after s rules =
-    does_one m (insns.Extend e d r) d r _ _ state after (extension e) s rules (inl refl) (λ p. refl)
+pub does_extend : {len : ℕ} {m : Common} {state after : StateKinds} (e : Extension) (d r : ℕ) → Stands len m state
+    → transfer (insns.Extend e d r) state ≡ Ok after → GoesOn len m (insns.Extend e d r) after
+does_extend e d r s rules = does_one d r (extension e) s rules (inl refl) (λ _ _. refl)
 
 low_word : (bits : SwapBits) (x : ℕ) → low (swap_bits bits) x < 2 ^ 64
 low_word swaps.B16 x = omega arith
@@ -129,30 +120,21 @@ order orders.Little bits = record { small = low_word bits; covers = low_range_co
 order orders.Big bits = record { small = swapped_word bits; covers = swapped_range_covers bits }
 order orders.Swapped bits = record { small = swapped_word bits; covers = swapped_range_covers bits }
 
-pub does_order : {len : ℕ} (m : Common) (o : ByteOrder) (bits : SwapBits) (d : ℕ) (state after : StateKinds)
-    → Stands len m state → transfer (insns.Order o bits d) state ≡ Ok after → GoesOn len m (insns.Order o bits d) after
-does_order m o bits d state after s rules =
-    does_one m (insns.Order o bits d) d d (ordered o (swap_bits bits)) (ordered_range o (swap_bits bits)) state after (order o bits) s rules (inl refl) (λ p. refl)
+pub does_order : {len : ℕ} {m : Common} {state after : StateKinds} (o : ByteOrder) (bits : SwapBits) (d : ℕ) → Stands len m state
+    → transfer (insns.Order o bits d) state ≡ Ok after → GoesOn len m (insns.Order o bits d) after
+does_order o bits d s rules = does_one d d (order o bits) s rules (inl refl) (λ _ _. refl)
 
 -- ---- a number of 64 bits, and an exit
 
-pub does_wide : {len : ℕ} (m : Common) (d v : ℕ) (state after : StateKinds) → v < 2 ^ 64
-    → Stands len m state → transfer (insns.Wide d v) state ≡ Ok after → GoesOn len m (insns.Wide d v) after
-does_wide m d v state after small s rules =
-    let low = wrote d (λ _. Ok (with_kind state d (Number (single v)))) after rules in
-    let lt = lt-ltb d 10 low.0 in
-    puts m (insns.Wide d v) (m.unit + 2) d state after (Number (single v)) (Num v) s low.0
-    (holds_word (single v) v (record { low = omega arith; high = omega arith })) small (same_state _ _ low.1) (inl refl)
-    (λ p place. rw lt refl)
+pub does_wide : {len : ℕ} {m : Common} {state after : StateKinds} (d v : ℕ) → v < 2 ^ 64 → Stands len m state
+    → transfer (insns.Wide d v) state ≡ Ok after → GoesOn len m (insns.Wide d v) after
+does_wide {len} {m} d v small s rules =
+    let low = writable-ok d _ rules in
+    puts (m.unit + 2) d s low.0 (made_number len (single v) (λ p. v) v (in_single v) small (λ p. refl))
+    (same_state _ _ low.1) (inl refl) (λ p place. rw (lt-ltb d 10 low.0) refl)
 
-exit_performs : (p : Place) (m : Common) (w : ℕ) → tag_at m.tags 0 ≡ Some (Num w) → perform p insns.Exit (machine p m) ≡ Ends w
-exit_performs p m w e = rw (held_is p m.tags 0 (Num w) e) refl
-
-pub does_exit : {len : ℕ} (m : Common) (state after : StateKinds) → Stands len m state → transfer insns.Exit state ≡ Ok after → Stops m insns.Exit
-does_exit {len} m state after s rules =
+pub does_exit : {len : ℕ} {m : Common} {state after : StateKinds} → Stands len m state → transfer insns.Exit state ≡ Ok after → Stops m insns.Exit
+does_exit {len} {m} {state} s rules =
     let k = read_kind state 0 in
-    let here = register_holds len state m.tags 0 s.holds in
-    let r = read len k (tag_at m.tags 0) (λ k'. and_then (number AnswerKind k') (λ _. Ok state)) after here rules in
-    let n = numbered AnswerKind k (λ _. Ok state) after r.2 in
-    let h : HoldsNumber n.0 (tag_at m.tags 0) = subst (λ q. TagHolds len q (tag_at m.tags 0)) n.1 here in
-    record { answer = h.word; word = s.whole.words.each 0 (Num h.word) h.is; exits = refl; steps = λ p place. exit_performs p m h.word h.is }
+    let h = (number-ok len AnswerKind k (tag_at m.tags 0) _ (register_holds s.holds 0) (known-ok k _ rules)).0.holds in
+    record { answer = h.word; word = s.whole.words.each 0 (Num h.word) h.is; exits = refl; steps = λ p place. rw (held_is p m.tags 0 h.is) refl }

@@ -6,7 +6,7 @@ use Rattle.std.proofs.lemmas.Bool.{cases_eq}
 use Rattle.std.proofs.lemmas.List.{map-set, get_or-set_same, get_or-set_other}
 use Rattle.bq_meaning.specs.Place.{Place}
 use Rattle.bq_meaning.specs.Meaning.{held, moved}
-use Rattle.bq_range.specs.Interval.{Interval, IsIn, Within}
+use Rattle.bq_range.specs.Interval.{Interval, IsIn, Within, single}
 use Rattle.bq_state.specs.Offsets.{Span, SpanWithin, IsOffset}
 use Rattle.bq_state.specs.declared.kind.Kind.{Kind}
 use Rattle.bq_state.specs.declared.kind.Kind.TheVariants.{Unset, Number, Pointer, Length}
@@ -39,14 +39,8 @@ tag_at tags r = slice_index_or tags r None
 abbrev pub images : Place → List (Option Tagged) → List (Option ℕ)
 images p tags = map (option_map (image p)) tags
 
-pub same_word : (v : Tagged) (w : ℕ) → Some v ≡ Some (Num w) → v ≡ Num w
-same_word v w e = cc
-
-pub same_pointer : (v : Tagged) (region : Region) (z : ℤ) → Some v ≡ Some (Ptr region z) → v ≡ Ptr region z
-same_pointer v region z e = cc
-
-pub word_of : (n : ℕ) (v : Tagged) → n < 2 ^ 64 → Some (Num n) ≡ Some v → IsWord v
-word_of n v h e = let is : Num n ≡ v = cc in subst IsWord is h
+pub word_of : (u v : Tagged) → IsWord u → Some u ≡ Some v → IsWord v
+word_of u v h e = let is : u ≡ v = cc in subst IsWord is h
 
 pub held_image : (p : Place) (tags : List (Option Tagged)) (r : ℕ) → held (images p tags) r ≡ option_map (image p) (tag_at tags r)
 held_image p [] r = refl
@@ -88,14 +82,22 @@ pub record TagsHold (len : ℕ) (state : StateKinds) (tags : List (Option Tagged
   pub within : IsIn len state.lengths
   pub each : (r : ℕ) → TagHolds len (kind_of state r) (tag_at tags r)
 
+-- a number that is known
+pub in_single : (n : ℕ) → IsIn n (single n)
+in_single n = record { low = omega arith; high = omega arith }
+
+pub number_of : (n : ℕ) → HoldsNumber (single n) (Some (Num n))
+number_of n = holds_word (single n) n (in_single n)
+
+-- a value of a kind
+pub record IsValue (len : ℕ) (k : Kind) (v : Tagged) : Type 0 where
+  pub holds : TagHolds len k (Some v)
+  pub word : IsWord v
+
 -- a length that is read is one of the lengths
 pub read_holds : (len : ℕ) (l : Interval) (k : Kind) (t : Option Tagged) → IsIn len l → TagHolds len k t → TagHolds len (as_number l k) t
 read_holds len l Length t i h = record { word = len; is = h; within = i }
 read_holds len l k t i h = h
-
-pub register_holds : (len : ℕ) (state : StateKinds) (tags : List (Option Tagged)) (r : ℕ) → TagsHold len state tags
-    → TagHolds len (read_kind state r) (tag_at tags r)
-register_holds len state tags r h = read_holds len state.lengths (kind_of state r) (tag_at tags r) h.within (h.each r)
 
 number_held : (a b : Interval) (t : Option Tagged) → Within b a → HoldsNumber b t → HoldsNumber a t
 number_held a b t c h = record { word = h.word; is = h.is; within = record { low = omega arith; high = omega arith } }
@@ -111,8 +113,8 @@ covered_tag len l (Pointer r a) (Pointer q b) t i c h = pointer_held r a b t c.1
 covered_tag len l Length Length t i c h = h
 covered_tag len l a b t i c h = absurd c
 
-pub covered_tags : (len : ℕ) (a b : StateKinds) (tags : List (Option Tagged)) → StateCovers a b → TagsHold len b tags → TagsHold len a tags
-covered_tags len a b tags c h = record {
+pub covered_tags : {len : ℕ} {a b : StateKinds} {tags : List (Option Tagged)} → StateCovers a b → TagsHold len b tags → TagsHold len a tags
+covered_tags {len} {a} {b} {tags} c h = record {
   within = record { low = omega (arith, c.lengths.low, h.within.low); high = omega (arith, c.lengths.high, h.within.high) };
   each = λ r. covered_tag len b.lengths (kind_of a r) (kind_of b r) (tag_at tags r) h.within (c.each r) (h.each r);
 }
@@ -128,28 +130,31 @@ kind_set_same len (x ∷ xs) l (suc d) k t h = kind_set_same len xs l d k t h
 kind_set_other : (state : StateKinds) (d r : ℕ) (k : Kind) → (r ≡ d → ⊥) → kind_of (with_kind state d k) r ≡ kind_of state r
 kind_set_other state d r k h = get_or-set_other state.kinds d r k Unset h
 
-pub written_holds : (len : ℕ) (state : StateKinds) (tags : List (Option Tagged)) (d : ℕ) (k : Kind) (v : Tagged) → TagsHold len state tags → d < length tags → TagHolds len k (Some v)
-    → TagsHold len (with_kind state d k) (slice_set tags d (Some v))
-written_holds len state tags d k v h low here = record {
-  within = h.within;
-  each = λ r. elim (cases_eq r d) [
-    | inl e ↦ subst (λ q. TagHolds len (kind_of (with_kind state d k) q) (tag_at (slice_set tags d (Some v)) q)) (sym e)
-        (subst (TagHolds len (kind_of (with_kind state d k) d)) (sym (tag_set_same tags d v low)) (kind_set_same len state.kinds state.lengths d k (Some v) here))
-    | inr ne ↦ subst (λ t. TagHolds len (kind_of (with_kind state d k) r) t) (sym (tag_set_other tags d r v ne))
-        (subst (λ q. TagHolds len q (tag_at tags r)) (sym (kind_set_other state d r k ne)) (h.each r))
-  ];
-}
+-- registers of which a state holds
+module _ {len : ℕ} {state : StateKinds} {tags : List (Option Tagged)} (h : TagsHold len state tags) where
+  pub register_holds : (r : ℕ) → TagHolds len (read_kind state r) (tag_at tags r)
+  register_holds r = read_holds len state.lengths (kind_of state r) (tag_at tags r) h.within (h.each r)
 
-pub narrowed_holds : (len : ℕ) (state : StateKinds) (tags : List (Option Tagged)) (d : ℕ) (k : Kind) → TagsHold len state tags
-    → TagHolds len k (tag_at tags d) → TagsHold len (with_kind state d k) tags
-narrowed_holds len state tags d k h here = record {
-  within = h.within;
-  each = λ r. elim (cases_eq r d) [
-    | inl e ↦ subst (λ q. TagHolds len (kind_of (with_kind state d k) q) (tag_at tags q)) (sym e) (kind_set_same len state.kinds state.lengths d k (tag_at tags d) here)
-    | inr ne ↦ subst (λ q. TagHolds len q (tag_at tags r)) (sym (kind_set_other state d r k ne)) (h.each r)
-  ];
-}
+  -- one register holds a kind, and the others what they held
+  kind_holds : (d : ℕ) (k : Kind) (others : List (Option Tagged)) → TagHolds len k (tag_at others d)
+      → ((r : ℕ) → (r ≡ d → ⊥) → tag_at others r ≡ tag_at tags r) → TagsHold len (with_kind state d k) others
+  kind_holds d k others here same = record {
+    within = h.within;
+    each = λ r. elim (cases_eq r d) [
+      | inl e ↦ subst (λ q. TagHolds len (kind_of (with_kind state d k) q) (tag_at others q)) (sym e)
+          (kind_set_same len state.kinds state.lengths d k (tag_at others d) here)
+      | inr ne ↦ subst (TagHolds len (kind_of (with_kind state d k) r)) (sym (same r ne))
+          (subst (λ q. TagHolds len q (tag_at tags r)) (sym (kind_set_other state d r k ne)) (h.each r))
+    ];
+  }
 
-pub lengths_hold : (len : ℕ) (state : StateKinds) (tags : List (Option Tagged)) (l : Interval) → TagsHold len state tags → IsIn len l
-    → TagsHold len (with_lengths state l) tags
-lengths_hold len state tags l h i = record { within = i; each = h.each }
+  pub written_holds : (d : ℕ) (k : Kind) (v : Tagged) → d < length tags → TagHolds len k (Some v)
+      → TagsHold len (with_kind state d k) (slice_set tags d (Some v))
+  written_holds d k v low here =
+      kind_holds d k (slice_set tags d (Some v)) (subst (TagHolds len k) (sym (tag_set_same tags d v low)) here) (λ r ne. tag_set_other tags d r v ne)
+
+  pub narrowed_holds : (d : ℕ) (k : Kind) → TagHolds len k (tag_at tags d) → TagsHold len (with_kind state d k) tags
+  narrowed_holds d k here = kind_holds d k tags here (λ r ne. refl)
+
+  pub lengths_hold : (l : Interval) → IsIn len l → TagsHold len (with_lengths state l) tags
+  lengths_hold l i = record { within = i; each = h.each }

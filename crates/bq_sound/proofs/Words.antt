@@ -30,14 +30,13 @@ moved_on a x y =
     let rx = residue x in
     let ry = residue y in
     let rs = residue (x +ℤ y) in
-    let mx : ℕ = modulo 64 x in
-    let my : ℕ = modulo 64 y in
-    let ms : ℕ = modulo 64 (x +ℤ y) in
-    let q : ℕ = (a + mx) / 2 ^ 64 in
-    let q' : ℕ = (moved a x + my) / 2 ^ 64 in
-    let q'' : ℕ = (a + ms) / 2 ^ 64 in
-    let e : moved (moved a x) y + (q + q' + rx.less + ry.less + rs.more) * 2 ^ 64 ≡ moved a (x +ℤ y) + (q'' + rx.more + ry.more + rs.less) * 2 ^ 64 = omega (arith, ints, rx.is, ry.is, rs.is) in
-    same_residue _ _ (q + q' + rx.less + ry.less + rs.more) (q'' + rx.more + ry.more + rs.less) (moved_small (moved a x) y) (moved_small a (x +ℤ y)) e
+    let q : ℕ = (a + modulo 64 x) / 2 ^ 64 in
+    let q' : ℕ = (moved a x + modulo 64 y) / 2 ^ 64 in
+    let q'' : ℕ = (a + modulo 64 (x +ℤ y)) / 2 ^ 64 in
+    let j : ℕ = q + q' + rx.less + ry.less + rs.more in
+    let k : ℕ = q'' + rx.more + ry.more + rs.less in
+    let e : moved (moved a x) y + j * 2 ^ 64 ≡ moved a (x +ℤ y) + k * 2 ^ 64 = omega (arith, ints, rx.is, ry.is, rs.is) in
+    same_residue _ _ j k (moved_small (moved a x) y) (moved_small a (x +ℤ y)) e
 
 -- a number below it is a move back
 pub moved_back : (a w : ℕ) (x y : ℤ) → modulo 64 y ≡ w → modulo 64 (pos (moved a x) -ℤ pos w) ≡ moved a (x -ℤ y)
@@ -46,12 +45,12 @@ moved_back a w x y f =
     let ry = residue y in
     let rs = residue (x -ℤ y) in
     let rd = residue (pos (moved a x) -ℤ pos w) in
-    let mx : ℕ = modulo 64 x in
-    let ms : ℕ = modulo 64 (x -ℤ y) in
-    let q : ℕ = (a + mx) / 2 ^ 64 in
-    let q'' : ℕ = (a + ms) / 2 ^ 64 in
-    let e : modulo 64 (pos (moved a x) -ℤ pos w) + (rd.less + q + rx.less + ry.more + rs.more) * 2 ^ 64 ≡ moved a (x -ℤ y) + (rd.more + q'' + rx.more + ry.less + rs.less) * 2 ^ 64 = omega (arith, ints, rx.is, ry.is, rs.is, rd.is, f) in
-    same_residue _ _ (rd.less + q + rx.less + ry.more + rs.more) (rd.more + q'' + rx.more + ry.less + rs.less) rd.small (moved_small a (x -ℤ y)) e
+    let q : ℕ = (a + modulo 64 x) / 2 ^ 64 in
+    let q' : ℕ = (a + modulo 64 (x -ℤ y)) / 2 ^ 64 in
+    let j : ℕ = rd.less + q + rx.less + ry.more + rs.more in
+    let k : ℕ = rd.more + q' + rx.more + ry.less + rs.less in
+    let e : modulo 64 (pos (moved a x) -ℤ pos w) + j * 2 ^ 64 ≡ moved a (x -ℤ y) + k * 2 ^ 64 = omega (arith, ints, rx.is, ry.is, rs.is, rd.is, f) in
+    same_residue _ _ j k rd.small (moved_small a (x -ℤ y)) e
 
 -- a number of 64 bits, read with its sign or without
 pub word_is : (w : ℕ) → w < 2 ^ 64 → modulo 64 (pos w) ≡ w

@@ -1,26 +1,22 @@
 -- The states of a text fit their lengths: where records have one length, what arrives at a unit tells it by its number,
 -- as the entry does. By induction over the units, by the law that what comes of such states is one.
-use Rattle.std.proofs.Common.{◌≡◌, ℕ, zero, suc, ◌<◌, List, [], ◌∷◌, Option, Some, None, ap, sym, subst, ◌∙◌, refl, arith, inl, inr}
-use Rattle.std.specs.Prelude.{◌==◌, Result, Ok, Err}
+use Rattle.std.proofs.Common.{◌≡◌, ℕ, zero, suc, ◌<◌, List, [], ◌∷◌, Some, ap, sym, subst, ◌∙◌, refl, arith, inl, inr}
+use Rattle.std.specs.Prelude.{◌==◌}
 use Rattle.std.specs.List.{fold, All}
 use Rattle.std.proofs.lemmas.Bool.{cases_Bool}
 use Rattle.std.proofs.lemmas.List.Elements.{All-head, All-tail}
-use Rattle.bq_insn.specs.Slots.{units, IsText, insn_at}
+use Rattle.bq_insn.specs.Slots.{units, IsText}
 use Rattle.bq_insn.specs.declared.insn.Insn.{Insn}
 use Rattle.bq_flow.specs.Paths.{Among, IsLegalFlow}
 use Rattle.bq_range.specs.Interval.{Interval, single}
-use Rattle.bq_state.specs.declared.rule.Rule.{Rule}
-use Rattle.bq_state.specs.Kinds.{StateKinds, join_states, entry_state}
-use Rattle.bq_state.specs.Rules.{transfer}
+use Rattle.bq_state.specs.Kinds.{StateKinds, join_states}
 use Rattle.bq_state.specs.Edges.{edges}
 use Rattle.bq_state.specs.Plain.{IsPlain, StaysPlain}
 use Rattle.bq_sound.specs.Passes.{note_at, AllFitLengths}
-use Rattle.bq_sound.proofs.Among.{among_either}
 use Rattle.bq_sound.proofs.Along.{note_within}
-use Rattle.bq_verify.specs.States.{joined, edges_after, edges_from, leading_to, arriving, AreStates}
+use Rattle.bq_verify.specs.States.{joined, leading_to, arriving, AreStates}
 use Rattle.bq_verify.proofs.Notes.{Notes, same_note, no_note}
-use Rattle.bq_verify.proofs.Forward.{edges_lead}
-use Rattle.bq_verify.proofs.Passing.{came}
+use Rattle.bq_verify.proofs.Arrivals.{arrived, came_forward}
 
 module _ (len : ℕ) (law : StaysPlain len) where
   fold_plain : (s : StateKinds) (xs : List StateKinds) → IsPlain len s → ((x : StateKinds) → Among x xs → IsPlain len x) → IsPlain len (fold join_states s xs)
@@ -48,30 +44,14 @@ module _ (len : ℕ) (law : StaysPlain len) where
   module _ (text : List Insn) (text_is : IsText text) (legal : IsLegalFlow text) (notes : Notes) where
     arrived_plain : (unit n : ℕ) → ((v : ℕ) (s : StateKinds) → v < unit → note_at notes v ≡ Some s → IsPlain len s) → (x : StateKinds)
         → Among x (arriving (single len) text notes unit n) → IsPlain len x
-    arrived_plain unit zero below x a = elim (cases_Bool (unit == 0)) [
-      | inl t ↦
-          let b : Among x (entry_state (single len) ∷ []) = rw t at a in
-          elim b [ inl is ↦ subst (IsPlain len) (sym is) law.entry | inr never ↦ absurd never ]
-      | inr f ↦ absurd (rw f at a)
+    arrived_plain unit n below x a = elim (arrived text notes unit x (single len) n a) [
+      | inl first ↦ subst (IsPlain len) (sym first.1) law.entry
+      | inr brings ↦
+          let b = brings.1 in
+          let before = below brings.0 b.state (came_forward text notes unit x text_is legal b).forward b.noted in
+          let leads = law.leads brings.0 b.insn b.after (law.transfers b.insn b.state b.after before b.passed) in
+          brought_plain unit x (edges brings.0 b.insn b.after) leads b.among
     ]
-    arrived_plain unit (suc n) below x a =
-        elim (among_either x (arriving (single len) text notes unit n) (leading_to unit (edges_from n (insn_at text n) (note_at notes n))) a) [
-          | inl l ↦ arrived_plain unit n below x l
-          | inr r ↦ by_edge (insn_at text n) (note_at notes n) refl refl r
-        ]
-      where
-        by_rule : (i : Insn) (s : StateKinds) (r : Result StateKinds Rule) → insn_at text n ≡ Some i → note_at notes n ≡ Some s → transfer i s ≡ r
-            → Among x (leading_to unit (edges_after n i r)) → IsPlain len x
-        by_rule i s (Ok after) there noted is b =
-            let forward = (came text n unit x (edges n i after) (edges_lead text n i after text_is.few legal there) b).forward in
-            brought_plain unit x (edges n i after) (law.leads n i after (law.transfers i s after (below n s forward noted) is)) b
-        by_rule i s (Err rule) there noted is b = absurd b
-
-        by_edge : (o : Option Insn) (note : Option StateKinds) → insn_at text n ≡ o → note_at notes n ≡ note
-            → Among x (leading_to unit (edges_from n o note)) → IsPlain len x
-        by_edge None _ there noted b = absurd b
-        by_edge (Some i) None there noted b = absurd b
-        by_edge (Some i) (Some s) there noted b = by_rule i s (transfer i s) there noted refl b
 
     states_plain : (end fuel : ℕ) → AreStates (single len) text notes end → (unit : ℕ) (s : StateKinds) → unit < fuel → note_at notes unit ≡ Some s
         → IsPlain len s

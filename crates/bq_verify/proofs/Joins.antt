@@ -25,7 +25,9 @@ extended_none (Some s) = refl
 module _ (order : StatesAreOrdered) where
   pub fold_covers_first : (s : StateKinds) (xs : List StateKinds) → StateCovers (fold join_states s xs) s
   fold_covers_first s [] = order.itself s
-  fold_covers_first s (x ∷ xs) = order.through (fold join_states (join_states s x) xs) (join_states s x) s (fold_covers_first (join_states s x) xs) (order.joined s x).0
+  fold_covers_first s (x ∷ xs) =
+      let first : StateKinds = join_states s x in
+      order.through (fold join_states first xs) first s (fold_covers_first first xs) (order.joined s x).0
 
   pub fold_covers : (s : StateKinds) (xs : List StateKinds) (x : StateKinds) → Among x xs → StateCovers (fold join_states s xs) x
   fold_covers s [] x a = absurd a

@@ -2,11 +2,11 @@
 -- units: what arrives at a unit is below the note there of any notes that pass, since from less an instruction leaves
 -- less: by the laws that covering orders the states and that transfers, edges and joins are monotone. They speak of
 -- states of eleven kinds whose ranges are of words, and the entry's is one.
-use Rattle.std.proofs.Common.{◌≡◌, ℕ, zero, suc, ◌<◌, List, [], ◌∷◌, Option, Some, None, sym, subst, ◌∙◌, refl, arith, inl, inr}
-use Rattle.std.specs.Prelude.{◌≢◌, ◌==◌, Result, Ok, Err}
+use Rattle.std.proofs.Common.{◌≡◌, ℕ, zero, suc, ◌<◌, List, [], ◌∷◌, Some, sym, subst, ◌∙◌, refl, arith, inl, inr}
+use Rattle.std.specs.Prelude.{◌≢◌, ◌==◌, Ok, Err}
 use Rattle.std.specs.List.{fold}
 use Rattle.std.proofs.lemmas.Bool.{cases_Bool, eqb-true}
-use Rattle.bq_insn.specs.Slots.{units, IsText, insn_at}
+use Rattle.bq_insn.specs.Slots.{units, IsText}
 use Rattle.bq_insn.specs.declared.insn.Insn.{Insn}
 use Rattle.bq_flow.specs.Paths.{Among}
 use Rattle.bq_flow.proofs.Units.{insn_within}
@@ -14,27 +14,26 @@ use Rattle.bq_flow.proofs.Legal.{not_legal}
 use Rattle.bq_range.specs.Interval.{Interval}
 use Rattle.bq_state.specs.declared.rule.Rule.{Rule}
 use Rattle.bq_state.specs.Kinds.{StateKinds, AreLengths, StateCovers, join_states, entry_state}
-use Rattle.bq_state.specs.Rules.{transfer}
 use Rattle.bq_state.specs.Edges.{edges}
 use Rattle.bq_state.specs.Monotone.{IsFullState, IsAbove, SomeCovers, AreEdgesAbove, StatesAreOrdered, StatesAreMonotone}
 use Rattle.bq_sound.specs.Passes.{note_at, NoteCovers, AllCovered, Passes}
-use Rattle.bq_sound.proofs.Among.{among_either}
 use Rattle.bq_sound.proofs.Along.{note_within}
 use Rattle.bq_sound.proofs.Progress.{is_insn}
 use Rattle.bq_sound.proofs.Rules.{same_state}
 use Rattle.bq_check.specs.declared.fault.CheckFault.{CheckFault}
 use Rattle.bq_check.specs.declared.fault.CheckFault.TheVariants.{WrongCount, Flow, NoteForm, Entry, Rule as BrokenAt, NotCovered, OutOfMemory}
-use Rattle.bq_verify.specs.States.{joined, edges_after, edges_from, leading_to, arriving, AreStates}
+use Rattle.bq_verify.specs.States.{joined, leading_to, arriving, AreStates}
 use Rattle.bq_verify.specs.Refused.{IsFirstBroken, IsRefused}
 use Rattle.bq_verify.specs.Least.{AreLeast, NonePass}
 use Rattle.bq_verify.proofs.Notes.{Notes, same_note, no_note}
-use Rattle.bq_verify.proofs.Forward.{edges_lead}
-use Rattle.bq_verify.proofs.Passing.{came}
+use Rattle.bq_verify.proofs.Arrivals.{Brings, came_forward, arrived}
 
 no_rule : (a : StateKinds) (rule : Rule) → Ok a ≡ Err rule → ⊥
 no_rule a rule e = cc
 
-module _ (order : StatesAreOrdered) (monotone : StatesAreMonotone) (bounds : Interval) (lengths : AreLengths bounds) (text : List Insn) (others : Notes) (text_is : IsText text) (passes : Passes bounds text others) where
+-- notes of a text that pass
+module _ (order : StatesAreOrdered) (monotone : StatesAreMonotone) {bounds : Interval} (lengths : AreLengths bounds) {text : List Insn} {others : Notes}
+    (text_is : IsText text) (passes : Passes bounds text others) where
   -- a state that the note at a unit covers
   record Below (unit : ℕ) (state : StateKinds) : Type 0 where
     note : StateKinds
@@ -67,7 +66,8 @@ module _ (order : StatesAreOrdered) (monotone : StatesAreMonotone) (bounds : Int
   edge_below e [] full h all = absurd h
   edge_below e (f ∷ fs) full (inl h) all =
       let c = all.0 in
-      record { note = c.note; there = subst (λ v. note_at others v ≡ Some c.note) h.0 c.there; covers = order.through c.note f.1 e.1 c.covers h.1; full = full }
+      let covers = order.through c.note f.1 e.1 c.covers h.1 in
+      record { note = c.note; there = subst (λ v. note_at others v ≡ Some c.note) h.0 c.there; covers = covers; full = full }
   edge_below e (f ∷ fs) full (inr h) all = edge_below e fs full h all.1
 
   -- what edges bring to a unit is below the note there, where these edges lie below others that the notes cover
@@ -83,44 +83,25 @@ module _ (order : StatesAreOrdered) (monotone : StatesAreMonotone) (bounds : Int
   ]
 
   -- what an instruction leaves of a state below a note is below the notes where it leads
-  led_below : (n unit : ℕ) (i : Insn) (s after x : StateKinds) → insn_at text n ≡ Some i → Below n s → transfer i s ≡ Ok after
-      → Among x (leading_to unit (edges n i after)) → Below unit x
-  led_below n unit i s after x there h is a =
-      let fine = passes.fine.each n h.note i (insn_within text n i there) h.there there in
-      let less = monotone.transfers i h.note s fine.after (is_insn text n i text_is there) (h.covers, h.full) fine.rules in
-      let same : less.0 ≡ after = same_state less.0 after (sym less.1 ∙ is) in
-      let above : IsAbove fine.after after = subst (IsAbove fine.after) same less.2 in
-      brought_below unit x (edges n i after) (edges n i fine.after) (monotone.leads n i fine.after after above) fine.covered a
+  led_below : {notes : Notes} {n unit : ℕ} {x : StateKinds} (b : Brings text notes n unit x) → Below n b.state → Below unit x
+  led_below {n = n} {unit = unit} {x = x} b h =
+      let fine = passes.fine.each n h.note b.insn (insn_within text n b.insn b.there) h.there b.there in
+      let less = monotone.transfers b.insn h.note b.state fine.after (is_insn text n b.insn text_is b.there) (h.covers, h.full) fine.rules in
+      let same : less.0 ≡ b.after = same_state less.0 b.after (sym less.1 ∙ b.passed) in
+      let above : IsAbove fine.after b.after = subst (IsAbove fine.after) same less.2 in
+      brought_below unit x (edges n b.insn b.after) (edges n b.insn fine.after) (monotone.leads n b.insn fine.after b.after above) fine.covered b.among
 
   entry_below : Below 0 (entry_state bounds)
   entry_below = record { note = passes.entry.note; there = passes.entry.there; covers = passes.entry.covers; full = monotone.entry bounds lengths }
 
   arrived_below : (notes : Notes) (unit n : ℕ) → ((v : ℕ) (s : StateKinds) → v < unit → note_at notes v ≡ Some s → Below v s) → (x : StateKinds)
       → Among x (arriving bounds text notes unit n) → Below unit x
-  arrived_below notes unit zero below x a = elim (cases_Bool (unit == 0)) [
-    | inl t ↦
-        let b : Among x (entry_state bounds ∷ []) = rw t at a in
-        elim b [ inl is ↦ subst (Below unit) (sym is) (subst (λ u. Below u (entry_state bounds)) (sym (eqb-true unit 0 t)) entry_below) | inr never ↦ absurd never ]
-    | inr f ↦ absurd (rw f at a)
+  arrived_below notes unit n below x a = elim (arrived text notes unit x bounds n a) [
+    | inl first ↦ subst (Below unit) (sym first.1) (subst (λ u. Below u (entry_state bounds)) (sym first.0) entry_below)
+    | inr brings ↦
+        let b = brings.1 in
+        led_below b (below brings.0 b.state (came_forward text notes unit x text_is passes.flow b).forward b.noted)
   ]
-  arrived_below notes unit (suc n) below x a =
-      elim (among_either x (arriving bounds text notes unit n) (leading_to unit (edges_from n (insn_at text n) (note_at notes n))) a) [
-        | inl l ↦ arrived_below notes unit n below x l
-        | inr r ↦ by_edge (insn_at text n) (note_at notes n) refl refl r
-      ]
-    where
-      by_rule : (i : Insn) (s : StateKinds) (r : Result StateKinds Rule) → insn_at text n ≡ Some i → note_at notes n ≡ Some s → transfer i s ≡ r
-          → Among x (leading_to unit (edges_after n i r)) → Below unit x
-      by_rule i s (Ok after) there noted is b =
-          let forward = (came text n unit x (edges n i after) (edges_lead text n i after text_is.few passes.flow there) b).forward in
-          led_below n unit i s after x there (below n s forward noted) is b
-      by_rule i s (Err rule) there noted is b = absurd b
-
-      by_edge : (o : Option Insn) (note : Option StateKinds) → insn_at text n ≡ o → note_at notes n ≡ note
-          → Among x (leading_to unit (edges_from n o note)) → Below unit x
-      by_edge None _ there noted b = absurd b
-      by_edge (Some i) None there noted b = absurd b
-      by_edge (Some i) (Some s) there noted b = by_rule i s (transfer i s) there noted refl b
 
   states_below : (notes : Notes) (end fuel : ℕ) → AreStates bounds text notes end → (unit : ℕ) (s : StateKinds) → unit < fuel
       → note_at notes unit ≡ Some s → Below unit s
@@ -156,8 +137,11 @@ module _ (order : StatesAreOrdered) (monotone : StatesAreMonotone) (bounds : Int
 
 pub are_least : StatesAreOrdered → StatesAreMonotone → (bounds : Interval) (text : List Insn) (notes : Notes) → AreLengths bounds → IsText text
     → AreStates bounds text notes (units text) → AreLeast bounds text notes
-are_least order monotone bounds text notes lengths text_is are = record { each = λ others unit state passes noted. state_below order monotone bounds lengths text others text_is passes notes unit state are noted }
+are_least order monotone bounds text notes lengths text_is are = record {
+  each = λ others unit state passes noted. state_below order monotone lengths text_is passes notes unit state are noted;
+}
 
 pub none_pass : StatesAreOrdered → StatesAreMonotone → (bounds : Interval) (text : List Insn) (fault : CheckFault) → AreLengths bounds → IsText text
     → IsRefused bounds text fault → fault ≢ OutOfMemory → NonePass bounds text
-none_pass order monotone bounds text fault lengths text_is refused other = λ notes passes. none_refused order monotone bounds lengths text notes text_is passes fault refused other
+none_pass order monotone bounds text fault lengths text_is refused other = λ notes passes.
+    none_refused order monotone lengths text_is passes fault refused other

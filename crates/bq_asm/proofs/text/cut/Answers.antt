@@ -4,4 +4,4 @@ use Rattle.bq_asm.proofs.Parts.{gives_cut}
 use Rattle.bq_asm.proofs.text.cut.Goals as goal
 
 pub returns : goal.returns
-returns c = gives_cut c.args.at c.args.text.now c.split_once.result (split_parts c.args.at c.args.text.now c.split_once.result c.split_once.ensures.cases c.requires)
+returns c = gives_cut c.args.at c.args.text.now c.split_once.result (split_parts _ _ _ c.split_once.ensures.cases c.requires)

@@ -3,4 +3,4 @@ use Rattle.bq_asm.proofs.Parts.{trimmed_is}
 use Rattle.bq_asm.proofs.text.trimmed.Goals as goal
 
 pub returns : goal.returns
-returns c = trimmed_is c.args.text.now c.trim_start_matches.result.now c.trim_end_matches.result.now c.trim_start_matches.ensures.matches c.trim_end_matches.ensures.matches
+returns c = trimmed_is c.args.text.now _ _ c.trim_start_matches.ensures.matches c.trim_end_matches.ensures.matches

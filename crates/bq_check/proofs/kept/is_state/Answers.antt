@@ -9,7 +9,11 @@ use Rattle.bq_check.proofs.kept.is_state.Goals as goal
 
 pub returns : goal.returns
 returns c =
-    let is = c.kinds-kind-items.ensures.kinds in
-    let few : length c.kinds-kind-items.result.now ≤ c.loop-kind.kind-index = omega (arith, ap length is, c.kinds-kind-items.ensures.count, c.loop-kind-test.false) in
-    let all = seen_all (IsKind Second) c.kinds-kind-items.result.now c.loop-kind.kind-index c.loop-kind.invariant few in
-    record { lengths = subst AreLengths c.lengths.ensures c.least-least.ensures.lengths; kinds = record { count = c.kinds-kind-items.ensures.count; each = subst (AllByRecursion (IsKind Second)) is all } }
+    let items = c.kinds-kind-items.result.now in
+    let told = c.kinds-kind-items.ensures in
+    let few : length items ≤ c.loop-kind.kind-index = omega (arith, ap length told.kinds, told.count, c.loop-kind-test.false) in
+    let all = seen_all (IsKind Second) items c.loop-kind.kind-index c.loop-kind.invariant few in
+    record {
+      lengths = subst AreLengths c.lengths.ensures c.least-least.ensures.lengths;
+      kinds = record { count = told.count; each = subst (AllByRecursion (IsKind Second)) told.kinds all };
+    }

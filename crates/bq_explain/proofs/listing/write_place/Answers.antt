@@ -7,10 +7,8 @@ use Rattle.bq_explain.proofs.listing.write_place.Goals as goal
 
 pub returns : goal.returns
 returns c =
-    let old = string_bytes c.args.out.now in
-    let named = string_bytes c.push_str.new.self in
-    let new = string_bytes c.write_offsets.new.out in
+    let name = region_name c.args.region in
     let start = codes "'s start plus " in
     let offsets = offsets_text c.args.offsets in
-    both c.write_offsets.result old (region_name c.args.region) (start ++ offsets) named new (c.in_ok-push_str.ensures.bytes ∙ ap (λ name. old ++ name) c.name.ensures)
-    (both c.write_offsets.result named start offsets (string_bytes c.push_str-2.new.self) new c.in_ok-push_str-2.ensures.bytes c.write_offsets.ensures)
+    both c.write_offsets.result _ name (start ++ offsets) _ (c.in_ok-push_str.ensures.bytes ∙ ap (λ name. string_bytes c.args.out.now ++ name) c.name.ensures)
+    (both c.write_offsets.result _ start offsets _ c.in_ok-push_str-2.ensures.bytes c.write_offsets.ensures)

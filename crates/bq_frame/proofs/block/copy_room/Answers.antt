@@ -5,8 +5,10 @@ use Rattle.bq_frame.proofs.block.copy_room.Goals as goal
 
 pub returns-then-count-le-SHORT_LENGTH-clause-part : goal.returns-then-count-le-SHORT_LENGTH-clause-part
 returns-then-count-le-SHORT_LENGTH-clause-part c =
-    part_first c.args.bytes.now c.args.room.now c.copy_first.new.bytes c.args.at c.args.count 48 c.if-count-le-SHORT_LENGTH.true (omega (arith, c.told-room)) (omega (arith, c.requires.inside)) c.copy_first.ensures
+    part_first c.args.bytes.now c.args.room.now c.copy_first.new.bytes c.args.at c.args.count 48
+    c.if-count-le-SHORT_LENGTH.true (omega (arith, c.told-room)) (omega (arith, c.requires.inside)) c.copy_first.ensures
 
 pub returns-else-count-le-SHORT_LENGTH-clause-part : goal.returns-else-count-le-SHORT_LENGTH-clause-part
 returns-else-count-le-SHORT_LENGTH-clause-part c =
-    part_first c.args.bytes.now c.args.room.now c.copy_first-else-count-le-SHORT_LENGTH.new.bytes c.args.at c.args.count 112 c.requires.few (omega (arith, c.told-room)) (omega (arith, c.requires.inside)) c.copy_first-else-count-le-SHORT_LENGTH.ensures
+    part_first c.args.bytes.now c.args.room.now c.copy_first-else-count-le-SHORT_LENGTH.new.bytes c.args.at c.args.count 112
+    c.requires.few (omega (arith, c.told-room)) (omega (arith, c.requires.inside)) c.copy_first-else-count-le-SHORT_LENGTH.ensures

@@ -57,6 +57,9 @@ module _ {M : Type 1} {𝓤 : Ura M} (𝓛 : Logic 𝓤) (at_mem : Memory → SP
     abbrev words : List Val × (List Val × (List Val × Unit {0}))
     words = (mut_slice_vals (buf xs), (vint w64 i ∷ [], (vint w8 x ∷ [], tt)))
 
+    abbrev passed : List Val
+    passed = slice_val (b, o) (length xs) ∷ vint w64 i ∷ vint w8 x ∷ []
+
     abbrev bound : (walk_of 𝓛 f.ended stayed clauses).Ghost
     bound = (((κ, tt), (q, tt), tt, (buf xs, (i, (x, tt))), words), tt)
 
@@ -95,7 +98,8 @@ module _ {M : Type 1} {𝓤 : Ura M} (𝓛 : Logic 𝓤) (at_mem : Memory → SP
         qed 𝓛 (‵ (fobs γ ((coded_holeys u8).code (heres u8 ys))) ∷ ‵ (fbor κ (Held u8 (length ys) b o γ)) ∷ ‵ (flft κ q) ∷ []) ∵
         suffices ! _ (ends_at 𝓛 f.ended stayed clauses bound vunit tt (ys, (tt, (tt, tt))) (same, (tt, (tt, tt)))) $ says ! refl $
         nothing ! $ move ! (3 ∷ 0 ∷ []) $ join ! $ frame ! $ fjoin ! $
-        pure_i ! (mut_slice_at u8 (buf ys) (mut_slice_vals (buf xs))) (tt, (tt, tt)) (ap (λ (n : ℕ). slice_val (b, o) n ∷ []) (sym same), subst (Room u8) (sym same) room) $ fjoin ! $
+        pure_i ! (mut_slice_at u8 (buf ys) (mut_slice_vals (buf xs))) (tt, (tt, tt))
+        (ap (λ (n : ℕ). slice_val (b, o) n ∷ []) (sym same), subst (Room u8) (sym same) room) $ fjoin ! $
         -- [the slice]
         nothing ! $ nothing ! $ fjoin ! $ nothing ! $ fjoin ! $ move ! (1 ∷ 0 ∷ []) $ fjoin ! $
         -- [the three parameters]
@@ -103,12 +107,12 @@ module _ {M : Type 1} {𝓤 : Ura M} (𝓛 : Logic 𝓤) (at_mem : Memory → SP
 
     module _ (C : Calls 𝓤 H) (Λ : Loops 𝓤 H) where
       walk : Room u8 (length xs) → x < 2 ^ 8 → i < length xs
-          → ent 𝓤 (on_entry 𝓛 f.signature (κ, tt) (q, tt) (buf xs, (i, (x, tt))) words) (WpFn 𝓤 H C Λ code.function (slice_val (b, o) (length xs) ∷ vint w64 i ∷ vint w8 x ∷ []) Post)
+          → ent 𝓤 (on_entry 𝓛 f.signature (κ, tt) (q, tt) (buf xs, (i, (x, tt))) words) (WpFn 𝓤 H C Λ code.function passed Post)
       walk room fx inside =
           let count : length xs < 2 ^ 64 = room.0 in
           let fi : i < 2 ^ 64 = omega arith in
           qed 𝓛 ((‵ (flft κ q) ⊛ ‵ ftrue) ∷ ‵ (owns (MutSlice (named 0) κ u8 ∷ usize ∷ u8 ∷ []) (buf xs, (i, (x, tt))) words) ∷ []) ∵
-          enter ! C Λ code.function (slice_val (b, o) (length xs) ∷ vint w64 i ∷ vint w8 x ∷ []) _ $
+          enter ! C Λ code.function passed _ $
           alloc_all ! (λ l. pass_all ! refl ((tt, (tt, (record { fits = count }, tt))), ((tt, record { fits = fi }), ((tt, record { fits = fx }), tt))) $
           let En : Env 𝓤 H = env (code.function).locals l in
           move ! (1 ∷ []) $ fsplit ! $ fsplit ! $ drop ! $ fsplit ! $ move ! (3 ∷ []) $ split ! $ move ! (2 ∷ 3 ∷ 0 ∷ []) $
@@ -129,8 +133,10 @@ module _ {M : Type 1} {𝓤 : Ura M} (𝓛 : Logic 𝓤) (at_mem : Memory → SP
 
   meets : (𝓣 : Tables 𝓤 H) → Meets 𝓛 f.signature (WpFn 𝓤 H 𝓣.C 𝓣.Λ code.function) (f.spec 𝓛 at_mem run)
   meets 𝓣 =
-      walk_Meets 𝓛 f.ended stayed
-      (Goes-slice 𝓛 1 0 tt (plain (λ _. u8)), (Goes-dropped 𝓛 1 (plain (λ _. usize)) yes (λ κs x w. refl), (Goes-dropped 𝓛 1 (plain (λ _. u8)) yes (λ κs x w. refl), tt)))
+      walk_Meets 𝓛 f.ended stayed (
+        Goes-slice 𝓛 1 0 tt (plain (λ _. u8)),
+        (Goes-dropped 𝓛 1 (plain (λ _. usize)) yes (λ κs x w. refl), (Goes-dropped 𝓛 1 (plain (λ _. u8)) yes (λ κs x w. refl), tt)),
+      )
       clauses (WpFn 𝓤 H 𝓣.C 𝓣.Λ code.function) (WpFn-mono 𝓤 H 𝓛.laws 𝓣 code.function)
       (walked 𝓛 f.ended stayed clauses (WpFn 𝓤 H 𝓣.C 𝓣.Λ code.function)
       (λ κs. (mut_slice_vals, (uint_vals w64, (uint_vals w8, tt)))) (λ κs. (mut_slice_Tells (named 0) κs.0 u8, (uint_Tells w64, (uint_Tells w8, tt))))

@@ -5,4 +5,5 @@ use Rattle.bq_verify.proofs.laws.states_pass.Goals as goal
 
 pub returns : goal.returns
 returns c = λ l text notes text_is legal states unbroken.
-    passing.states_pass c.states_are_ordered.ensures l text notes (all_fit_lengths c.states_stay_plain.ensures l text notes text_is legal states) text_is legal states unbroken
+    let fits = all_fit_lengths c.states_stay_plain.ensures l text notes text_is legal states in
+    passing.states_pass c.states_are_ordered.ensures text_is legal states fits unbroken

@@ -17,7 +17,7 @@ lead_on-requires-clause-edges c = λ after passed.
     let n = c.loop-unit.unit in
     let i = c.in-Some-Some.insn in
     let there : insn_at text n ≡ Some i = search rules in
-    edges_within c.args.bounds text c.loop-unit.states.items n i after c.units.ensures.legal c.loop-unit.invariant there
+    edges_within c.loop-unit.invariant i after c.units.ensures.legal there
 
 pub loop-unit-preserved : goal.loop-unit-preserved
 loop-unit-preserved c =
@@ -27,19 +27,20 @@ loop-unit-preserved c =
     let notes = c.loop-unit.states.items in
     elim c.match-at.branch [
       | in-Some-Some+in_ok-lead_on w ↦
-          let there : insn_at text n ≡ Some w.in-Some-Some.insn = search rules in
+          let i = w.in-Some-Some.insn in
+          let there : insn_at text n ≡ Some i = search rules in
           let within : n < length notes = search rules in
           let is : c.index.result.now ≡ note_at notes n = c.index.ensures ∙ get_or_default notes n c.index.result.now None within in
           let some : c.index.result.now ≡ Some w.in-Some-Some.state = search rules in
           let ok = w.in_ok-lead_on.ensures.ok in
-          let new : c.match-at.states.items ≡ with_arrivals notes (edges n w.in-Some-Some.insn ok.0) = ap (λ v. v.items) w.states-is ∙ ok.2 in
-          filled_by bounds text notes c.match-at.states.items n w.in-Some-Some.insn w.in-Some-Some.state c.units.ensures.legal c.loop-unit.invariant there (sym is ∙ some) (ok.0, ok.1, new)
+          let new : c.match-at.states.items ≡ with_arrivals notes (edges n i ok.0) = ap (λ v. v.items) w.states-is ∙ ok.2 in
+          filled_by c.loop-unit.invariant i w.in-Some-Some.state there (sym is ∙ some) c.match-at.states.items c.units.ensures.legal (ok.0, ok.1, new)
       | in-Some+in-None-1 w ↦
           let none : note_at notes n ≡ None = search rules in
-          subst (λ table. IsFilled bounds text table (n + 1)) (search rules) (filled_unreached bounds text notes n c.loop-unit.invariant none)
+          subst (λ table. IsFilled bounds text table (n + 1)) (search rules) (filled_unreached c.loop-unit.invariant none)
       | in-None-1 w ↦
           let none : insn_at text n ≡ None = search rules in
-          subst (λ table. IsFilled bounds text table (n + 1)) (search rules) (filled_half bounds text notes n c.loop-unit.invariant none)
+          subst (λ table. IsFilled bounds text table (n + 1)) (search rules) (filled_half c.loop-unit.invariant none)
     ]
 
 pub returns-in_err-lead_on-clause-refused : goal.returns-in_err-lead_on-clause-refused
@@ -54,7 +55,7 @@ returns-in_err-lead_on-clause-refused c =
     let is : c.index.result.now ≡ note_at notes n = c.index.ensures ∙ get_or_default notes n c.index.result.now None within in
     let some : c.index.result.now ≡ Some state = search rules in
     let p = err_from_is_err_and c.from_residual-in_err-lead_on.result c.from_residual-in_err-lead_on.ensures.1 in
-    let refused = broken_first c.args.bounds text notes n i state c.in_err-lead_on.field-0.0 c.loop-unit.invariant there (sym is ∙ some) c.in_err-lead_on.ensures.err in
+    let refused = broken_first c.loop-unit.invariant i state there (sym is ∙ some) c.in_err-lead_on.field-0.0 c.in_err-lead_on.ensures.err in
     passed_on (IsRefused c.args.bounds text) c.from_residual-in_err-lead_on.result p.0 c.in_err-lead_on.field-0.0 p.1 p.2 refused
 
 pub returns-in_err-lead_on-clause-below : goal.returns-in_err-lead_on-clause-below

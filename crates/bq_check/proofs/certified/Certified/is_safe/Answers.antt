@@ -8,5 +8,7 @@ use Rattle.bq_check.proofs.certified.Certified.is_safe.Goals as goal
 pub returns : goal.returns
 returns c =
     let P : Certificate → Type 0 = λ v. (len : ℕ) → IsIn len v.lengths → IsSafe len v.text v.longest in
+    let here = c.self.inside in
     let it = c.self.invariant.certified in
-    subst P c.self.view_is (λ len inside. c.passing_is_safe.ensures c.self.inside.lengths c.self.inside.text c.self.inside.notes c.self.inside.longest len it.lengths it.legal it.passes it.longest inside)
+    subst P c.self.view_is (λ len inside.
+    c.passing_is_safe.ensures here.lengths here.text here.notes here.longest len it.lengths it.legal it.passes it.longest inside)

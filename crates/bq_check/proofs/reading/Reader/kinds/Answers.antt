@@ -5,4 +5,5 @@ use Rattle.bq_check.proofs.reading.Reader.kinds.Goals as goal
 
 pub returns-in_default-clause-none : goal.returns-in_default-clause-none
 returns-in_default-clause-none c =
-    no_kinds c.args.form c.args.self.now.rest.now c.loop-register.kinds c.loop-register.register c.loop-register.self.rest.now c.loop-register.invariant (omega arith) c.in_default.ensures.none
+    let loop = c.loop-register in
+    no_kinds c.args.form c.args.self.now.rest.now loop.kinds loop.register loop.self.rest.now loop.invariant (omega arith) c.in_default.ensures.none

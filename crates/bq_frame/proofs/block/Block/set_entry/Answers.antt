@@ -9,6 +9,7 @@ pub returns : goal.returns
 returns c =
     let held = c.deref_mut-bytes.ensures.value ∙ c.self.view_is in
     let room : 528 ≤ length c.deref_mut-bytes.result.now = omega (arith, ap length held, c.self.invariant) in
-    let put = entry_put c.deref_mut-bytes.result.now c.put_lowest.new.bytes c.put_lowest-2.new.bytes c.copy_room.new.bytes c.args.room.now (le_bytes 8 c.args.id) (le_bytes 8 c.args.number) c.args.count refl refl room
+    let put = entry_put c.deref_mut-bytes.result.now c.put_lowest.new.bytes c.put_lowest-2.new.bytes c.copy_room.new.bytes c.args.room.now
+    (le_bytes 8 c.args.id) (le_bytes 8 c.args.number) c.args.count refl refl room
     c.put_lowest.ensures c.put_lowest-2.ensures c.copy_room.ensures.before c.copy_room.ensures.part in
     record { frame = put.0 ∙ ap (take 512) held; «record» = put.1 }

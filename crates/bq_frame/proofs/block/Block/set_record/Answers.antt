@@ -1,5 +1,5 @@
 -- Block::set_record: puts a record of 16 to 128 bytes behind the frame.
-use Rattle.std.proofs.Common.{◌∙◌, ◌+◌, ◌≤◌, ap, arith, length, take, drop}
+use Rattle.std.proofs.Common.{◌∙◌, ◌≤◌, ap, arith, length, take}
 use Rattle.bq_frame.proofs.Adjacent.{before_part, part_there}
 use Rattle.bq_frame.proofs.block.Block.set_record.Goals as goal
 
@@ -7,10 +7,10 @@ pub returns-clause-frame : goal.returns-clause-frame
 returns-clause-frame c =
     let held = c.deref_mut-bytes.ensures.value ∙ c.self.view_is in
     let room : 512 ≤ length c.deref_mut-bytes.result.now = omega (arith, ap length held, c.self.invariant) in
-    ap (take 512) c.copy.ensures ∙ before_part c.deref_mut-bytes.result.now c.args.«record».now 512 (512 + length c.args.«record».now) room ∙ ap (take 512) held
+    before_part c.deref_mut-bytes.result.now c.copy.new.bytes c.args.«record».now 512 _ room c.copy.ensures ∙ ap (take 512) held
 
 pub returns-clause-record : goal.returns-clause-record
 returns-clause-record c =
     let held = c.deref_mut-bytes.ensures.value ∙ c.self.view_is in
     let room : 512 ≤ length c.deref_mut-bytes.result.now = omega (arith, ap length held, c.self.invariant) in
-    ap (λ l. take (length c.args.«record».now) (drop 512 l)) c.copy.ensures ∙ part_there c.deref_mut-bytes.result.now c.args.«record».now 512 (512 + length c.args.«record».now) room
+    part_there c.deref_mut-bytes.result.now c.copy.new.bytes c.args.«record».now 512 _ room c.copy.ensures
