@@ -1,6 +1,6 @@
 -- Entries in rising id order.
 use Rattle.std.proofs.Common.{◌≡◌, ℕ, suc, ◌+◌, ◌≤◌, ◌<◌, true, false, cond, ◌==◌, nat_lt, nat_le, List, [], ◌∷◌, ◌++◌, length, take, drop, get_or, set, Some, None, refl, sym, ap, subst, ◌∙◌, arith, append_assoc, Ordering}
-use Rattle.std.proofs.lemmas.Bool.{cond_both, ltb-true, lt-ltb, eqb-true, eqb-false, eq-eqb, leb-true, leb-false}
+use Rattle.std.proofs.lemmas.Bool.{cond-true, cond-false, cond_both, ltb-true, lt-ltb, eqb-true, eqb-false, eq-eqb, ne_eqb, leb-true, leb-false}
 use Rattle.std.proofs.lemmas.List.{drop_more, drop_all, set_split}
 use Rattle.std.specs.declared.cmp.Ordering.TheVariants.{Less, Equal, Greater}
 use Rattle.std.specs.Ordering.{nat_cmp, is_eq}
@@ -97,42 +97,37 @@ put_length id x (e ∷ es) =
       | Greater ↦ (omega (arith, rest.0), omega (arith, rest.1))
     ]
 
-tested : {X : Type 0} (a b : ℕ) (x y : X) → a ≡ b → cond (a == b) x y ≡ x
-tested a b x y h = ap (λ t. cond t x y) (eq-eqb a b h)
-
-failed : {X : Type 0} (a b : ℕ) (x y : X) → (a ≡ b → ⊥) → cond (a == b) x y ≡ y
-failed a b x y h = elim (a == b) as (λ t. (a == b) ≡ t → cond t x y ≡ y) [ true ↦ λ p. absurd (h (eqb-true a b p)) | false ↦ λ p. refl ] refl
-
 module _ {X : Type 0} (id : ℕ) (es : List (ℕ × X)) (n : ℕ) (d : ℕ × X) (is : n ≡ before id es) (h : n < length es) (r : Rises es) where
   found_at : find nat_cmp id es ≡ cond ((get_or es n d).0 == id) (Some (get_or es n d).1) None
   found_at =
       find_at id es d r (subst (λ m. m < length es) is h) ∙ ap (λ m. cond ((get_or es m d).0 == id) (Some (get_or es m d).1) None) (sym is)
 
   pub find_found : (get_or es n d).0 ≡ id → Some (get_or es n d).1 ≡ find nat_cmp id es
-  find_found same = sym (found_at ∙ tested (get_or es n d).0 id (Some (get_or es n d).1) None same)
+  find_found same = sym (found_at ∙ cond-true _ (Some (get_or es n d).1) None (eq-eqb (get_or es n d).0 id same))
 
   pub find_other : ((get_or es n d).0 ≡ id → ⊥) → None ≡ find nat_cmp id es
-  find_other other = sym (found_at ∙ failed (get_or es n d).0 id (Some (get_or es n d).1) None other)
+  find_other other = sym (found_at ∙ cond-false _ (Some (get_or es n d).1) None (ne_eqb (get_or es n d).0 id other))
 
 pub put_built : {X : Type 0} (id : ℕ) (x : X) (es : List (ℕ × X))
     → (([] ++ take (before id es) es) ++ (id, x) ∷ []) ++ without_first id (drop (before id es) es) ≡ put nat_cmp id x es
 put_built id x es = append_assoc (take (before id es) es) ((id, x) ∷ []) (without_first id (drop (before id es) es)) ∙ sym (put_parts id x es)
 
-pub put_over_known : {X : Type 0} (id : ℕ) (x : X) (es : List (ℕ × X)) (n : ℕ) (d : ℕ × X) → n ≡ before id es → n < length es → (get_or es n d).0 ≡ id
-    → set es n (id, x) ≡ put nat_cmp id x es
-put_over_known id x es n d is l same =
-    let later : without_first id (drop n es) ≡ drop (n + 1) es = ap (without_first id) (drop_more es n d l) ∙ tested (get_or es n d).0 id (drop (n + 1) es) (get_or es n d ∷ drop (n + 1) es) same in
-    let next : suc n ≡ n + 1 = omega arith in
-    set_split es n (id, x) l ∙ ap (λ m. take n es ++ (id, x) ∷ drop m es) next ∙ ap (λ r. take n es ++ (id, x) ∷ r) (sym later)
-    ∙ ap (λ m. take m es ++ (id, x) ∷ without_first id (drop m es)) is ∙ sym (put_parts id x es)
+-- a put among entries of which n stand before the id
+module _ {X : Type 0} (id : ℕ) (x : X) (es : List (ℕ × X)) (n : ℕ) (is : n ≡ before id es) where
+  put_from : {rest : List (ℕ × X)} → without_first id (drop n es) ≡ rest → take n es ++ (id, x) ∷ rest ≡ put nat_cmp id x es
+  put_from later =
+      ap (λ r. take n es ++ (id, x) ∷ r) (sym later) ∙ ap (λ m. take m es ++ (id, x) ∷ without_first id (drop m es)) is ∙ sym (put_parts id x es)
 
-pub put_between : {X : Type 0} (id : ℕ) (x : X) (es : List (ℕ × X)) (n : ℕ) (d : ℕ × X) → n ≡ before id es → n < length es
-    → ((get_or es n d).0 ≡ id → ⊥) → insert es n (id, x) ≡ put nat_cmp id x es
-put_between id x es n d is l other =
-    let later : without_first id (drop n es) ≡ drop n es = ap (without_first id) (drop_more es n d l) ∙ failed (get_or es n d).0 id (drop (n + 1) es) (get_or es n d ∷ drop (n + 1) es) other ∙ sym (drop_more es n d l) in
-    ap (λ r. take n es ++ (id, x) ∷ r) (sym later) ∙ ap (λ m. take m es ++ (id, x) ∷ without_first id (drop m es)) is ∙ sym (put_parts id x es)
+  pub put_over_known : (d : ℕ × X) → n < length es → (get_or es n d).0 ≡ id → set es n (id, x) ≡ put nat_cmp id x es
+  put_over_known d l same =
+      let next : suc n ≡ n + 1 = omega arith in
+      set_split es n (id, x) l ∙ ap (λ m. take n es ++ (id, x) ∷ drop m es) next
+      ∙ put_from (ap (without_first id) (drop_more es n d l) ∙ cond-true _ (drop (n + 1) es) _ (eq-eqb (get_or es n d).0 id same))
 
-pub put_behind : {X : Type 0} (id : ℕ) (x : X) (es : List (ℕ × X)) (n : ℕ) → n ≡ before id es → length es ≤ n → insert es n (id, x) ≡ put nat_cmp id x es
-put_behind id x es n is h =
-    let later : without_first id (drop n es) ≡ drop n es = ap (without_first id) (drop_all n es h) ∙ sym (drop_all n es h) in
-    ap (λ r. take n es ++ (id, x) ∷ r) (sym later) ∙ ap (λ m. take m es ++ (id, x) ∷ without_first id (drop m es)) is ∙ sym (put_parts id x es)
+  pub put_between : (d : ℕ × X) → n < length es → ((get_or es n d).0 ≡ id → ⊥) → insert es n (id, x) ≡ put nat_cmp id x es
+  put_between d l other =
+      let found = drop_more es n d l in
+      put_from (ap (without_first id) found ∙ cond-false _ (drop (n + 1) es) _ (ne_eqb (get_or es n d).0 id other) ∙ sym found)
+
+  pub put_behind : length es ≤ n → insert es n (id, x) ≡ put nat_cmp id x es
+  put_behind h = put_from (ap (without_first id) (drop_all n es h) ∙ sym (drop_all n es h))

@@ -30,12 +30,12 @@ founders_few ks h = record { entered = omega (arith, len_short ks, h); joined = 
 -- ---- what is known
 
 pub entered_known : (id : ℕ) (f g : Facts) → g ≡ f → with_entered f id ≡ f → set.contains g.entered id ≡ true
-entered_known id f g is same = subst (λ (x : Facts). set.contains x.entered id ≡ true) (sym is) (known_insert f.entered id (ap (λ (x : Facts). x.entered) same))
+entered_known id f g is same = rw is (known_insert f.entered id (ap (λ (x : Facts). x.entered) same))
 
 pub left_known : (id : ℕ) (f g : Facts) → g ≡ f → with_left f id ≡ f → set.contains g.left id ≡ true
-left_known id f g is same = subst (λ (x : Facts). set.contains x.left id ≡ true) (sym is) (known_insert f.left id (ap (λ (x : Facts). x.left) same))
+left_known id f g is same = rw is (known_insert f.left id (ap (λ (x : Facts). x.left) same))
 
-abbrev HasJoined : ℕ → Facts → Type 0
+abbrev pub HasJoined : ℕ → Facts → Type 0
 HasJoined id f = (set.contains f.entered id ≡ true) × (set.contains f.joined id ≡ true)
 
 same_joined : (id : ℕ) (f : Facts) → HasJoined id f → with_joined f id ≡ f
@@ -44,10 +44,8 @@ same_joined id f h = λ i. record { entered = insert_known f.entered id h.0 i; j
 joined_same : (id : ℕ) (f : Facts) → with_joined f id ≡ f → HasJoined id f
 joined_same id f same = (known_insert f.entered id (ap (λ (x : Facts). x.entered) same), known_insert f.joined id (ap (λ (x : Facts). x.joined) same))
 
-pub knows_joined : (id : ℕ) (r : Bool) (f g : Facts) → g ≡ f → (r ≡ true → (set.contains g.entered id ≡ true) × (set.contains g.joined id ≡ true))
-    → ((set.contains g.entered id ≡ true) × (set.contains g.joined id ≡ true) → r ≡ true) → IsTrue r ↔ (with_joined f id ≡ f)
-knows_joined id r f g is to from =
-    subst (λ (x : Facts). IsTrue r ↔ (with_joined x id ≡ x)) is ((λ yes. same_joined id g (to yes)), (λ same. from (joined_same id g same)))
+pub knows_joined : (id : ℕ) (r : Bool) (f g : Facts) → g ≡ f → (r ≡ true → HasJoined id g) → (HasJoined id g → r ≡ true) → IsTrue r ↔ (with_joined f id ≡ f)
+knows_joined id r f g is to from = rw (← is) ((λ yes. same_joined id g (to yes)), (λ same. from (joined_same id g same)))
 
 -- all that the second say is known
 abbrev pub AreWithin : Facts → Facts → Type 0
@@ -66,5 +64,4 @@ union_same f g same = (
 pub knows_all : (r : Bool) (f g f_inside g_inside : Facts) → f_inside ≡ f → g_inside ≡ g → (r ≡ true → AreWithin f_inside g_inside)
     → (AreWithin f_inside g_inside → r ≡ true) → IsTrue r ↔ (union_facts f g ≡ f)
 knows_all r f g f_inside g_inside is_f is_g to from =
-    subst (λ (x : Facts). IsTrue r ↔ (union_facts x g ≡ x)) is_f
-    (subst (λ (y : Facts). IsTrue r ↔ (union_facts f_inside y ≡ f_inside)) is_g ((λ yes. same_union f_inside g_inside (to yes)), (λ same. from (union_same f_inside g_inside same))))
+    rw (← is_f, ← is_g) ((λ yes. same_union f_inside g_inside (to yes)), (λ same. from (union_same f_inside g_inside same)))

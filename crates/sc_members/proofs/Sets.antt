@@ -1,10 +1,10 @@
 -- A tree of numbers, seen as a finite set.
-use Rattle.std.proofs.Common.{◌≡◌, ℕ, ◌+◌, Bool, true, false, not, ◌&&◌, ◌||◌, cond, List, [], ◌∷◌, map, length, Option, Some, None, refl, sym, ap, subst, ◌∙◌, T, arith, ◌<◌, ◌≤◌, ◌==◌, MatchOption, Bor, true≢false, IsTrue, ◌↔◌}
+use Rattle.std.proofs.Common.{◌≡◌, ℕ, ◌+◌, Bool, true, false, not, ◌&&◌, ◌||◌, cond, List, [], ◌∷◌, map, length, Option, Some, None, refl, sym, ap, subst, ◌∙◌, T, arith, ◌<◌, ◌≤◌, MatchOption, Bor, true≢false, IsTrue, ◌↔◌, ⊎_elim}
 use Rattle.std.specs.declared.cmp.Ordering.TheVariants.{Less}
 use Rattle.std.specs.Ordering.{nat_cmp, is_lt, is_eq, eq_by_cmp}
-use Rattle.std.specs.Cmp.{nat_cmp_total, eq_by_cmp_equiv, ranked, unsigned_tied}
+use Rattle.std.specs.Cmp.{nat_cmp_total, both_ways, eq_by_cmp_equiv, ranked, unsigned_tied}
 use Rattle.std.proofs.lemmas.Cmp.{tied_itself}
-use Rattle.std.proofs.lemmas.Bool.{eqb-true}
+use Rattle.std.proofs.lemmas.Bool.{eqb-true, and_parts, or_cases, or_left, or_right}
 use Rattle.std.specs.Option.{option_copied}
 use Rattle.std.specs.Map.Iter.{TakesFirst, deref}
 use Rattle.std.specs.FinMap as fin
@@ -49,11 +49,13 @@ marked b = cond b (Some tt) None
 
 find_marked : (ks : List ℕ) (q : ℕ) → find nat_cmp q (map mark ks) ≡ marked (has ks q)
 find_marked [] q = refl
-find_marked (k ∷ ks) q = elim (eq_by_cmp nat_cmp q k) as (λ b. cond b (Some tt) (find nat_cmp q (map mark ks)) ≡ marked (b || has ks q)) [ true ↦ refl | false ↦ find_marked ks q ]
+find_marked (k ∷ ks) q =
+    elim (eq_by_cmp nat_cmp q k) as (λ b. cond b (Some tt) (find nat_cmp q (map mark ks)) ≡ marked (b || has ks q)) [ true ↦ refl | false ↦ find_marked ks q ]
 
 -- a set as a map has nothing at each id
 pub get-as_map : (s : Ids) (q : ℕ) → fin.get (as_map s) q ≡ marked (set.contains s q)
-get-as_map s q = fin.get-from_entries nat_cmp_total (map mark (set.items s)) q ∙ find_marked (set.items s) q ∙ ap marked (sym (set.contains-items s q))
+get-as_map s q =
+    fin.get-from_entries nat_cmp_total (map mark (set.items s)) q ∙ find_marked (set.items s) q ∙ ap marked (sym (set.contains-items s q))
 
 keys-mark : (ks : List ℕ) → map (λ (e : ℕ × Unit {0}). e.0) (map mark ks) ≡ ks
 keys-mark [] = refl
@@ -63,7 +65,7 @@ keys-mark (k ∷ ks) = ap (λ rest. k ∷ rest) (keys-mark ks)
 pub entries-from_list : (ks : List ℕ) → IsStrictlySortedBy nat_cmp ks → fin.entries (as_map (set.from_list ks)) ≡ map mark ks
 entries-from_list ks h =
     ap fin.entries (fin.same_map nat_cmp_total fin.nat_cmp-IsAntisymmetric (as_map (set.from_list ks)) (fin.from_sorted (map mark ks)) (λ q.
-    get-as_map (set.from_list ks) q ∙ ap marked (found ks q) ∙ sym (find_marked ks q) ∙ sym (fin.get-from_sorted nat_cmp (map mark ks) q (rises ks h))))
+    get-as_map _ q ∙ ap marked (found ks q) ∙ sym (find_marked ks q) ∙ sym (fin.get-from_sorted nat_cmp (map mark ks) q (rises ks h))))
     ∙ fin.entries-from_sorted nat_cmp (map mark ks) (rises ks h)
 
 pub rising-from_list : (ks : List ℕ) → IsStrictlySortedBy nat_cmp ks → rising (set.from_list ks) ≡ ks
@@ -101,53 +103,55 @@ one_more ks ls k s is h = set_of ls (set.insert s k) (λ q.
     ∙ (λ i. (eq_by_cmp_equiv nat_cmp_total).symm k q i || sym (contains-view ks s is q) i)
     ∙ sym (set.contains-insert nat_cmp_total s k q))
 
-module _ (ks js zs : List ℕ) (s t : Ids) (is : set.from_list ks ≡ s) (is_other : set.from_list js ≡ t) where
-  pub in_union : ((q : ℕ) → has zs q ≡ (has ks q || has js q)) → (q : ℕ) → has zs q ≡ set.contains (set.union s t) q
-  in_union h q = h q ∙ sym (set.contains-union nat_cmp_total s t q ∙ (λ i. contains-view ks s is q i || contains-view js t is_other q i))
+-- two sets, and lists that make them
+module _ (ks js : List ℕ) (s t : Ids) (is : set.from_list ks ≡ s) (is_other : set.from_list js ≡ t) where
+  pub in_union : (zs : List ℕ) → ((q : ℕ) → has zs q ≡ (has ks q || has js q)) → (q : ℕ) → has zs q ≡ set.contains (set.union s t) q
+  in_union zs h q = h q ∙ sym (set.contains-union nat_cmp_total s t q ∙ (λ i. contains-view ks s is q i || contains-view js t is_other q i))
 
-  pub in_difference : ((q : ℕ) → has zs q ≡ (has ks q && not (has js q))) → (q : ℕ) → has zs q ≡ set.contains (set.difference s t) q
-  in_difference h q = h q ∙ sym (set.contains-difference nat_cmp_total s t q ∙ (λ i. contains-view ks s is q i && not (contains-view js t is_other q i)))
+  pub len_difference : (zs : List ℕ) → IsStrictlySortedBy nat_cmp zs → ((q : ℕ) → has zs q ≡ (has ks q && not (has js q)))
+      → length zs ≡ set.len (set.difference s t)
+  len_difference zs sorted h =
+      len_of zs (set.difference s t) sorted (λ q.
+      h q ∙ sym (set.contains-difference nat_cmp_total s t q ∙ (λ i. contains-view ks s is q i && not (contains-view js t is_other q i))))
 
-  pub in_intersection : ((q : ℕ) → has zs q ≡ (has ks q && has js q)) → (q : ℕ) → has zs q ≡ (set.contains s q && set.contains t q)
-  in_intersection h q = h q ∙ sym (λ i. contains-view ks s is q i && contains-view js t is_other q i)
+  pub in_intersection : (zs : List ℕ) → ((q : ℕ) → has zs q ≡ (has ks q && has js q)) → (q : ℕ) → has zs q ≡ (set.contains s q && set.contains t q)
+  in_intersection zs h q = h q ∙ sym (λ i. contains-view ks s is q i && contains-view js t is_other q i)
+
+  pub subset_is : (r : Bool) → (IsTrue r ↔ ((q : ℕ) → IsTrue (has ks q) → IsTrue (has js q))) → r ≡ set.is_subset s t
+  subset_is r h =
+      both_ways r (set.is_subset s t)
+      (λ yes. set.contains-is_subset nat_cmp_total s t (λ q there. contains-view js t is_other q ∙ h.0 yes q (sym (contains-view ks s is q) ∙ there)))
+      (λ yes. h.1 (λ q there. sym (contains-view js t is_other q) ∙ set.is_subset-contains nat_cmp_total s t yes q (contains-view ks s is q ∙ there)))
 
 -- ---- the first of a list in order
 
-either : {P : Type 0} (a b : Bool) → (a || b) ≡ true → (a ≡ true → P) → (b ≡ true → P) → P
-either true b is f g = f refl
-either false b is f g = g is
-
-and_left : (a b : Bool) → (a && b) ≡ true → a ≡ true
-and_left true b is = refl
-and_left false b is = is
-
-and_right : (a b : Bool) → (a && b) ≡ true → b ≡ true
-and_right true b is = is
-and_right false b is = absurd (true≢false (sym is))
-
 first_in : (id : ℕ) (ks : List ℕ) → has (id ∷ ks) id ≡ true
 first_in id ks = ap (λ r. is_eq r || has ks id) (tied_itself nat_cmp_total id)
+
+tied_same : (x y : ℕ) → eq_by_cmp nat_cmp x y ≡ true → x ≡ y
+tied_same x y tie = eqb-true x y (sym (unsigned_tied x y) ∙ tie)
 
 is_less : (x y : ℕ) → nat_cmp x y ≡ Less → x < y
 is_less x y is = ranked x y Less (sym is)
 
 at_least : (x q : ℕ) (ks : List ℕ) → AllByRecursion (λ y. nat_cmp x y ≡ Less) ks → has ks q ≡ true → x ≤ q
 at_least x q [] h is = absurd (true≢false (sym is))
-at_least x q (k ∷ ks) h is = either (q == k) (has ks q) (ap (λ b. b || has ks q) (sym (unsigned_tied q k)) ∙ is) (λ tie. omega (arith, eqb-true q k tie, is_less x k h.0)) (λ later. at_least x q ks h.1 later)
+at_least x q (k ∷ ks) h is =
+    ⊎_elim (λ tie. omega (arith, tied_same q k tie, is_less x k h.0)) (λ later. at_least x q ks h.1 later)
+    (or_cases (eq_by_cmp nat_cmp q k) (has ks q) is)
 
 least_of : (x q : ℕ) (ks : List ℕ) → IsStrictlySortedBy nat_cmp (x ∷ ks) → has (x ∷ ks) q ≡ true → x ≤ q
 unfolding IsStrictlySortedBy
-least_of x q ks h is = either (q == x) (has ks q) (ap (λ b. b || has ks q) (sym (unsigned_tied q x)) ∙ is) (λ tie. omega (arith, eqb-true q x tie)) (λ later. at_least x q ks h.0 later)
+least_of x q ks h is =
+    ⊎_elim (λ tie. omega (arith, tied_same q x tie)) (λ later. at_least x q ks h.0 later) (or_cases (eq_by_cmp nat_cmp q x) (has ks q) is)
 
 -- what the first of the ids that two sets share says, where ks are those
 module _ (s t : Ids) (ks : List ℕ) (rising : IsStrictlySortedBy nat_cmp ks) (shared : (q : ℕ) → has ks q ≡ (set.contains s q && set.contains t q)) where
-  in_both : (id : ℕ) (rest : List ℕ) → ks ≡ id ∷ rest → (set.contains s id && set.contains t id) ≡ true
-  in_both id rest is = sym (shared id) ∙ ap (λ l. has l id) is ∙ first_in id rest
-
   pub least_common : (o : Option ℕ) (rest : List ℕ) → MatchOption o (ks ≡ []) (λ id. ks ≡ id ∷ rest) → IsLeastCommon s t o
-  least_common None rest is = record { shared = tt; least = tt; none = λ q a b. true≢false ((λ i. sym a i && sym b i) ∙ sym (shared q) ∙ ap (λ l. has l q) is) }
+  least_common None rest is =
+      record { shared = tt; least = tt; none = λ q a b. true≢false ((λ i. sym a i && sym b i) ∙ sym (shared q) ∙ ap (λ l. has l q) is) }
   least_common (Some id) rest is = record {
-    shared = (and_left _ _ (in_both id rest is), and_right _ _ (in_both id rest is));
+    shared = and_parts _ _ (sym (shared id) ∙ ap (λ l. has l id) is ∙ first_in id rest);
     least = λ q a b. least_of id q rest (subst (IsStrictlySortedBy nat_cmp) is rising) (ap (λ l. has l q) (sym is) ∙ shared q ∙ (λ i. a i && b i));
     none = tt;
   }
@@ -155,7 +159,8 @@ module _ (s t : Ids) (ks : List ℕ) (rising : IsStrictlySortedBy nat_cmp ks) (s
 -- what a step of a set's iterator copies
 pub first_copied : (ks : List ℕ) (r : Option (Bor ℕ)) (rest : List ℕ) (o : Option ℕ) → TakesFirst deref ks r rest → o ≡ option_copied r
     → MatchOption o (ks ≡ []) (λ id. ks ≡ id ∷ rest)
-first_copied ks r rest o step is = subst (λ (p : Option ℕ). MatchOption p (ks ≡ []) (λ id. ks ≡ id ∷ rest)) (sym is) (elim r as (λ (r : Option (Bor ℕ)). TakesFirst deref ks r rest → MatchOption (option_copied r) (ks ≡ []) (λ id. ks ≡ id ∷ rest)) [ None ↦ λ s. s.0 | Some x ↦ λ s. s ] step)
+first_copied ks None rest o step is = rw is step.0
+first_copied ks (Some x) rest o step is = rw is step
 
 -- ---- what is there already
 
@@ -168,30 +173,20 @@ or_last : (a b : Bool) → (a ≡ true → b ≡ true) → (a || b) ≡ b
 or_last true b h = sym (h refl)
 or_last false b h = refl
 
-or_true : (a b : Bool) → b ≡ true → (a || b) ≡ true
-or_true true b is = refl
-or_true false b is = is
-
 -- a set that has the id is as it was once it has it
 pub insert_known : (s : Ids) (id : ℕ) → set.contains s id ≡ true → set.insert s id ≡ s
-insert_known s id is = same (set.insert s id) s (λ q. set.contains-insert nat_cmp_total s id q ∙ or_last _ _ (λ tie. subst (λ (x : ℕ). set.contains s x ≡ true) (sym (eqb-true q id (sym (unsigned_tied q id) ∙ tie))) is))
+insert_known s id is =
+    same (set.insert s id) s (λ q.
+    set.contains-insert nat_cmp_total s id q ∙ or_last _ _ (λ tie. subst (λ (x : ℕ). set.contains s x ≡ true) (sym (tied_same q id tie)) is))
 
 pub known_insert : (s : Ids) (id : ℕ) → set.insert s id ≡ s → set.contains s id ≡ true
-known_insert s id is = sym (ap (λ (t : Ids). set.contains t id) is) ∙ set.contains-insert nat_cmp_total s id id ∙ ap (λ r. is_eq r || set.contains s id) (tied_itself nat_cmp_total id)
+known_insert s id is =
+    sym (ap (λ (t : Ids). set.contains t id) is) ∙ set.contains-insert nat_cmp_total s id id ∙ or_left _ _ (ap is_eq (tied_itself nat_cmp_total id))
 
 pub union_known : (s t : Ids) → set.is_subset t s ≡ true → set.union s t ≡ s
 union_known s t is = same (set.union s t) s (λ q. set.contains-union nat_cmp_total s t q ∙ or_first _ _ (set.is_subset-contains nat_cmp_total t s is q))
 
 pub known_union : (s t : Ids) → set.union s t ≡ s → set.is_subset t s ≡ true
-known_union s t is = set.contains-is_subset nat_cmp_total t s (λ q there. sym (ap (λ (u : Ids). set.contains u q) is) ∙ set.contains-union nat_cmp_total s t q ∙ or_true _ _ there)
-
-alike : (a b : Bool) → (a ≡ true → b ≡ true) → (b ≡ true → a ≡ true) → a ≡ b
-alike true b f g = sym (f refl)
-alike false true f g = g refl
-alike false false f g = refl
-
-pub subset_is : (r : Bool) (ks js : List ℕ) (s t : Ids) → set.from_list ks ≡ s → set.from_list js ≡ t
-    → (IsTrue r ↔ ((q : ℕ) → IsTrue (has ks q) → IsTrue (has js q))) → r ≡ set.is_subset s t
-subset_is r ks js s t is is_other h =
-    alike r (set.is_subset s t) (λ yes. set.contains-is_subset nat_cmp_total s t (λ q there. contains-view js t is_other q ∙ h.0 yes q (sym (contains-view ks s is q) ∙ there)))
-    (λ yes. h.1 (λ q there. sym (contains-view js t is_other q) ∙ set.is_subset-contains nat_cmp_total s t yes q (contains-view ks s is q ∙ there)))
+known_union s t is =
+    set.contains-is_subset nat_cmp_total t s (λ q there.
+    sym (ap (λ (u : Ids). set.contains u q) is) ∙ set.contains-union nat_cmp_total s t q ∙ or_right _ _ there)

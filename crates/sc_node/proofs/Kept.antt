@@ -1,5 +1,6 @@
 -- What a node keeps and tells has values of some lengths, where what it is given has.
-use Rattle.std.proofs.Common.{◌≡◌, ℕ, Bool, true, false, cond, ◌==◌, List, [], ◌∷◌, ◌++◌, map, length, Option, Some, None, is_some, Ok, refl, sym, ap, subst, ◌∙◌, true≢false}
+use Rattle.std.proofs.Common.{◌≡◌, ℕ, Bool, true, false, cond, ◌==◌, List, [], ◌∷◌, ◌++◌, map, length}
+use Rattle.std.proofs.Common.{Option, Some, None, is_some, Ok, refl, sym, ap, subst, ◌∙◌, true≢false}
 use Rattle.std.specs.List.{All, AllByRecursion}
 use Rattle.std.specs.Option.{IfSome}
 use Rattle.std.proofs.lemmas.List.Elements.{All-from_recursion}
@@ -24,10 +25,15 @@ use Rattle.sc_operations.specs.declared.progress.Advance.TheVariants as advance
 use Rattle.sc_operations.specs.declared.progress.Progress.{Progress}
 use Rattle.sc_node.specs.declared.answer.Begun.{Begun}
 use Rattle.sc_node.specs.declared.answer.Delivered.{Delivered}
-use Rattle.sc_node.specs.Sessions.{apply, advanced_by, with_phase, open_phase, stored, ends, ended_by, ended_at, ended_with, querying, storing, count_sender, is_reached}
+use Rattle.sc_node.specs.Sessions.{apply, advanced_by, with_phase, open_phase, stored, ends, ended_by}
+use Rattle.sc_node.specs.Sessions.{ended_at, ended_with, querying, storing, count_sender, is_reached}
 use Rattle.sc_node.specs.State.{NodeState}
-use Rattle.sc_node.specs.Nodes.{fresh, founded, entered, store_begun, collect_begun, left, delivered, delivery, node_after, view_after, is_reply, sessions_after, session_moved, ended_session, progress_of, ack_progress, reply_progress, ack_for, reply_for, store_under, answers, store_of, store_back, joins, message_from, beta_threshold, hearing, opening, fitting, leaving, stored_view, store_session, collect_session, next_stored}
-use Rattle.sc_node.specs.Lengths.{SessionHasValuesWithin, TableHasValuesWithin, NodeHasValuesWithin, BegunHasValuesWithin, AdvanceHasValuesWithin, ProgressHasValuesWithin, EndedHasValuesWithin, DeliveryHasValuesWithin}
+use Rattle.sc_node.specs.Nodes.{fresh, founded, entered, store_begun, collect_begun, left, delivered, delivery, node_after, view_after}
+use Rattle.sc_node.specs.Nodes.{is_reply, sessions_after, session_moved, ended_session, progress_of, ack_progress, reply_progress, ack_for}
+use Rattle.sc_node.specs.Nodes.{reply_for, store_under, answers, store_of, store_back, joins, message_from, beta_threshold, hearing}
+use Rattle.sc_node.specs.Nodes.{opening, fitting, leaving, stored_view, store_session, collect_session, next_stored}
+use Rattle.sc_node.specs.Lengths.{SessionHasValuesWithin, TableHasValuesWithin, NodeHasValuesWithin, BegunHasValuesWithin, AdvanceHasValuesWithin}
+use Rattle.sc_node.specs.Lengths.{ProgressHasValuesWithin, EndedHasValuesWithin, DeliveryHasValuesWithin}
 
 -- a call that passed its tests does this
 does : {A E : Type 0} (ts : Tests E) (x y : A) → tested ts (Ok x) ≡ Ok y → x ≡ y

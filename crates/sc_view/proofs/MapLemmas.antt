@@ -1,5 +1,6 @@
 -- Rising entries, seen as a finite map.
-use Rattle.std.proofs.Common.{◌≡◌, ℕ, suc, ◌+◌, ◌≤◌, ◌<◌, Bool, true, false, not, cond, List, [], ◌∷◌, map, length, Option, Some, None, is_some, refl, sym, ap, subst, ◌∙◌, arith, length-append}
+use Rattle.std.proofs.Common.{◌≡◌, ℕ, suc, ◌+◌, ◌≤◌, ◌<◌, Bool, true, false, not, cond, List, [], ◌∷◌, map, length}
+use Rattle.std.proofs.Common.{Option, Some, None, is_some, refl, sym, ap, subst, ◌∙◌, arith, length-append}
 use mir.Val.{bool_byte}
 use Rattle.std.proofs.lemmas.Bool.{ltb-true, cond_both, false_from_ne_true}
 use Rattle.std.proofs.lemmas.List.{nil_from_length}

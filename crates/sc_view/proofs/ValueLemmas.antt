@@ -1,5 +1,6 @@
 -- A value's bytes: what stands in front of zeros, and that it is bytes.
-use Rattle.std.proofs.Common.{◌≡◌, ℕ, ◌-◌, ◌≤◌, List, ◌++◌, length, drop, replicate, sym, ap, ◌∙◌, subst, zero, suc, ◌<◌, All, Fits, w8, get_or, take, [], ◌∷◌, arith}
+use Rattle.std.proofs.Common.{◌≡◌, ℕ, ◌-◌, ◌≤◌, List, ◌++◌, length, drop, replicate, sym, ap, ◌∙◌}
+use Rattle.std.proofs.Common.{subst, zero, suc, ◌<◌, All, Fits, w8, get_or, take, [], ◌∷◌, arith}
 use Rattle.std.proofs.Math.Seq.{take-append_seam}
 use Rattle.std.proofs.lemmas.List.{drop-replicate}
 use Rattle.sc_view.specs.Padded.{padded, IsPadded}

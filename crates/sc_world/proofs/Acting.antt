@@ -1,5 +1,6 @@
 -- What the parts of an event make together.
-use Rattle.std.proofs.Common.{◌≡◌, ◌≢◌, ℕ, zero, suc, ◌<◌, Bool, true, false, cond, ◌&&◌, ◌||◌, List, [], ◌∷◌, length, get_or, Option, Some, None, is_some, refl, sym, ap, ◌∙◌, arith, Result, Ok, Err}
+use Rattle.std.proofs.Common.{◌≡◌, ◌≢◌, ℕ, zero, suc, ◌<◌, Bool, true, false, cond, ◌&&◌, ◌||◌, List, [], ◌∷◌, length}
+use Rattle.std.proofs.Common.{get_or, Option, Some, None, is_some, refl, sym, ap, ◌∙◌, arith, Result, Ok, Err}
 use Rattle.std.proofs.lemmas.Bool.{eq-eqb}
 use Rattle.std.specs.Ordering.{nat_cmp, eq_by_cmp}
 use Rattle.std.specs.Cmp.{nat_cmp_total, unsigned_tied}
@@ -23,7 +24,8 @@ use Rattle.sc_world.specs.State.{WorldState, Past, world_of, past_of}
 use Rattle.sc_world.specs.Ledgers.{recorded, numbered, stopped}
 use Rattle.forms.specs.Calls.{Steps}
 use Rattle.std.specs.Prelude.{IsErrAnd}
-use Rattle.sc_world.specs.Worlds.{Outcome, live_at, by_live, took, acts, acted, of_entered, tag_of, crashes, enters, event_of, stepped, founder_nodes, founded_nodes}
+use Rattle.sc_world.specs.Worlds.{Outcome, live_at, by_live, took, acts, acted, of_entered, tag_of}
+use Rattle.sc_world.specs.Worlds.{crashes, enters, event_of, stepped, founder_nodes, founded_nodes}
 use Rattle.sc_world.specs.Acts.{begun_in, outcome, progress_in}
 
 pub act_step : (w : WorldState) (e : WorldEvent) (id : ℕ) (a : Act) (r : Report) (n : NodeState) (nodes : fin.FinMap nat_cmp NodeState) (past : Past)

@@ -13,7 +13,8 @@ use Rattle.sc_world.specs.declared.event.WorldEvent.{WorldEvent}
 use Rattle.sc_world.specs.declared.event.WorldEvent.TheVariants as event
 use Rattle.sc_world.specs.declared.event.WorldStep.{WorldStep}
 use Rattle.sc_world.specs.State.{WorldState}
-use Rattle.sc_world.specs.Worlds.{Outcome, of_begun, of_left, of_delivered, by_node, live, live_at, by_live, told, took, acts, after, silent, enters, crashes, stores, collects, leaves, delivers, stepped}
+use Rattle.sc_world.specs.Worlds.{Outcome, of_begun, of_left, of_delivered, by_node, live, live_at, by_live, told, took}
+use Rattle.sc_world.specs.Worlds.{acts, after, silent, enters, crashes, stores, collects, leaves, delivers, stepped}
 use Rattle.sc_world.proofs.Handlers.{heard, store_outcome, collect_outcome, left_outcome, entered_outcome}
 
 by_node-ok : {A : Type 0} (f : A → Outcome) (r : Result A Reason) (x : Outcome) → by_node f r ≡ Ok x → (a : A) × (r ≡ Ok a) × (f a ≡ x)

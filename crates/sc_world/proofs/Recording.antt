@@ -1,5 +1,6 @@
 -- The records of operations stay true as events come.
-use Rattle.std.proofs.Common.{◌≡◌, ℕ, ◌+◌, ◌≤◌, ◌<◌, Bool, true, false, cond, nat_le, List, [], ◌∷◌, length, take, Option, Some, None, refl, sym, ap, ◌∙◌, subst, arith, inl, inr, slice_get}
+use Rattle.std.proofs.Common.{◌≡◌, ℕ, ◌+◌, ◌≤◌, ◌<◌, Bool, true, false, cond, nat_le, List, [], ◌∷◌, length, take}
+use Rattle.std.proofs.Common.{Option, Some, None, refl, sym, ap, ◌∙◌, subst, arith, inl, inr, slice_get}
 use Rattle.std.proofs.lemmas.Bool.Decides.{nat_tests}
 use Rattle.std.proofs.lemmas.List.{take-append-le}
 use Rattle.std.proofs.lemmas.Option.{slice_get_within}
@@ -21,7 +22,8 @@ use Rattle.sc_world.specs.declared.event.WorldEvent.{WorldEvent}
 use Rattle.sc_world.specs.declared.op.Op.{Op}
 use Rattle.sc_world.specs.State.{WorldState}
 use Rattle.sc_world.specs.Worlds.{moved, clock, end_at, WasBefore}
-use Rattle.sc_world.specs.Records.{Answers, IsAck, IsReply, IsDelivered, IsAnswered, IsOpen, IsMeasured, IsUntil, IsPhase, operations_of, stores_of, HasCome, IsRecord}
+use Rattle.sc_world.specs.Records.{Answers, IsAck, IsReply, IsDelivered, IsAnswered, IsOpen, IsMeasured}
+use Rattle.sc_world.specs.Records.{IsUntil, IsPhase, operations_of, stores_of, HasCome, IsRecord}
 use Rattle.sc_world.proofs.Soundness.{counted}
 use Rattle.sc_world.proofs.Steps.{length-more}
 use Rattle.sc_world.proofs.Histories.{IsNext, slice_get_front, slice_get_last, before_next}

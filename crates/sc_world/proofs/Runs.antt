@@ -1,5 +1,6 @@
 -- Every list of accepted events keeps the invariant.
-use Rattle.std.proofs.Common.{◌≡◌, ℕ, ◌≤◌, Bool, true, false, cond, ◌==◌, zero, suc, List, [], ◌∷◌, ◌++◌, Option, Some, None, refl, sym, ap, ◌∙◌, subst, arith, ◌⊎◌, inl, inr, slice_get, Ok}
+use Rattle.std.proofs.Common.{◌≡◌, ℕ, ◌≤◌, Bool, true, false, cond, ◌==◌, zero, suc, List, [], ◌∷◌, ◌++◌, Option}
+use Rattle.std.proofs.Common.{Some, None, refl, sym, ap, ◌∙◌, subst, arith, ◌⊎◌, inl, inr, slice_get, Ok}
 use Rattle.std.proofs.lemmas.Bool.{eqb-true}
 use Rattle.std.specs.Ordering.{nat_cmp}
 use Rattle.std.specs.FinMap as fin
@@ -30,7 +31,9 @@ use Rattle.sc_world.proofs.Finite.{get-insert}
 use Rattle.sc_view.proofs.ViewLemmas.{below_refl}
 use Rattle.sc_world.proofs.Soundness.{sound_after}
 use Rattle.sc_world.proofs.Steps.{among-append, length-more, node_next}
-use Rattle.sc_world.proofs.Handlers.{heard, store_outcome, collect_outcome, left_outcome, entered_outcome, heard_moves, store_moves, collect_moves, left_moves, store_change, store_linked, collect_change, collect_linked, left_change, left_linked, delivery_change, delivery_linked, kept_op, enter_change, enter_linked}
+use Rattle.sc_world.proofs.Handlers.{heard, store_outcome, collect_outcome, left_outcome, entered_outcome, heard_moves, store_moves}
+use Rattle.sc_world.proofs.Handlers.{collect_moves, left_moves, store_change, store_linked, collect_change, collect_linked, left_change}
+use Rattle.sc_world.proofs.Handlers.{left_linked, delivery_change, delivery_linked, kept_op, enter_change, enter_linked}
 use Rattle.sc_world.proofs.Truth.{true_empty, lift, truthful_after}
 use Rattle.sc_world.proofs.Telling.{begun_session, persists, delivery_told, store_told, collect_told, left_told}
 use Rattle.sc_world.proofs.Numbering.{numbered_next}

@@ -16,7 +16,8 @@ use Rattle.sc_world.specs.declared.op.Op.{Op}
 use Rattle.sc_world.specs.State.{WorldState}
 use Rattle.sc_world.specs.Worlds.{clock}
 use Rattle.sc_world.specs.Records.{Among, ack_of, reply_of}
-use Rattle.sc_world.proofs.Changes.{view_at, IsAbout, IsReplied, OpFrom, Kept, Begun, Acknowledged, Replied, IsChange, KnownBy, IsSound, HasNumber, MeetsEarlier}
+use Rattle.sc_world.proofs.Changes.{view_at, IsAbout, IsReplied, OpFrom, Kept, Begun, Acknowledged}
+use Rattle.sc_world.proofs.Changes.{Replied, IsChange, KnownBy, IsSound, HasNumber, MeetsEarlier}
 use Rattle.sc_world.proofs.Finite.{contains-insert}
 use Rattle.sc_view.proofs.ViewLemmas.{below_trans}
 

@@ -1,5 +1,6 @@
 -- What an outcome of one node makes of the world is a change, and keeps the links.
-use Rattle.std.proofs.Common.{◌≡◌, ℕ, ◌+◌, ◌<◌, Bool, true, false, cond, ◌==◌, ◌&&◌, List, [], ◌∷◌, ◌++◌, map, length, Option, Some, None, is_none, refl, sym, ap, ◌∙◌, subst, arith, ◌⊎◌, inl, inr}
+use Rattle.std.proofs.Common.{◌≡◌, ℕ, ◌+◌, ◌<◌, Bool, true, false, cond, ◌==◌, ◌&&◌, List, [], ◌∷◌, ◌++◌, map, length}
+use Rattle.std.proofs.Common.{Option, Some, None, is_none, refl, sym, ap, ◌∙◌, subst, arith, ◌⊎◌, inl, inr}
 use Rattle.std.proofs.lemmas.Bool.{eqb-true, eq-eqb}
 use Rattle.std.specs.FinMap as fin
 use Rattle.sc_view.specs.Views.{ViewMap, IsBelow}
@@ -22,7 +23,8 @@ use Rattle.sc_world.specs.State.{WorldState}
 use Rattle.sc_world.specs.Worlds.{clock, Outcome, end_at, moved, advanced, op_begun, after}
 use Rattle.sc_world.specs.Records.{Among}
 use Rattle.sc_world.proofs.Changes.{view_of, view_at, IsAbout, OpFrom, Kept, Begun, Acknowledged, Replied, IsSent, IsBodySent, IsChange}
-use Rattle.sc_world.proofs.Links.{open_session, HasOwner, IsLinked, Site, new_op, session_moved, session_after, IsBegunAt, IsTransition, AckMakes, ReplyMakes, IsAckProgress, IsReplyProgress, IsProgress, IsFresh, Each, IsBodyKnown, ack_is, reply_is}
+use Rattle.sc_world.proofs.Links.{open_session, HasOwner, IsLinked, Site, new_op, session_moved, session_after, IsBegunAt, IsTransition, AckMakes}
+use Rattle.sc_world.proofs.Links.{ReplyMakes, IsAckProgress, IsReplyProgress, IsProgress, IsFresh, Each, IsBodyKnown, ack_is, reply_is}
 use Rattle.sc_world.proofs.Finite.{get-insert, get-insert_same}
 use Rattle.sc_view.proofs.ViewLemmas.{below_refl}
 

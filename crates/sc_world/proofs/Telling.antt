@@ -15,7 +15,8 @@ use Rattle.sc_operations.specs.declared.progress.Progress.{Progress}
 use Rattle.sc_world.specs.declared.act.BegunOp.{BegunOp}
 use Rattle.sc_node.specs.Sessions.{kind_of, stored, open_phase, with_phase, advanced_by, is_reached, count_sender, querying}
 use Rattle.sc_node.specs.State.{NodeState}
-use Rattle.sc_node.specs.Nodes.{message_from, is_reply, view_after, progress_of, reply_progress, beta_threshold, joins, ack_for, reply_for, answers, store_back, store_of, store_session, collect_session, stored_view, next_stored}
+use Rattle.sc_node.specs.Nodes.{message_from, is_reply, view_after, progress_of, reply_progress, beta_threshold, joins, ack_for, reply_for}
+use Rattle.sc_node.specs.Nodes.{answers, store_back, store_of, store_session, collect_session, stored_view, next_stored}
 use Rattle.sc_world.specs.declared.event.WorldEvent.{WorldEvent}
 use Rattle.sc_world.specs.declared.op.Op.{Op}
 use Rattle.sc_world.specs.State.{WorldState}
@@ -25,7 +26,8 @@ use Rattle.sc_world.proofs.Changes.{view_of, view_at, IsBegun, IsSound}
 use Rattle.sc_world.proofs.Links.{Site, new_op, IsTransition, IsProgress, IsFresh, Each}
 use Rattle.sc_world.proofs.Truths.{IsTrue, body_view, IsTruthful, IsThere, IsTold}
 use Rattle.sc_world.proofs.Steps.{among-append, among-map, each_after, kept_among, begun_among, each-among, advance_op, clock_next, ops_from, node_next}
-use Rattle.sc_world.proofs.Handlers.{heard, store_body, store_outcome, collect_outcome, left_outcome, each_if, progress_is, sends, own_name, heard_moves, store_moves, collect_moves, left_moves, store_number}
+use Rattle.sc_world.proofs.Handlers.{heard, store_body, store_outcome, collect_outcome, left_outcome, each_if, progress_is}
+use Rattle.sc_world.proofs.Handlers.{sends, own_name, heard_moves, store_moves, collect_moves, left_moves, store_number}
 use Rattle.sc_world.proofs.Truth.{true_merge, true_put, true_if, lift}
 
 kind_with : (s : Session) (p : Phase) → kind_of (with_phase s p) ≡ kind_of s

@@ -4,7 +4,8 @@ use Rattle.sc_chunk.proofs.EntryLemmas.{find_found, find_other, find_past}
 use Rattle.sc_chunk.proofs.chunk.find.Goals as goal
 
 pub returns-then-at-entries : goal.returns-then-at-entries
-returns-then-at-entries g c = sym (find_past c.args.id c.args.entries.now (subst (λ n. length c.args.entries.now ≤ n) c.before-at.ensures.value c.if-at-entries.true))
+returns-then-at-entries g c =
+    sym (find_past c.args.id c.args.entries.now (subst (λ n. length c.args.entries.now ≤ n) c.before-at.ensures.value c.if-at-entries.true))
 
 pub returns-then-entry-id : goal.returns-then-entry-id
 returns-then-entry-id g c =

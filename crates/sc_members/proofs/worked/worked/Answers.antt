@@ -4,7 +4,7 @@ use Rattle.std.specs.Ordering.{nat_cmp, eq_by_cmp}
 use Rattle.std.specs.Cmp.{nat_cmp_total}
 use Rattle.std.specs.FinSet as set
 use Rattle.std.specs.List.Sorted.{IsStrictlySortedBy}
-use Rattle.sc_members.proofs.Sets.{has, found, in_union, in_difference, len-from_list, len_of, rising-from_list}
+use Rattle.sc_members.proofs.Sets.{has, found, in_union, len_difference, len-from_list, len_of, rising-from_list}
 use Rattle.sc_members.proofs.worked.worked.Goals as goal
 
 abbrev one : List ℕ
@@ -44,24 +44,23 @@ last_true false true = refl
 last_true false false = refl
 
 count_kept : set.len (set.difference {R = nat_cmp} (set.from_list one) set.empty) ≡ 1
-count_kept = sym (len_of one (set.difference (set.from_list one) set.empty) sorted_one (in_difference one [] one (set.from_list one) set.empty refl refl (λ q. kept (has one q))))
+count_kept = sym (len_difference one [] (set.from_list one) set.empty refl refl one sorted_one (λ q. kept (has one q)))
 
 pub returns-clause-present_founder : goal.returns-clause-present_founder
 returns-clause-present_founder c = count_kept
 
 pub returns-clause-entered_member : goal.returns-clause-entered_member
-returns-clause-entered_member c = sym (len_of [] (set.difference set.empty set.empty) sorted_none (in_difference [] [] [] set.empty set.empty refl refl (λ q. refl)))
+returns-clause-entered_member c = sym (len_difference [] [] set.empty set.empty refl refl [] sorted_none (λ q. refl))
 
 pub returns-clause-joined_member : goal.returns-clause-joined_member
 returns-clause-joined_member c = count_kept
 
 pub returns-clause-gone_member : goal.returns-clause-gone_member
-returns-clause-gone_member c =
-    sym (len_of [] (set.difference (set.from_list one) (set.from_list one)) sorted_none (in_difference one one [] (set.from_list one) (set.from_list one) refl refl (λ q. gone (has one q))))
+returns-clause-gone_member c = sym (len_difference one one (set.from_list one) (set.from_list one) refl refl [] sorted_none (λ q. gone (has one q)))
 
 pub returns-clause-left_together : goal.returns-clause-left_together
 returns-clause-left_together c =
-    sym (in_union (8 ∷ []) one (8 ∷ one) (set.from_list (8 ∷ [])) (set.from_list one) refl refl (λ q. joined (eq_by_cmp nat_cmp q 8) (has one q)) 7)
+    sym (in_union (8 ∷ []) one (set.from_list (8 ∷ [])) (set.from_list one) refl refl (8 ∷ one) (λ q. joined (eq_by_cmp nat_cmp q 8) (has one q)) 7)
 
 pub returns-clause-full : goal.returns-clause-full
 returns-clause-full c f entered joined left = rw (entered, joined, left) refl
@@ -85,7 +84,7 @@ pub returns-clause-in_order : goal.returns-clause-in_order
 returns-clause-in_order c = rising-from_list (7 ∷ 8 ∷ []) sorted_two
 
 pub returns-clause-of_both : goal.returns-clause-of_both
-returns-clause-of_both c = sym (len_of one (set.union (set.from_list one) (set.from_list one)) sorted_one (in_union one one one (set.from_list one) (set.from_list one) refl refl (λ q. twice (has one q))))
+returns-clause-of_both c = sym (len_of one _ sorted_one (in_union one one (set.from_list one) (set.from_list one) refl refl one (λ q. twice (has one q))))
 
 pub returns-clause-not_shared : goal.returns-clause-not_shared
 returns-clause-not_shared c = λ h. true≢false (sym h.shared.1 ∙ found (8 ∷ 9 ∷ []) 7)

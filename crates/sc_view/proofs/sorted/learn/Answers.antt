@@ -9,11 +9,13 @@ use Rattle.sc_view.proofs.sorted.learn.Goals as goal
 
 pub returns-in_ok-insert-clause-ok : goal.returns-in_ok-insert-clause-ok
 returns-in_ok-insert-clause-ok c =
+    let found = get_found c.args.entries.now.entries c.args.id ∙ sym (c.copied.ensures ∙ c.get.ensures.value) in
     learned c.args.entries.now.entries c.insert.new.self.entries c.args.id c.args.stored
-    (ap (λ (o : Option Stored). is_newer o c.args.stored) (get_found c.args.entries.now.entries c.args.id ∙ sym (c.copied.ensures ∙ c.get.ensures.value)) ∙ sym c.is_newer.ensures ∙ c.if-is_newer.true)
+    (ap (λ (o : Option Stored). is_newer o c.args.stored) found ∙ sym c.is_newer.ensures ∙ c.if-is_newer.true)
     c.in_ok-insert.ensures.updates.0
 
 pub returns-else-is_newer-clause-ok : goal.returns-else-is_newer-clause-ok
 returns-else-is_newer-clause-ok c =
+    let found = get_found c.args.entries.now.entries c.args.id ∙ sym (c.copied.ensures ∙ c.get.ensures.value) in
     not_learned (fin.from_entries c.args.entries.now.entries) c.args.id c.args.stored
-    (ap (λ (o : Option Stored). is_newer o c.args.stored) (get_found c.args.entries.now.entries c.args.id ∙ sym (c.copied.ensures ∙ c.get.ensures.value)) ∙ sym c.is_newer.ensures ∙ c.if-is_newer.false)
+    (ap (λ (o : Option Stored). is_newer o c.args.stored) found ∙ sym c.is_newer.ensures ∙ c.if-is_newer.false)

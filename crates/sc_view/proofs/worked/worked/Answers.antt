@@ -1,5 +1,5 @@
 -- worked: what the definitions say at telling operands.
-use Rattle.std.proofs.Common.{◌≡◌, ℕ, ◌+◌, ◌==◌, cond, List, [], ◌∷◌, length, Option, Some, is_some, ap, sym, ◌∙◌, arith}
+use Rattle.std.proofs.Common.{◌≡◌, ℕ, ◌+◌, ◌==◌, Bool, cond, List, [], ◌∷◌, length, Option, Some, is_some, ap, sym, ◌∙◌, arith}
 use Rattle.std.specs.FinMap as fin
 use Rattle.std.specs.FinMap.Entries as list
 use Rattle.std.specs.FinMap.Entries.{find}
@@ -28,8 +28,8 @@ put_at es id e q =
 len_at : (es : List (ℕ × Stored)) (id : ℕ) (e : Stored) → Rises es
     → fin.len (put (fin.from_entries es) id e) ≡ cond (is_some (find nat_cmp id es)) (length es) (length es + 1)
 len_at es id e r =
-    len-put (fin.from_entries es) id e
-    ∙ ap (λ (o : Option Stored). cond (is_some o) (fin.len (fin.from_entries {R = nat_cmp} es)) (fin.len (fin.from_entries {R = nat_cmp} es) + 1)) (get_rising es id)
+    let many = fin.len (fin.from_entries {R = nat_cmp} es) in
+    len-put (fin.from_entries es) id e ∙ ap (λ (o : Option Stored). cond (is_some o) many (many + 1)) (get_rising es id)
     ∙ ap (λ n. cond (is_some (find nat_cmp id es)) n (n + 1)) (len_rising es r)
 
 merge_at : (es fs : List (ℕ × Stored)) (q : ℕ) → fin.get (merge (fin.from_entries es) (fin.from_entries fs)) q ≡ merged (find nat_cmp q es) (find nat_cmp q fs)
@@ -41,9 +41,12 @@ merge_at es fs q =
 number_of_7 : (e : Stored) → number_at (view_of_7 e) 7 ≡ e.number
 number_of_7 e = ap number_of (get_rising (one e) 7)
 
-values_of : (l : Lengths) (es : List (ℕ × Stored)) → Rises es
-    → list_all (λ (e : ℕ × Stored). is_within (length e.1.value) l) (fin.entries (fin.from_entries {R = nat_cmp} es)) ≡ list_all (λ (e : ℕ × Stored). is_within (length e.1.value) l) es
-values_of l es r = ap (λ (es : List (ℕ × Stored)). list_all (λ (e : ℕ × Stored). is_within (length e.1.value) l) es) (entries_rising es r)
+-- each value has one of these lengths
+abbrev are_within : Lengths → List (ℕ × Stored) → Bool
+are_within l es = list_all (λ (e : ℕ × Stored). is_within (length e.1.value) l) es
+
+values_of : (l : Lengths) (es : List (ℕ × Stored)) → Rises es → are_within l (fin.entries (fin.from_entries {R = nat_cmp} es)) ≡ are_within l es
+values_of l es r = ap (are_within l) (entries_rising es r)
 
 pub returns-clause-numbers_from_1 : goal.returns-clause-numbers_from_1
 returns-clause-numbers_from_1 c = λ h. absurd (omega (arith, h.counted 7 (stored 0 5) (get_rising (one (stored 0 5)) 7)))

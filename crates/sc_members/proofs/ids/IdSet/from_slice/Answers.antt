@@ -13,6 +13,9 @@ use Rattle.sc_members.proofs.ids.IdSet.from_slice.Goals as goal
 
 pub returns : goal.returns
 returns c =
-    let made = fact_from_collect (IsFromIterResult nat_cmp) c.collect.result c.collect.ensures.ran (YieldsList-from_copied (YieldsList-from_slice c.args.ids.now (cc))) in
+    let copied = YieldsList-from_copied (YieldsList-from_slice c.args.ids.now (cc)) in
+    let made = fact_from_collect (IsFromIterResult nat_cmp) c.collect.result c.collect.ensures.ran copied in
     let has_all = IfOk-at_ok (λ (made : BTreeSet ℕ). IsFromIterResult nat_cmp c.args.ids.now made) c.in_ok-collect.was made in
-    subst (λ (s : Ids). IfOk c.of.result (λ made. made ≡ s)) (set_of c.in_ok-collect.field-0.keys (set.from_list c.args.ids.now) (λ q. has_all.0 q ∙ sym (found c.args.ids.now q))) c.of.ensures
+    subst (λ (s : Ids). IfOk c.of.result (λ made. made ≡ s))
+    (set_of c.in_ok-collect.field-0.keys (set.from_list c.args.ids.now) (λ q. has_all.0 q ∙ sym (found c.args.ids.now q)))
+    c.of.ensures

@@ -5,6 +5,6 @@ use Rattle.sc_members.proofs.ids.IdSet.least_common.Goals as goal
 pub returns : goal.returns
 returns c =
     least_common c.args.self.now c.args.other.now c.intersection.result c.intersection.ensures.ordered
-    (in_intersection c.held.result.now.keys c.held-2.result.now.keys c.intersection.result _ _ c.held.ensures c.held-2.ensures c.intersection.ensures.members)
+    (in_intersection c.held.result.now.keys c.held-2.result.now.keys _ _ c.held.ensures c.held-2.ensures c.intersection.result c.intersection.ensures.members)
     c.copied.result c.next.new.self
     (first_copied c.intersection.result c.next.result c.next.new.self c.copied.result c.next.ensures.steps c.copied.ensures)

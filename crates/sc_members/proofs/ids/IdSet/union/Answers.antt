@@ -11,13 +11,14 @@ use Rattle.sc_members.proofs.ids.IdSet.union.Goals as goal
 
 pub returns-then-is_subset : goal.returns-then-is_subset
 returns-then-is_subset c =
-    subst (λ (s : Ids). IfOk c.share.result (λ both. both ≡ s)) (sym (union_known c.args.self.now c.args.other.now (sym c.is_subset.ensures ∙ c.if-is_subset.true))) c.share.ensures
+    rw (union_known c.args.self.now c.args.other.now (sym c.is_subset.ensures ∙ c.if-is_subset.true)) c.share.ensures
 
 pub returns : goal.returns
 returns c =
-    let all = fact_from_extend deref c.extend.result c.extend.ensures.ran (λ it from. YieldsList-from_rest _ from.0) (λ xs is inserts q. inserts.0 q ∙ ap (λ ks. has c.in_ok-ids.ids.keys q || has ks q) is) in
+    let all = fact_from_extend deref c.extend.result c.extend.ensures.ran (λ it from. YieldsList-from_rest _ from.0)
+    (λ xs is inserts q. inserts.0 q ∙ ap (λ ks. has c.in_ok-ids.ids.keys q || has ks q) is) in
     subst (λ (s : Ids). IfOk c.of.result (λ both. both ≡ s))
     (set_of c.extend.new.self.keys (set.union c.args.self.now c.args.other.now)
-    (in_union c.in_ok-ids.ids.keys c.held.result.now.keys c.extend.new.self.keys c.args.self.now c.args.other.now
-    c.in_ok-ids.ensures c.held.ensures (IfOk-at_ok _ c.in_ok-extend.was all)))
+    (in_union c.in_ok-ids.ids.keys c.held.result.now.keys c.args.self.now c.args.other.now
+    c.in_ok-ids.ensures c.held.ensures c.extend.new.self.keys (IfOk-at_ok _ c.in_ok-extend.was all)))
     c.of.ensures

@@ -9,4 +9,4 @@ pub returns : goal.returns
 returns c =
     count_from_yields_List _ c.count.result c.count.ensures.ran (YieldsList-from_rest c.union.result refl)
     ∙ len_of c.union.result (set.union c.args.self.now c.args.other.now) c.union.ensures.ordered
-    (in_union c.held.result.now.keys c.held-2.result.now.keys c.union.result _ _ c.held.ensures c.held-2.ensures c.union.ensures.members)
+    (in_union c.held.result.now.keys c.held-2.result.now.keys _ _ c.held.ensures c.held-2.ensures c.union.result c.union.ensures.members)

@@ -5,7 +5,7 @@ use Rattle.sc_members.proofs.Sets.{insert_known, one_more}
 use Rattle.sc_members.proofs.ids.IdSet.with.Goals as goal
 
 pub returns-then-contains : goal.returns-then-contains
-returns-then-contains c = subst (λ (s : Ids). IfOk c.share.result (λ more. more ≡ s)) (sym (insert_known c.args.self.now c.args.id (sym c.contains.ensures ∙ c.if-contains.true))) c.share.ensures
+returns-then-contains c = rw (insert_known c.args.self.now c.args.id (sym c.contains.ensures ∙ c.if-contains.true)) c.share.ensures
 
 pub returns : goal.returns
 returns c =
