@@ -31,12 +31,13 @@ begin_first l steps more h = (more, (steps ++ more, [], h, refl, sym (append-nil
 -- the steps of lines, and then those of more
 pub of_behind : (ls ms : List ClientLine) (steps more : List Step) → AreOfAll ls steps → AreOfAll ms more → AreOfAll (ls ++ ms) (steps ++ more)
 of_behind [] ms steps more h k = subst (λ (z : List Step). AreOfAll ms (z ++ more)) (sym h) k
-of_behind (x ∷ ls) ms steps more h k = (h.0, h.1 ++ more, h.2, of_behind ls ms h.1 more h.3 k, ap (λ (z : List Step). z ++ more) h.4 ∙ append_assoc h.0 h.1 more)
+of_behind (x ∷ ls) ms steps more h k = (h.0, h.1 ++ more, h.2, of_behind ls ms h.1 more h.3 k, ap (λ z. z ++ more) h.4 ∙ append_assoc h.0 h.1 more)
 
 -- the steps of lines, and what begins those of the next
 pub begin_behind : (ls : List ClientLine) (l : ClientLine) (rest : List ClientLine) (steps more : List Step) → AreOfAll ls steps
     → BeginAll (l ∷ []) more → BeginAll (ls ++ l ∷ rest) (steps ++ more)
 begin_behind ls l rest steps more h k =
-    let whole = of_behind ls (l ∷ rest) steps ((more ++ k.0) ++ lackings rest) h (of_behind (l ∷ []) rest (more ++ k.0) (lackings rest) k.1 (lackings_of rest)) in
+    let next = of_behind (l ∷ []) rest (more ++ k.0) (lackings rest) k.1 (lackings_of rest) in
+    let whole = of_behind ls (l ∷ rest) steps ((more ++ k.0) ++ lackings rest) h next in
     let same : steps ++ ((more ++ k.0) ++ lackings rest) ≡ (steps ++ more) ++ (k.0 ++ lackings rest) = simp append_assoc in
     (k.0 ++ lackings rest, subst (AreOfAll (ls ++ l ∷ rest)) same whole)

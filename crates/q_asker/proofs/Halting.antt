@@ -2,7 +2,7 @@
 use Rattle.std.proofs.Common.{◌≡◌, ℕ, List, Option, None, Err, refl, ap, sym, ◌∙◌, subst}
 use Rattle.std.specs.Io.KnownBytes.{Appends}
 use Rattle.reasons.specs.declared.Reason.TheVariants as reasons
-use Rattle.q_told.specs.Line.{line_of}
+use Rattle.q_told.specs.Line.{line_of, TakesPart}
 use Rattle.q_told.specs.declared.refusal.RefusalPlace.TheVariants.{Untold}
 use Rattle.q_asker.specs.declared.connection.ExchangeFault.TheVariants.{Unheard}
 use Rattle.q_asker.specs.declared.ending.ClientEnding.{ClientEnding}
@@ -10,7 +10,7 @@ use Rattle.q_asker.specs.declared.ending.ClientEnding.TheVariants as ending
 use Rattle.q_asker.specs.declared.script.ClientLine.{ClientLine}
 use Rattle.q_asker.specs.declared.step.Halt.{Halt}
 use Rattle.q_asker.specs.declared.step.Halt.TheVariants.{Lost, Unwritten}
-use Rattle.q_asker.specs.Runs.{Halts, PrintsLost, RunsOver, RunsTo, Stops, TakesPart, count_after, failures_after, failures_halted}
+use Rattle.q_asker.specs.Runs.{Halts, PrintsLost, RunsOver, RunsTo, Stops, count_after, failures_after, failures_halted}
 use Rattle.q_asker.specs.Steps.{Streams}
 use Rattle.q_asker.proofs.Moves.{same_given, same_part}
 use Rattle.q_asker.proofs.Running.{stops_first}
@@ -42,5 +42,5 @@ pub never_connected : (ls : List ClientLine) (e : ClientEnding) (p q : Option (L
 never_connected ls e p q prints =
     let s : Streams = record { sent = None; heard = None; printed = p } in
     let t : Streams = record { sent = None; heard = None; printed = q } in
-    let stops = stops_first ls (Lost Unheard) s s (same_part None None refl, same_given None None refl, refl) in
+    let stops = stops_first ls (Lost Unheard) s s (same_part {a = None} {b = None} refl, same_given {a = None} {b = None} refl, refl) in
     (s, t, refl, refl, halted ls (Lost Unheard) e s s q stops prints)

@@ -1,6 +1,6 @@
 -- Which reply stands at the front of an input, and that no other does.
-use Rattle.std.proofs.Common.{◌≡◌, ◌⊎◌, inl, inr, ℕ, ◌<◌, ◌≤◌, ◌^◌, eqb, false, List, [], ◌∷◌, ◌++◌, length, Option, Some, None, Result, Ok, Err, refl, ap, sym, ◌∙◌, subst, append_assoc, append-nil, arith, length-append}
-use Rattle.std.specs.Prelude.{IfOk, IsErrAnd, MatchOption}
+use Rattle.std.proofs.Common.{◌≡◌, ◌⊎◌, inl, inr, ℕ, ◌<◌, ◌≤◌, eqb, false, refl, ap, sym, ◌∙◌, subst, append_assoc, append-nil, arith, length-append}
+use Rattle.std.specs.Prelude.{List, [], ◌∷◌, ◌++◌, length, Option, Some, None, Result, Ok, Err, IfOk, IsErrAnd, MatchOption}
 use Rattle.std.specs.Io.KnownBytes.{Consumes, IsAtEnd}
 use Rattle.std.proofs.KnownBytes.{Consumes-trans}
 use Rattle.std.proofs.lemmas.Bool.{eq-eqb}
@@ -9,12 +9,13 @@ use Rattle.reasons.specs.declared.Reason.{Reason}
 use Rattle.reasons.specs.declared.Reason.TheVariants as reasons
 use Rattle.spelling.specs.Numbers.{number_bytes}
 use Rattle.spelling.proofs.Numbers.{length-number_bytes}
-use Rattle.spelling.proofs.Codes.{one_byte, number_front}
+use Rattle.spelling.proofs.Codes.{one_byte, number_front, number_then, numbers_are_code, pair}
 use Rattle.q_net.specs.Replies.{reply_bytes}
 use Rattle.q_net.specs.Requests.{Got}
 use Rattle.q_net.proofs.Reading.{got_none}
 use Rattle.q_net.specs.declared.replies.Reply.{Reply}
 use Rattle.q_net.specs.declared.replies.Reply.TheVariants.{Program, Number, Open, Answer, Refused}
+use Rattle.q_net.proofs.Replied.{reply_has_bytes}
 use Rattle.q_asker.specs.declared.replies.ReplyKind.{ReplyKind}
 use Rattle.q_asker.specs.declared.replies.ReplyKind.TheVariants as kind
 use Rattle.q_asker.specs.Replies.{BeginsNone, CanBe, Hears, HearsBehind, IsRefusal}
@@ -71,20 +72,20 @@ heard_failed P kind front a b (Err e) h part = part
 cut : (kind : ReplyKind) (front : List ℕ) (few : ℕ)
     → ((said : Reply) (bytes rest : List ℕ) → CanBe kind said → front ++ bytes ≡ reply_bytes said ++ rest → few ≤ length bytes)
     → (a b : Option (List ℕ)) (part : List ℕ) → Consumes a b part → length part < few → IsAtEnd b → BeginsNone kind front a
-cut kind front few long a b part p less end = none_begins kind front a (λ bytes is said rest can e. omega (arith, ap length (all_read a b part bytes p end is), less, long said bytes rest can e))
+cut kind front few long a b part p less end =
+    none_begins kind front a (λ bytes is said rest can e. omega (arith, ap length (all_read a b part bytes p end is), less, long said bytes rest can e))
 
 -- ---- behind a 0
-
-number_long : (width n : ℕ) (bytes rest : List ℕ) → bytes ≡ number_bytes width n ++ rest → width ≤ length bytes
-number_long width n bytes rest is = omega (arith, ap length is, length-append (number_bytes width n) rest, length-number_bytes width n)
 
 answer_long : (said : Reply) (bytes rest : List ℕ) → CanBe kind.Answer said → 0 ∷ bytes ≡ reply_bytes said ++ rest
     → (bytes ≡ 0 ∷ rest) ⊎ ((more : List ℕ) × (bytes ≡ 1 ∷ more) × (16 ≤ length more))
 answer_long (Refused n) bytes rest can e = absurd (not_zero n can cc)
 answer_long Open bytes rest can e = inl cc
 answer_long (Answer acc steps) bytes rest can e =
-    let t : bytes ≡ 1 ∷ ((number_bytes 8 acc ++ number_bytes 8 steps) ++ rest) = cc in
-    inr ((number_bytes 8 acc ++ number_bytes 8 steps) ++ rest, t, omega (arith, length-append (number_bytes 8 acc ++ number_bytes 8 steps) rest, length-append (number_bytes 8 acc) (number_bytes 8 steps), length-number_bytes 8 acc, length-number_bytes 8 steps))
+    let both = number_bytes 8 acc ++ number_bytes 8 steps in
+    let more : bytes ≡ 1 ∷ (both ++ rest) = cc in
+    let long = length-append (number_bytes 8 acc) (number_bytes 8 steps) in
+    inr (both ++ rest, more, omega (arith, length-append both rest, long, length-number_bytes 8 acc, length-number_bytes 8 steps))
 answer_long said bytes rest can e = absurd can
 
 -- how many bytes a reply of a kind has there at least, if it is no refusal
@@ -95,8 +96,8 @@ fewest kind.Answer = 1
 
 accepted_long : (kind : ReplyKind) (said : Reply) (bytes rest : List ℕ) → CanBe kind said → 0 ∷ bytes ≡ reply_bytes said ++ rest → fewest kind ≤ length bytes
 accepted_long kind (Refused n) bytes rest can e = absurd (not_zero n can cc)
-accepted_long kind.Program (Program n) bytes rest can e = number_long 4 n bytes rest cc
-accepted_long kind.Number (Number n) bytes rest can e = number_long 8 n bytes rest cc
+accepted_long kind.Program (Program n) bytes rest can e = omega (arith, number_then 4 n bytes rest cc)
+accepted_long kind.Number (Number n) bytes rest can e = omega (arith, number_then 8 n bytes rest cc)
 accepted_long kind.Answer said bytes rest can e = elim (answer_long said bytes rest can e) [
   | inl alone ↦ omega (arith, ap length alone)
   | inr more ↦ omega (arith, ap length more.1)
@@ -112,10 +113,12 @@ none_accepted kind bytes_of a b o is got =
 
 -- behind a 0 stands neither 0 nor 1
 pub look_other : (n : ℕ) (a b : Option (List ℕ)) → (n ≡ 0 → ⊥) → (n ≡ 1 → ⊥) → Consumes a b (n ∷ []) → BeginsNone kind.Answer (0 ∷ []) a
-look_other n a b not_open not_one p = none_begins kind.Answer (0 ∷ []) a (λ bytes is said rest can e. let there = front_read a b (n ∷ []) bytes p is in elim (answer_long said bytes rest can e) [
-  | inl alone ↦ not_open (one_byte n 0 there.0 rest (sym there.2 ∙ alone)).0
-  | inr more ↦ not_one (one_byte n 1 there.0 more.0 (sym there.2 ∙ more.1)).0
-])
+look_other n a b not_open not_one p =
+    none_behind kind.Answer (0 ∷ []) (n ∷ []) a b p (none_begins kind.Answer (0 ∷ n ∷ []) b (λ bytes is said rest can e.
+    elim (answer_long said (n ∷ bytes) rest can e) [
+      | inl alone ↦ not_open (one_byte n 0 bytes rest alone).0
+      | inr more ↦ not_one (one_byte n 1 bytes more.0 more.1).0
+    ]))
 
 -- the input ended behind a 0 and a 1
 pub answer_cut : (a b : Option (List ℕ)) (part : List ℕ) → Consumes a b part → length part < 16 → IsAtEnd b → BeginsNone kind.Answer (0 ∷ 1 ∷ []) a
@@ -126,16 +129,9 @@ answer_cut = cut kind.Answer (0 ∷ 1 ∷ []) 16 (λ said bytes rest can e. elim
 
 -- ---- the first byte
 
-some_bytes : (said : Reply) → 1 ≤ length (reply_bytes said)
-some_bytes (Program n) = omega arith
-some_bytes (Number n) = omega arith
-some_bytes Open = omega arith
-some_bytes (Answer acc steps) = omega arith
-some_bytes (Refused n) = omega arith
-
 -- the input has ended
 pub first_cut : (kind : ReplyKind) (a b : Option (List ℕ)) (part : List ℕ) → Consumes a b part → length part < 1 → IsAtEnd b → BeginsNone kind [] a
-first_cut kind = cut kind [] 1 (λ said bytes rest can e. omega (arith, ap length e, length-append (reply_bytes said) rest, some_bytes said))
+first_cut kind = cut kind [] 1 (λ said bytes rest can e. omega (arith, ap length e, length-append (reply_bytes said) rest, reply_has_bytes said))
 
 -- a reply whose first byte is not 0 is a refusal
 first_byte : (said : Reply) (n : ℕ) (bytes rest : List ℕ) → (n ≡ 0 → ⊥) → n ∷ bytes ≡ reply_bytes said ++ rest → said ≡ Refused n
@@ -148,16 +144,12 @@ first_byte (Answer acc steps) n bytes rest other e = absurd (other cc)
 -- the first byte is the number of a refusal, or that of no reply
 pub first_heard : (E : Type 0) (kind : ReplyKind) (n : ℕ) (a b : Option (List ℕ)) (o : Option Reply) → (n ≡ 0 → ⊥) → Consumes a b (n ∷ [])
     → MatchOption o (IsRefusal n → ⊥) (λ said. IsRefusal n × (said ≡ Refused n)) → HearsBehind {E = E} kind [] a b (Ok o)
-first_heard E kind n a b None other p none = (none_begins kind [] a (λ bytes is said rest can e. let there = front_read a b (n ∷ []) bytes p is in none (subst (CanBe kind) (first_byte said n there.0 rest other (sym there.2 ∙ e)) can)), (n ∷ [], p))
+first_heard E kind n a b None other p none =
+    let begins = none_begins kind (n ∷ []) b (λ bytes is said rest can e. none (subst (CanBe kind) (first_byte said n bytes rest other e) can)) in
+    (none_behind kind [] (n ∷ []) a b p begins, (n ∷ [], p))
 first_heard E kind n a b (Some said) other p h = (subst (CanBe kind) (sym h.1) h.0, (n ∷ [], p, ap reply_bytes h.1))
 
 -- ---- one reply stands there
-
-two_longs : (a b c d : ℕ) (r s : List ℕ) → a < 2 ^ 64 → b < 2 ^ 64 → c < 2 ^ 64 → d < 2 ^ 64
-    → (number_bytes 8 a ++ number_bytes 8 b) ++ r ≡ (number_bytes 8 c ++ number_bytes 8 d) ++ s → (a ≡ c) × (b ≡ d)
-two_longs a b c d r s fa fb fc fd e =
-    let first = number_front 8 a c (number_bytes 8 b ++ r) (number_bytes 8 d ++ s) fa fc (sym (append_assoc (number_bytes 8 a) (number_bytes 8 b) r) ∙ e ∙ append_assoc (number_bytes 8 c) (number_bytes 8 d) s) in
-    (first.0, (number_front 8 b d r s fb fd first.1).0)
 
 pub one_reply : (kind : ReplyKind) (x y : Reply) (r s : List ℕ) → CanBe kind x → CanBe kind y → reply_bytes x ++ r ≡ reply_bytes y ++ s → x ≡ y
 one_reply kind (Refused m) y r s cx cy e = sym (first_byte y m r s (not_zero m cx) e)
@@ -171,8 +163,9 @@ one_reply kind.Answer Open (Answer acc steps) r s cx cy e = cc
 one_reply kind.Answer Open y r s cx cy e = absurd cy
 one_reply kind.Answer (Answer acc steps) Open r s cx cy e = cc
 one_reply kind.Answer (Answer a b) (Answer c d) r s cx cy e =
-    let same = two_longs a b c d r s cx.0 cx.1 cy.0 cy.1 (one_byte 1 1 _ _ (one_byte 0 0 _ _ e).1).1 in
-    cc
+    let code = pair (number_bytes 8) (number_bytes 8) _ _ (numbers_are_code 8) (numbers_are_code 8) in
+    let same = code.one (a, b) (c, d) r s cx cy (one_byte 1 1 _ _ (one_byte 0 0 _ _ e).1).1 in
+    ap (λ (z : ℕ × ℕ). Answer z.0 z.1) same.0
 one_reply kind.Answer (Answer acc steps) y r s cx cy e = absurd cy
 one_reply kind x y r s cx cy e = absurd cx
 

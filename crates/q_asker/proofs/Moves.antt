@@ -4,33 +4,33 @@ use Rattle.std.specs.Io.KnownBytes.{Appends, Consumes}
 use Rattle.std.proofs.KnownBytes.{Appends-nil, Appends-trans, Consumes-nil, Consumes-trans}
 use Rattle.std.proofs.lemmas.List.Concat.{flat_map-append}
 use Rattle.reasons.specs.declared.Reason.{Reason}
-use Rattle.q_told.specs.Line.{line_of}
+use Rattle.q_told.specs.Line.{line_of, TakesPart, unanswered_line}
 use Rattle.q_told.specs.declared.refusal.RefusalPlace.{RefusalPlace}
 use Rattle.q_net.specs.declared.request.Request.{Request}
 use Rattle.q_asker.specs.declared.connection.ExchangeFault.{ExchangeFault}
 use Rattle.q_asker.specs.declared.connection.ExchangeFault.TheVariants.{OutOfMemory}
 use Rattle.q_asker.specs.Exchanges.{Exchanges}
-use Rattle.q_asker.specs.Runs.{GivesPart, TakesPart}
-use Rattle.q_asker.specs.Steps.{GaveUp, Moves, Step, StepTells, StepsTell, Streams, Unmade, heard_by, sent_by, unanswered_line}
+use Rattle.q_asker.specs.Runs.{GivesPart}
+use Rattle.q_asker.specs.Steps.{GaveUp, Moves, Step, StepTells, StepsTell, Streams, Unmade, heard_by, sent_by}
 
 -- ---- parts
 
-same_sent : (a b : Option (List ℕ)) → b ≡ a → Appends a b []
-same_sent a b e = subst (λ (x : Option (List ℕ)). Appends a x []) (sym e) (Appends-nil a)
+same_sent : {a b : Option (List ℕ)} → b ≡ a → Appends a b []
+same_sent {a} e = subst (λ (x : Option (List ℕ)). Appends a x []) (sym e) (Appends-nil a)
 
-same_heard : (a b : Option (List ℕ)) → b ≡ a → Consumes a b []
-same_heard a b e = subst (λ (x : Option (List ℕ)). Consumes a x []) (sym e) (Consumes-nil a)
+same_heard : {a b : Option (List ℕ)} → b ≡ a → Consumes a b []
+same_heard {a} e = subst (λ (x : Option (List ℕ)). Consumes a x []) (sym e) (Consumes-nil a)
 
-pub same_part : (a b : Option (List ℕ)) → b ≡ a → TakesPart a b
-same_part a b e = ([], same_sent a b e)
+pub same_part : {a b : Option (List ℕ)} → b ≡ a → TakesPart a b
+same_part e = ([], same_sent e)
 
-pub same_given : (a b : Option (List ℕ)) → b ≡ a → GivesPart a b
-same_given a b e = ([], same_heard a b e)
+pub same_given : {a b : Option (List ℕ)} → b ≡ a → GivesPart a b
+same_given e = ([], same_heard e)
 
 -- what a fault leaves behind it
 pub fault_parts : (r : Request) (sent sending heard hearing : Option (List ℕ)) (fault : ExchangeFault)
     → Exchanges r sent sending heard hearing (Err fault) → TakesPart sent sending × GivesPart heard hearing
-fault_parts r sent sending heard hearing OutOfMemory h = (same_part sent sending h.0, same_given heard hearing h.1)
+fault_parts r sent sending heard hearing OutOfMemory h = (same_part h.0, same_given h.1)
 fault_parts r sent sending heard hearing fault h = h
 
 -- ---- steps
@@ -65,8 +65,8 @@ moves_one step a b text sends hears tells prints = record {
 -- no request was made
 pub moves_unmade : (why : Reason) (at : RefusalPlace) (a b : Streams) → b.sent ≡ a.sent → b.heard ≡ a.heard
     → Appends a.printed b.printed (line_of why at) → Moves (Unmade why at ∷ []) a b
-moves_unmade why at a b sent heard prints = moves_one (Unmade why at) a b (line_of why at) (same_sent a.sent b.sent sent) (same_heard a.heard b.heard heard) refl prints
+moves_unmade why at a b sent heard prints = moves_one (Unmade why at) a b (line_of why at) (same_sent sent) (same_heard heard) refl prints
 
 -- a query was given up
 pub moves_given_up : (a b : Streams) → b.sent ≡ a.sent → b.heard ≡ a.heard → Appends a.printed b.printed unanswered_line → Moves (GaveUp ∷ []) a b
-moves_given_up a b sent heard prints = moves_one GaveUp a b unanswered_line (same_sent a.sent b.sent sent) (same_heard a.heard b.heard heard) refl prints
+moves_given_up a b sent heard prints = moves_one GaveUp a b unanswered_line (same_sent sent) (same_heard heard) refl prints

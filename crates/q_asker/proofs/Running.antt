@@ -1,10 +1,10 @@
 -- Lines, run one behind the other.
-use Rattle.std.proofs.Common.{◌≡◌, ℕ, Bool, false, ◌&&◌, List, [], ◌∷◌, ◌++◌, append-nil, Option, Some, None, Result, Ok, Err, inl, inr, refl, ap, sym, ◌∙◌, subst}
-use Rattle.std.specs.Prelude.{IfOk, IsErrAnd}
+use Rattle.std.proofs.Common.{◌≡◌, ℕ, Bool, false, ◌&&◌, List, [], ◌∷◌, ◌++◌, append-nil, Option, Some, None, inl, inr, refl, ap, sym, ◌∙◌, subst}
+use Rattle.std.specs.Prelude.{Result, Ok, Err, IfOk, IsErrAnd}
 use Rattle.std.proofs.Math.Bool.{and_comm, and-true}
 use Rattle.std.proofs.lemmas.List.Folds.{list_all-append}
 use Rattle.reasons.specs.declared.Reason.{Reason}
-use Rattle.q_told.specs.Line.{line_of}
+use Rattle.q_told.specs.Line.{line_of, TakesPart}
 use Rattle.q_told.specs.declared.refusal.RefusalPlace.{RefusalPlace}
 use Rattle.q_net.specs.declared.replies.Reply.{Reply}
 use Rattle.q_net.specs.declared.replies.Reply.TheVariants as reply
@@ -15,29 +15,30 @@ use Rattle.q_asker.specs.declared.step.Halt.TheVariants.{Lost, Unwritten}
 use Rattle.q_asker.specs.declared.step.LineEnd.{LineEnd}
 use Rattle.q_asker.specs.declared.script.ClientLine.{ClientLine}
 use Rattle.q_asker.specs.declared.script.ClientLine.TheVariants as line
-use Rattle.q_asker.specs.Makes.{IsUnfit, Makes, program_number}
+use Rattle.q_asker.specs.Makes.{IsUnfit, Makes}
+use Rattle.q_table.specs.Programs.{program_id}
 use Rattle.q_asker.specs.Replies.{MayReply}
-use Rattle.q_asker.specs.Runs.{Looks, Prints, RunsLine, RunsRequest, Stops, Takes, StopsAt, TakesPart, is_done_end}
+use Rattle.q_asker.specs.Runs.{Looks, Prints, RunsLine, RunsRequest, Stops, Takes, StopsAt, is_done_end}
 use Rattle.q_asker.specs.Steps.{AreOf, AreOfAll, BeginAll, Exchanged, Follows, Moves, Step, Streams, Unmade, all_done, is_done, is_done_reply}
 use Rattle.q_asker.proofs.Beginnings.{begin_behind, begin_first, begin_none, lacking, lacking_of, of_behind}
 use Rattle.q_asker.proofs.Moves.{moves_behind, moves_none, moves_unmade, same_given, same_part}
 
 -- ---- what stopped
 
-same_halt : (h e : Halt) (a b : Streams) → e ≡ h → StopsAt h a b → StopsAt e a b
-same_halt h e a b is s = subst (λ (x : Halt). StopsAt x a b) (sym is) s
+-- what holds of a stop holds of what is known to stop so
+stopped : {A : Type 0} (P : Result A Halt → Type 0) (r : Result A Halt) (h : Halt) → IsErrAnd r (λ e. e ≡ h) → P (Err h) → P r
+stopped P (Ok x) h is s = absurd is
+stopped P (Err e) h is s = subst (λ (x : Halt). P (Err x)) (sym is) s
 
 pub takes_stop : (q : Request) (h : Halt) (a b : Streams) (r : Result (Option Reply) Halt) → IsErrAnd r (λ e. e ≡ h) → StopsAt h a b → Takes q a b r
-takes_stop q h a b (Ok x) is s = absurd is
-takes_stop q h a b (Err e) is s = same_halt h e a b is s
+takes_stop q h a b r is s = stopped (Takes q a b) r h is s
 
 pub request_stop : (q : Request) (h : Halt) (a b : Streams) (r : Result LineEnd Halt) → IsErrAnd r (λ e. e ≡ h) → StopsAt h a b → RunsRequest q a b r
-request_stop q h a b (Ok x) is s = absurd is
-request_stop q h a b (Err e) is s = same_halt h e a b is s
+request_stop q h a b r is s = stopped (RunsRequest q a b) r h is s
 
 -- the output failed as a line was printed, and nothing else was done
 pub unwritten_at : (a b : Streams) → b.sent ≡ a.sent → b.heard ≡ a.heard → TakesPart a.printed b.printed → StopsAt Unwritten a b
-unwritten_at a b sent heard prints = record { sends = same_part a.sent b.sent sent; hears = same_given a.heard b.heard heard; prints = prints }
+unwritten_at a b sent heard prints = record { sends = same_part sent; hears = same_given heard; prints = prints }
 
 pub printed_stop : {A : Type 0} (text : List ℕ) (h : Halt) (a b : Streams) (r : Result A Halt) → r ≡ Err h → b.sent ≡ a.sent → b.heard ≡ a.heard
     → Prints text a.printed b.printed r → StopsAt h a b
@@ -91,7 +92,7 @@ line_requested l q a b (Ok e) makes follows (inr h) = (lacking ∷ [], lacking_o
 line_requested l q a b (Err h) makes follows s = stops_first (l ∷ []) h a b s
 
 -- a query was asked, and then its answer
-pub line_asked : (program start number query : ℕ) (said : Reply) (a b c : Streams) (r : Result LineEnd Halt) → number ≡ program_number program
+pub line_asked : (program start number query : ℕ) (said : Reply) (a b c : Streams) (r : Result LineEnd Halt) → number ≡ program_id program
     → MayReply (request.Ask number start) said → said ≡ reply.Number query → Moves (Exchanged (request.Ask number start) said ∷ []) a b → Looks query b c r
     → RunsLine (line.Ask program start) a c r
 line_asked program start number query said a b c (Ok e) same may is m h =
@@ -103,11 +104,11 @@ line_asked program start number query said a b c (Err halt) same may is m h =
     let first = Exchanged (request.Ask number start) said in
     let (steps, looks, (between, moves, stops)) = h in
     let follows = subst (λ (x : Reply). Follows (line.Ask program start) x (steps ++ looks.0)) (sym is) looks.1 in
-    stops_behind (line.Ask program start) halt (first ∷ steps) looks.0 a between c (ap (λ (n : ℕ). request.Ask n start) same, may, follows) (moves_behind (first ∷ []) steps a b between m moves) stops
+    stops_behind (line.Ask program start) halt (first ∷ steps) looks.0 a between c (ap (λ (n : ℕ). request.Ask n start) same, may, follows)
+    (moves_behind (first ∷ []) steps a b between m moves) stops
 
 pub line_stop : (l : ClientLine) (h : Halt) (a b : Streams) (r : Result LineEnd Halt) → IsErrAnd r (λ e. e ≡ h) → StopsAt h a b → RunsLine l a b r
-line_stop l h a b (Ok x) is s = absurd is
-line_stop l h a b (Err e) is s = stops_first (l ∷ []) e a b (same_halt h e a b is s)
+line_stop l h a b r is s = stopped (RunsLine l a b) r h is (stops_first (l ∷ []) h a b s)
 
 -- ---- lines in turn
 
@@ -118,8 +119,11 @@ pub lines_more : (ls more : List ClientLine) (l : ClientLine) (clean done now : 
     → (steps : List Step) × AreOfAll more steps × Moves steps a c × (now ≡ all_done steps)
 lines_more ls more l clean done now a b c is both h k =
     let steps = h.0 ++ k.0 in
-    let all : now ≡ all_done steps = both ∙ and_comm done clean ∙ ap (λ (x : Bool). x && done) h.3 ∙ ap (λ (x : Bool). all_done h.0 && x) k.3 ∙ sym (list_all-append is_done h.0 k.0) in
-    (steps, subst (λ (x : List ClientLine). AreOfAll x steps) (sym is) (of_behind ls (l ∷ []) h.0 k.0 h.1 (k.0, [], k.1, refl, sym (append-nil k.0))), moves_behind h.0 k.0 a b c h.2 k.2, all)
+    let parts : (clean && done) ≡ (all_done h.0 && all_done k.0) = λ i. h.3 i && k.3 i in
+    let all : now ≡ all_done steps = both ∙ and_comm done clean ∙ parts ∙ sym (list_all-append is_done h.0 k.0) in
+    let last : AreOfAll (l ∷ []) k.0 = (k.0, [], k.1, refl, sym (append-nil k.0)) in
+    let of = subst (λ (x : List ClientLine). AreOfAll x steps) (sym is) (of_behind ls (l ∷ []) h.0 k.0 h.1 last) in
+    (steps, of, moves_behind h.0 k.0 a b c h.2 k.2, all)
 
 -- lines were run, and then the run stopped at one
 pub lines_stop : (ls all rest : List ClientLine) (l : ClientLine) (h : Halt) (steps : List Step) (a b c : Streams) → all ≡ ls ++ (l ∷ rest)

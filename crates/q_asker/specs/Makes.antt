@@ -1,5 +1,5 @@
 -- The request that a line makes, and why it makes none.
-use Rattle.std.specs.Prelude.{◌≡◌, ◌⊎◌, ℕ, ◌-◌, ◌^◌, ◌<◌, min, List, length}
+use Rattle.std.specs.Prelude.{◌≡◌, ◌⊎◌, ℕ, ◌<◌, List, length}
 use Rattle.reasons.specs.declared.Reason.{Reason}
 use Rattle.reasons.specs.declared.Reason.TheVariants as reasons
 use Rattle.bq_check.specs.Certificate.{Certificate}
@@ -10,6 +10,7 @@ use Rattle.q_told.specs.Refusal as refusal
 use Rattle.q_told.specs.declared.refusal.RefusalPlace.{RefusalPlace}
 use Rattle.q_told.specs.declared.refusal.RefusalPlace.TheVariants.{Untold}
 use Rattle.q_told.specs.declared.refusal.Refusal.{Refusal}
+use Rattle.q_table.specs.Programs.{program_id}
 use Rattle.q_net.specs.declared.request.Request.{Request}
 use Rattle.q_net.specs.declared.request.Request.TheVariants as request
 use Rattle.q_asker.specs.declared.script.ClientLine.{ClientLine}
@@ -18,10 +19,6 @@ use Rattle.q_asker.specs.declared.script.ClientLine.TheVariants as line
 -- the most bytes of a value in a request
 abbrev pub most_value : ℕ
 most_value = 255
-
--- the number of a program in a request; a number that is too large is that of no program
-abbrev pub program_number : ℕ → ℕ
-program_number number = min number (2 ^ 32 - 1)
 
 -- the request registers the program of these bytes, with the verifier's notes for records of 16 to 128 bytes
 abbrev pub IsRegistration : List ℕ → Request → Type 0
@@ -33,7 +30,7 @@ IsRegistration code r =
 abbrev pub Makes : ClientLine → Request → Type 0
 Makes (line.Program code) r = IsRegistration code.items r
 Makes (line.Store value) r = r ≡ request.StoreOf value.items
-Makes (line.Ask program start) r = r ≡ request.Ask (program_number program) start
+Makes (line.Ask program start) r = r ≡ request.Ask (program_id program) start
 
 -- why a line has none: its bytes are no program that the verifier takes, or its value is too long for a request
 abbrev pub IsUnfit : ClientLine → Reason → RefusalPlace → Type 0

@@ -4,7 +4,7 @@ use Rattle.std.specs.Prelude.{Option, Some, None, Result, Ok, Err}
 use Rattle.std.specs.Io.KnownBytes.{Appends, Consumes}
 use Rattle.reasons.specs.declared.Reason.TheVariants as reasons
 use Rattle.q_outside.specs.declared.files.FileFault.{FileFault}
-use Rattle.q_told.specs.Line.{line_of}
+use Rattle.q_told.specs.Line.{TakesPart, line_of}
 use Rattle.q_script.specs.declared.script.ScriptFault.{ScriptFault}
 use Rattle.q_told.specs.Refusal.{refusal_line, refusal_of}
 use Rattle.q_told.specs.declared.refusal.RefusalPlace.TheVariants.{Untold}
@@ -45,10 +45,7 @@ count_after (Ok a) before = before
 count_after (Err (Lost fault)) before = before
 count_after (Err Unwritten) before = one_more before
 
--- a writer took some bytes more, or a reader gave some
-abbrev pub TakesPart : Option (List ℕ) → Option (List ℕ) → Type 0
-TakesPart before after = (part : List ℕ) × Appends before after part
-
+-- a reader gave some bytes more
 abbrev pub GivesPart : Option (List ℕ) → Option (List ℕ) → Type 0
 GivesPart before after = (part : List ℕ) × Consumes before after part
 

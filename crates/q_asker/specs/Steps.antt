@@ -5,7 +5,7 @@ use Rattle.std.specs.Io.KnownBytes.{Appends, Consumes}
 use Rattle.std.specs.List.{flat_map, list_all}
 use Rattle.reasons.specs.Table.{number}
 use Rattle.reasons.specs.declared.Reason.{Reason}
-use Rattle.q_told.specs.Line.{line_of}
+use Rattle.q_told.specs.Line.{line_of, unanswered_line}
 use Rattle.q_told.specs.declared.refusal.RefusalPlace.{RefusalPlace}
 use Rattle.q_told.specs.declared.refusal.RefusalPlace.TheVariants.{Untold}
 use Rattle.q_net.specs.Replies.{reply_bytes}
@@ -47,9 +47,6 @@ Tells r (reply.Number n) text = text ≡ told_line (number_word r) (n ∷ [])
 Tells r reply.Open text = text ≡ []
 Tells r (reply.Answer acc steps) text = text ≡ told_line (codes "answer") (query_of r ∷ acc ∷ steps ∷ [])
 Tells r (reply.Refused n) text = (why : Reason) × (number why ≡ n) × (text ≡ line_of why Untold)
-
-abbrev pub unanswered_line : List ℕ
-unanswered_line = codes "unanswered\n"
 
 -- ---- steps
 

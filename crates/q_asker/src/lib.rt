@@ -49,7 +49,7 @@ pub use bytes::request_bytes;
 pub use command::{FileRun, run_file, run_text};
 pub use connection::{Connection, ExchangeFault, exchange};
 pub use ending::{ClientEnding, print_refusal};
-pub use making::{program_number, registration, storing};
+pub use making::{registration, storing};
 pub use replies::{ReplyKind, expected, read_reply, reason_of};
 pub use run::run_client;
 pub use script::{ClientLine, read_client_script};

@@ -7,11 +7,12 @@ ghost use Rattle.q_asker.specs.declared.script.ClientLine.TheVariants as line;
 
 use crate::connection::Connection;
 use crate::looks::look;
-use crate::making::{program_number, registration, storing};
+use crate::making::{registration, storing};
 use crate::script::ClientLine;
 use crate::step::{Cause, Halt, LineEnd, end_of, refuse_line, tell_exchange};
 use q_net::{Reply, Request};
 use q_outside::Counted;
+use q_table::ProgramId;
 use q_told::RefusalPlace;
 use reasons::Reason;
 use std::alloc::Global;
@@ -61,7 +62,7 @@ fn run_ask<T: Clock, R: Read, W: Write, O: Write>(
     ensures counted { out.new.failures ≡ count_after result out.old.failures }
 {
     let request = Request::Ask {
-        program: program_number(program),
+        program: ProgramId::of_number(program).number(),
         start,
     };
     let Some(said) = tell_exchange(alloc, &request, connection, out)? else {

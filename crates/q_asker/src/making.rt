@@ -2,7 +2,7 @@
 
 ghost use Rattle.std.specs.Prelude.{◌≡◌, ◌<◌, length, IfErr, IfOk, MatchOption};
 ghost use Rattle.q_told.specs.Programs.{IsRefusal};
-ghost use Rattle.q_asker.specs.Makes.{IsRegistration, program_number, most_value};
+ghost use Rattle.q_asker.specs.Makes.{IsRegistration, most_value};
 ghost use Rattle.q_net.specs.declared.request.Request.TheVariants as request;
 
 use q_net::{Blob, Request, Short};
@@ -34,11 +34,4 @@ pub fn storing(value: &[u8]) -> Option<Request>
     let mut bytes = [0u8; 255];
     bytes[..value.len()].copy_from_slice(value);
     Some(Request::StoreOf(Short::new(bytes, len)))
-}
-
-/// The number of a program in a request. Of a number that is too large it is the greatest, which no program has.
-pub fn program_number(number: u64) -> u32
-    ensures { result ≡ program_number number }
-{
-    u32::try_from(number).unwrap_or(u32::MAX)
 }

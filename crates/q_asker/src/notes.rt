@@ -4,10 +4,9 @@ use crate::connection::ExchangeFault;
 use crate::replies::reason_of;
 use crate::script::{ClientLine, read_line};
 use crate::step::{Cause, LineEnd};
-use bq_explain::{explain_bytes, explain_code, of_event, write_shown};
-use bq_state::Bounds;
+use bq_explain::{of_event, write_shown};
 use q_script::LineFault;
-use q_told::Refusal;
+use q_told::{Refusal, write_instruction};
 use reasons::Reason;
 use std::alloc::{AllocError, Global};
 use std::io;
@@ -19,14 +18,6 @@ fn code_of(alloc: Global, text: &str) -> Result<Vec<u8>, AllocError> {
         Ok(ClientLine::Program { code }) => Ok(code),
         Ok(_) | Err(LineFault::Form) => Ok(Vec::new(alloc)),
         Err(LineFault::OutOfMemory) => Err(AllocError),
-    }
-}
-
-/// Writes what is told, if anything is.
-fn write_any(out: &mut String, told: Option<String>) -> Result<(), AllocError> {
-    match told {
-        Some(told) => out.push_str(told.as_str()),
-        None => Ok(()),
     }
 }
 
@@ -60,15 +51,9 @@ fn write_program(
 ) -> Result<(), AllocError> {
     writeln!(out, "{refusal}")?;
     match refusal {
-        Refusal::Program(fault) => {
+        Refusal::Program(_) | Refusal::Bytes(_) => {
             let code = code_of(alloc, text)?;
-            let told = explain_code(alloc, code.as_slice(), Bounds::all(), fault)?;
-            write_any(out, told)
-        }
-        Refusal::Bytes(fault) => {
-            let code = code_of(alloc, text)?;
-            let told = explain_bytes(alloc, code.as_slice(), fault)?;
-            write_any(out, told)
+            write_instruction(alloc, out, code.as_slice(), &refusal)
         }
         _ => Ok(()),
     }

@@ -1,9 +1,9 @@
 //! The steps of a run: what was sent, heard and printed.
 
 ghost use Rattle.std.specs.Prelude.{◌≡◌, IfOk, false};
-ghost use Rattle.q_told.specs.Line.{line_of};
+ghost use Rattle.q_told.specs.Line.{line_of, unanswered_line};
 ghost use Rattle.q_asker.specs.Runs.{Prints, Takes, count_after, is_done_end};
-ghost use Rattle.q_asker.specs.Steps.{is_done_reply, streams, unanswered_line};
+ghost use Rattle.q_asker.specs.Steps.{is_done_reply, streams};
 
 use crate::connection::{Connection, ExchangeFault, exchange};
 use crate::printing::put_told;

@@ -9,7 +9,7 @@ ghost use Rattle.q_script.specs.declared.script.ScriptFault.TheVariants as scrip
 ghost use Rattle.q_told.specs.Refusal.{refusal_of};
 ghost use Rattle.q_told.specs.declared.refusal.Refusal.TheVariants as refusal;
 ghost use Rattle.q_asker.specs.Exchanges.{Exchanges};
-ghost use Rattle.q_asker.specs.Makes.{IsRegistration, program_number};
+ghost use Rattle.q_asker.specs.Makes.{IsRegistration};
 ghost use Rattle.q_asker.specs.Replies.{CanBe, expected};
 ghost use Rattle.q_asker.specs.Runs.{IsRefusedAlone, PrintsLost, status_of};
 ghost use Rattle.q_asker.specs.Script.{AreLines, IsFault, SpellsLine};
@@ -25,10 +25,6 @@ pub fn worked()
     ensures stored { (value : _) → value.items ≡ 5 ∷ 255 ∷ [] → SpellsLine (codes "store x05fF") (line.Store value) }
     ensures asked { SpellsLine (codes "ask 3 7") (line.Ask 3 7) }
     ensures no_line { AreLines [] [] }
-
-    // The number of a program that is too large for a request.
-    ensures small { program_number 4294967295 ≡ 4294967295 }
-    ensures large { program_number 4294967296 ≡ 4294967295 }
 
     // Replies: what a reply may be goes by its request.
     ensures look { expected (request.Answer 7) ≡ kind.Answer }

@@ -1,23 +1,62 @@
--- A step that changes one slot and one view keeps the rule.
-use Rattle.std.proofs.Common.{◌≡◌, ◌≢◌, ◌⊎◌, ℕ, zero, suc, ◌+◌, ◌*◌, ◌<◌, ◌≤◌, List, [], ◌∷◌, map, length, set, get_or, refl, sym, ap, ◌∙◌, subst, ⊎_elim, arith, length-set, Option}
+-- What steps ask and tell, and that a step that changes one slot and one view keeps the rule.
+use Rattle.std.proofs.Common.{◌≡◌, ◌≢◌, ◌⊎◌, ℕ, zero, suc, ◌+◌, ◌*◌, ◌<◌, ◌≤◌, List, [], ◌∷◌, map, length}
+use Rattle.std.proofs.Common.{set, get_or, refl, sym, ap, ◌∙◌, subst, ⊎_elim, arith, length-set, Option}
 use Rattle.std.proofs.lemmas.List.{map-set}
 use Rattle.std.specs.Prelude.{Contains}
 use mathlib.Core.Option as opt
-use mathlib.Core.Option.{some, some-injective, some-ne-none}
+use mathlib.Core.Option.{some, none, some-injective, some-ne-none}
 use mathlib.Core.Logic.{dite}
 use native.Mathlib.Decide.{ℕ_discrete}
 use lib.ListN.{get_elem?}
-use Rattle.atomic_table.specs.Table.{State}
+use Rattle.atomic_table.specs.declared.shared.Seat.{Seat}
+use Rattle.atomic_table.specs.Table.{State, step, Allows, rest}
 use Rattle.atomic_table.proofs.Lists.{at_set, set_here, set_else}
+use Rattle.q_board.specs.BoardId.{board_id}
 use Rattle.q_board.specs.Phase.{Phase, claimed, finished, code, shelf, job_of, held_by, IsFresh, IsFinished}
+use Rattle.q_board.specs.Plays.{Sat, PlayOf}
 use Rattle.q_board.specs.Rule.{place, FitsSlot, Fits, Orderly}
 use Rattle.q_session.specs.declared.job.Job.{Job}
 use Rattle.q_session.specs.Done.{Finished}
+use Rattle.q_board.specs.declared.board.Board.{Board}
 use Rattle.q_board.specs.declared.cell.Content.{Content}
+use Rattle.q_board.specs.declared.cell.Content.TheVariants.{Vacant}
 use Rattle.q_board.specs.declared.view.Asking.{Asking}
 use Rattle.q_board.specs.declared.view.Running.{Running}
 use Rattle.q_board.specs.declared.view.Holder.{Holder}
 use Rattle.q_board.specs.declared.view.Holder.TheVariants.{Maker, Asker, Runner}
+
+-- ---- what a step asks and tells
+
+-- the rule allows the seat a step that makes f of the word i
+abbrev pub Allowed : PlayOf → ℕ → ℕ → ℕ → Sat → ℕ → (ℕ → ℕ) → Type 0
+Allowed play key slots id me i f = Allows (Orderly key) slots id me i f (play (step slots i 0 0 none) me)
+
+-- what the board asks of the seat v before such a step
+abbrev pub Asks : PlayOf → Board → Seat Content Holder → ℕ → (ℕ → ℕ) → Type 0
+Asks play b v i f = (v.table_id ≡ board_id b) × (i < (board_id b).words) × Allowed play b.table.shared.key (board_id b).slots v.id v.me i f
+
+-- the step found r in the word i, and the seat v is w then
+abbrev pub Tells : PlayOf → ℕ → Seat Content Holder → ℕ → Seat Content Holder → Type 0
+Tells play i v r w = (w.table_id ≡ v.table_id) × (w.id ≡ v.id) × play (step 0 i 0 0 none) v.me r w.me
+
+-- what was in the slot i is taken out of it, and the seat v is w then
+abbrev pub Empties : ℕ → Seat Content Holder → Content → Seat Content Holder → Type 0
+Empties i v was w = (w.table_id ≡ v.table_id) × (w.id ≡ v.id) × (v.me.1 ≡ (i, was) ∷ rest v.me.1) × (w.me ≡ (v.me.0, (i, Vacant) ∷ rest v.me.1))
+
+slots_are : (b : Board) → (board_id b).slots ≡ b.table.shared.key
+slots_are b = b.sized.1 ∙ sym b.sized.2
+
+-- an allowed step, at the names that the board and its seat have
+pub asks : (play : PlayOf) (b : Board) (v : Seat Content Holder) (i : ℕ) (f g : ℕ → ℕ) {me : Sat} {j : ℕ} → v.table_id ≡ board_id b
+    → i < (board_id b).words → v.me ≡ me → i ≡ j → f ≡ g → Allowed play b.table.shared.key b.table.shared.key v.id me j g → Asks play b v i f
+asks play b v i f g on has_word me_is i_is f_is allowed = (
+  on,
+  has_word,
+  subst (λ (x : ℕ × Sat × ℕ × (ℕ → ℕ)). Allowed play b.table.shared.key x.0 v.id x.1 x.2 x.3)
+      (λ e. (sym (slots_are b) e, sym me_is e, sym i_is e, sym f_is e)) allowed,
+)
+
+-- ---- one step
 
 abbrev pub board : List ℕ → List (opt.Option Content) → List Holder → State Content Holder
 board ws hs vs = record { words = ws; homes = hs; views = vs }

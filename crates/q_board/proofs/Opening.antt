@@ -1,15 +1,21 @@
 -- How a board opens.
-use Rattle.std.proofs.Common.{◌≡◌, ◌⊎◌, ℕ, zero, suc, ◌+◌, ◌*◌, ◌<◌, ◌≤◌, List, [], ◌∷◌, ◌++◌, map, length, set, refl, sym, ap, ◌∙◌, subst, inl, inr, ⊎_elim, arith, length-set, length-append, Option, Some, None, replicate, cond, ne_eqb}
-use Rattle.std.proofs.lemmas.List.{length-replicate}
+use Rattle.std.proofs.Common.{◌≡◌, ◌⊎◌, ℕ, zero, suc, ◌+◌, ◌*◌, ◌<◌, ◌≤◌, List, All, [], ◌∷◌, ◌++◌, map, length, set, refl, sym, ap, ◌∙◌}
+use Rattle.std.proofs.Common.{subst, inl, inr, ⊎_elim, arith, length-set, length-append, Option, Some, None, replicate, cond, ne_eqb}
+use Rattle.std.proofs.lemmas.List.{length-replicate, get_or-replicate}
+use Rattle.std.proofs.lemmas.List.Elements.{All-push}
 use mathlib.Core.Option.{some, some-injective, some-ne-none}
 use mathlib.Core.Logic.{dite}
 use native.Mathlib.Decide.{ℕ_discrete}
+use lib.LanesLaws.{map-replicate}
 use lib.ListN.{get_elem?}
+use Rattle.atomic_table.specs.Seated.{TableId}
 use Rattle.atomic_table.specs.Table.{State, opening, Splits}
-use Rattle.atomic_table.proofs.Lists.{at_set, at_longer, set_else}
+use Rattle.atomic_table.proofs.Lists.{at_set, at_index, at_longer, set_else}
 use Rattle.q_board.specs.Phase.{Phase, fresh, empty, ready, claimed, finished, code, shelf, job_of, held_by, IsFresh}
 use Rattle.q_board.specs.Rule.{maker, place, Fits, Orderly}
 use Rattle.q_board.specs.Plays.{new_asking, new_running, next_maker, first_asker, first_runner}
+use Rattle.q_board.specs.AskerModel.{AskerModel, opened_asker, opened_askers}
+use Rattle.q_board.specs.RunnerModel.{RunnerModel, opened_runner, opened_runners}
 use Rattle.q_session.specs.declared.job.Job.{Job}
 use Rattle.q_board.specs.declared.cell.Content.{Content}
 use Rattle.q_board.specs.declared.cell.Content.TheVariants as cell
@@ -25,19 +31,13 @@ module _ {A : Type 0} where
   at_replicate (suc n) (suc i) a b e = at_replicate n i a b e
 
   replicate_at : (n i : ℕ) (a : A) → i < n → get_elem? (replicate n a) i ≡ some a
-  replicate_at zero i a h = absurd (omega arith)
-  replicate_at (suc n) zero a h = refl
-  replicate_at (suc n) (suc i) a h = replicate_at n i a (omega arith)
+  replicate_at n i a h = at_index (replicate n a) i a (omega (arith, length-replicate n a)) (sym (get_or-replicate n i a a h))
 
   at_end : (l : List A) (a b : A) (j : ℕ) → get_elem? (l ++ a ∷ []) j ≡ some b → (get_elem? l j ≡ some b) ⊎ ((j ≡ length l) × (a ≡ b))
   at_end [] a b zero e = inr (refl, some-injective a b e)
   at_end [] a b (suc j) e = absurd (some-ne-none b (sym e))
   at_end (x ∷ xs) a b zero e = inl e
   at_end (x ∷ xs) a b (suc j) e = ⊎_elim inl (λ t. inr (ap suc t.0, t.1)) (at_end xs a b j e)
-
-map-replicate : {A B : Type 0} (f : A → B) (n : ℕ) (a : A) → map f (replicate n a) ≡ replicate n (f a)
-map-replicate f zero a = refl
-map-replicate {B = B} f (suc n) a = ap (λ (l : List B). f a ∷ l) (map-replicate f n a)
 
 pub opens : (lanes : ℕ) (words : List ℕ) (cells : List Content) → words ≡ replicate lanes 0 → cells ≡ replicate lanes cell.Vacant
     → Orderly lanes (opening words cells (maker lanes 0))
@@ -51,7 +51,7 @@ opens lanes words cells ws cs =
       words = ws ∙ sym (map-replicate code lanes fresh);
       homes = ap (map some) cs ∙ map-replicate some lanes cell.Vacant ∙ sym (map-replicate shelf lanes fresh);
       placed = λ id v e. let t = only id v e in ap place (sym t.1) ∙ sym t.0;
-      fits = λ id v e. let t = only id v e in subst (Fits F 1) t.1 (refl, sym (length-replicate lanes fresh), λ i p at le. sym (at_replicate lanes i fresh p at));
+      fits = λ id v e. subst (Fits F 1) (only id v e).1 (refl, sym (length-replicate lanes fresh), λ i p at le. sym (at_replicate lanes i fresh p at));
       claimant = λ i r j e. let z = at_replicate lanes i fresh (claimed r j) e in cc;
       source = λ i d e. let z = at_replicate lanes i fresh (finished d) e in cc;
     }
@@ -90,15 +90,15 @@ module _ (lanes made id : ℕ) (right : Holder) (place_is : place right ≡ made
         fits = λ k u e. subst (λ (n : ℕ). Fits o.phases n u) (sym long) (⊎_elim
             (λ t. ⊎_elim
             (λ y. subst (Fits o.phases (length s.views + 1)) y.1 (omega arith, f.1, λ i p at le. f.2 i p at (omega arith)))
-            (λ y. let sits = o.placed k u y.1 in let y₀ = y.0 in seats_more o.phases (length s.views) u (omega arith) (o.fits k u y.1)) (at_set s.views id k left u t))
+            (λ y. seats_more o.phases (length s.views) u (omega (arith, y.0, o.placed k u y.1)) (o.fits k u y.1)) (at_set s.views id k left u t))
             (λ t. subst (Fits o.phases (length s.views + 1)) t.1 (fits_right s o seats f.2)) (at_end views right u k e));
         claimant = λ i r j e. let x = o.claimant i r j e in (x.0, keep r x.0 x.1);
         source = λ i d e. let x = o.source i d e in (x.0, x.1, keep x.0 x.1 x.2, x.3);
       }
 
-pub splits_asker : (lanes made id : ℕ) → 8 * made + 8 ≤ lanes
-    → Splits (Orderly lanes) id (maker lanes made) (next_maker (maker lanes made)) (first_asker (maker lanes made))
-splits_asker lanes made id room = parts lanes made id (Asker (new_asking made)) refl
+pub asker_split : (lanes made id : ℕ) (v : Holder) → v ≡ maker lanes made → 8 * made + 8 ≤ lanes → Splits (Orderly lanes) id v (next_maker v) (first_asker v)
+asker_split lanes made id v is room = subst (λ (x : Holder). Splits (Orderly lanes) id x (next_maker x) (first_asker x)) (sym is)
+    (parts lanes made id (Asker (new_asking made)) refl
     (λ s o seats none_yet. let count = o.count in (
       omega arith,
       refl,
@@ -109,7 +109,7 @@ splits_asker lanes made id room = parts lanes made id (Asker (new_asking made)) 
         (λ _. p_is),
         (λ none. cc),
       ),
-    ))
+    )))
 
 -- no slot is claimed by a runner that there is not
 unheld : (lanes made : ℕ) (s : State Content Holder) (o : Orderly lanes s) → length s.views ≡ made + 1 → (i : ℕ) (p : Phase)
@@ -121,14 +121,26 @@ unheld lanes made s o seats i (claimed r j) e = let x = o.claimant i r j e in le
     ap (λ b. cond b (Some j) None) (ne_eqb r (made + 1) (λ z. absurd (omega arith)))
 unheld lanes made s o seats i (finished d) e = refl
 
-pub splits_runner : (lanes made id : ℕ) → Splits (Orderly lanes) id (maker lanes made) (next_maker (maker lanes made)) (first_runner (maker lanes made))
-splits_runner lanes made id = parts lanes made id (Runner (new_running lanes (made + 1))) refl
+pub runner_split : (lanes made id : ℕ) (v : Holder) → v ≡ maker lanes made → Splits (Orderly lanes) id v (next_maker v) (first_runner v)
+runner_split lanes made id v is = subst (λ (x : Holder). Splits (Orderly lanes) id x (next_maker x) (first_runner x)) (sym is)
+    (parts lanes made id (Runner (new_running lanes (made + 1))) refl
     (λ s o seats none_yet. λ i p e.
-    replicate_at lanes i None (omega (arith, o.count, at_lt o.phases i p e)) ∙ ap (λ (y : Option Job). some y) (sym (unheld lanes made s o seats i p e)))
+    replicate_at lanes i None (omega (arith, o.count, at_lt o.phases i p e)) ∙ ap (λ (y : Option Job). some y) (sym (unheld lanes made s o seats i p e))))
 
--- the same where the maker's view is known by an equation
-pub asker_split : (key made id : ℕ) (v : Holder) → v ≡ maker key made → 8 * made + 8 ≤ key → Splits (Orderly key) id v (next_maker v) (first_asker v)
-asker_split key made id v is room = subst (λ (x : Holder). Splits (Orderly key) id x (next_maker x) (first_asker x)) (sym is) (splits_asker key made id room)
+-- ---- the seats are the board's
 
-pub runner_split : (key made id : ℕ) (v : Holder) → v ≡ maker key made → Splits (Orderly key) id v (next_maker v) (first_runner v)
-runner_split key made id v is = subst (λ (x : Holder). Splits (Orderly key) id x (next_maker x) (first_runner x)) (sym is) (splits_runner key made id)
+askers_board : (z : TableId) (n : ℕ) → All (λ (a : AskerModel). a.table ≡ z) (opened_askers z n)
+askers_board z zero = λ k d h. absurd (omega arith)
+askers_board z (suc n) = All-push (λ (a : AskerModel). a.table ≡ z) (opened_askers z n) (opened_asker z n) (askers_board z n) refl
+
+runners_board : (z : TableId) (lanes askers n : ℕ) → All (λ (r : RunnerModel). r.table ≡ z) (opened_runners z lanes askers n)
+runners_board z lanes askers zero = λ k d h. absurd (omega arith)
+runners_board z lanes askers (suc n) =
+    All-push (λ (r : RunnerModel). r.table ≡ z) (opened_runners z lanes askers n) (opened_runner z lanes (askers + n + 1)) (runners_board z lanes askers n) refl
+
+pub all_askers : (z : TableId) (n : ℕ) (seats : List AskerModel) → seats ≡ opened_askers z n → All (λ (a : AskerModel). a.table ≡ z) seats
+all_askers z n seats e = subst (λ (l : List AskerModel). All (λ (a : AskerModel). a.table ≡ z) l) (sym e) (askers_board z n)
+
+pub all_runners : (z : TableId) (lanes askers n : ℕ) (seats : List RunnerModel) → seats ≡ opened_runners z lanes askers n
+    → All (λ (r : RunnerModel). r.table ≡ z) seats
+all_runners z lanes askers n seats e = subst (λ (l : List RunnerModel). All (λ (r : RunnerModel). r.table ≡ z) l) (sym e) (runners_board z lanes askers n)

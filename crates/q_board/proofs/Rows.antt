@@ -1,7 +1,8 @@
 -- Places in a row of jobs.
-use Rattle.std.proofs.Common.{◌≡◌, ◌≢◌, ℕ, zero, suc, ◌+◌, ◌<◌, ◌≤◌, eqb, cond, List, [], ◌∷◌, ◌++◌, length, set, refl, sym, ap, ◌∙◌, subst, arith, length-append, Option, Some, None, eq-eqb, ne_eqb, true, false, ◌||◌, replicate}
+use Rattle.std.proofs.Common.{◌≡◌, ◌≢◌, ℕ, zero, suc, ◌+◌, ◌<◌, ◌≤◌, eqb, cond, List, [], ◌∷◌, ◌++◌, length, set, refl, sym}
+use Rattle.std.proofs.Common.{ap, ◌∙◌, subst, arith, Option, Some, None, eq-eqb, ne_eqb, true, false, ◌||◌, replicate}
 use Rattle.std.specs.List.{list_any}
-use Rattle.std.proofs.lemmas.List.{replicate-append-replicate}
+use Rattle.std.proofs.lemmas.List.{map-append}
 use mathlib.Core.Option.{some, some-injective, some-ne-none}
 use mathlib.Core.Logic.{dite}
 use native.Mathlib.Decide.{ℕ_discrete}
@@ -82,23 +83,19 @@ pub times-append : (k : ℕ) (xs ys : List ℕ) → times k (xs ++ ys) ≡ times
 times-append k [] ys = omega arith
 times-append k (x ∷ xs) ys = omega (arith, times-append k xs ys)
 
-pub bare-append : (n : ℕ) (xs ys : List ℕ) → bare n (xs ++ ys) ≡ bare n xs ++ bare n ys
-bare-append n [] ys = refl
-bare-append n (x ∷ xs) ys = ap (λ (l : List (ℕ × Content)). (n + x, Vacant) ∷ l) (bare-append n xs ys)
-
 -- one turn of a queue
-module _ (k x : ℕ) (xs old new : List ℕ) (old_is : old ≡ x ∷ xs) (new_is : new ≡ xs ++ x ∷ []) where
-  pub turn_nearer : 0 < times k old → x ≢ k → ahead k new < ahead k old
-  turn_nearer h n = omega (arith, ap (ahead k) old_is, ap (ahead k) new_is, ahead_else k x xs n, ahead-append k xs (x ∷ []) (omega (arith, ap (times k) old_is, times_else k x xs (λ z. n (sym z)))))
+module _ {x : ℕ} {xs old new : List ℕ} (old_is : old ≡ x ∷ xs) (new_is : new ≡ xs ++ x ∷ []) where
+  pub turn_nearer : (k : ℕ) → 0 < times k old → x ≢ k → ahead k new < ahead k old
+  turn_nearer k h n =
+      let behind : 0 < times k xs = omega (arith, ap (times k) old_is, times_else k x xs (λ z. n (sym z))) in
+      omega (arith, ap (ahead k) old_is, ap (ahead k) new_is, ahead_else k x xs n, ahead-append k xs (x ∷ []) behind)
 
   pub turn_times : (i : ℕ) → times i new ≡ times i old
   turn_times i = omega (arith, ap (times i) old_is, ap (times i) new_is, times-append i xs (x ∷ []))
 
   pub turn_bare : (mine : List (ℕ × Content)) → mine ≡ bare 0 old → turned mine ≡ bare 0 new
-  turn_bare mine e = ap turned e ∙ ap (λ (l : List ℕ). turned (bare 0 l)) old_is ∙ sym (bare-append 0 xs (x ∷ [])) ∙ ap (bare 0) (sym new_is)
-
-  pub turn_length : length new ≡ length old
-  turn_length = omega (arith, ap length old_is, ap length new_is, length-append xs (x ∷ []))
+  turn_bare mine e =
+      ap turned e ∙ ap (λ (l : List ℕ). turned (bare 0 l)) old_is ∙ sym (map-append (λ (k : ℕ). (0 + k, Vacant)) xs (x ∷ [])) ∙ ap (bare 0) (sym new_is)
 
 pub has_at : (row : List (Option Job)) (k : ℕ) (j : Job) → get_elem? row k ≡ some (Some j) → has row k ≡ 1
 has_at [] k j e = absurd (some-ne-none (Some j) (sym e))
@@ -174,9 +171,3 @@ down (suc n) = n ∷ down n
 pub down_times : (n k : ℕ) → times k (down n) ≡ lacks (replicate n None) k
 down_times zero k = refl
 down_times (suc n) k = omega (arith, down_times n k, lacks_nones n k)
-
-pub down_next : (n : ℕ) (xs : List ℕ) → xs ≡ down n → n ∷ xs ≡ down (n + 1)
-down_next n xs e = let s : n + 1 ≡ suc n = omega arith in ap (λ (l : List ℕ). n ∷ l) e ∙ ap down (sym s)
-
-pub one_more : {A : Type 0} (n : ℕ) (a : A) (xs : List A) → xs ≡ replicate n a → xs ++ a ∷ [] ≡ replicate (n + 1) a
-one_more {A} n a xs e = ap (λ (l : List A). l ++ a ∷ []) e ∙ replicate-append-replicate n 1 a

@@ -1,13 +1,17 @@
 -- Each step of a runner keeps the rule.
-use Rattle.std.proofs.Common.{◌≡◌, ◌≢◌, ◌⊎◌, ℕ, zero, suc, ◌+◌, ◌<◌, eqb, cond, List, [], ◌∷◌, ◌++◌, map, length, set, get_or, refl, sym, ap, ◌∙◌, subst, inl, inr, ⊎_elim, arith, length-append, Option, Some, None, eq-eqb, ne_eqb}
+use Rattle.std.proofs.Common.{◌≡◌, ◌≢◌, ◌⊎◌, ℕ, ◌+◌, ◌<◌, eqb, cond, List, [], ◌∷◌, ◌++◌, map, length, set, get_or, refl}
+use Rattle.std.proofs.Common.{sym, ap, ◌∙◌, subst, inl, inr, ⊎_elim, arith, Option, Some, None, eq-eqb, ne_eqb}
+use Rattle.std.proofs.lemmas.Bool.{eqb-true}
+use Rattle.std.proofs.lemmas.List.Elements.{Contains-append_left, Contains-push}
+use Rattle.std.proofs.lemmas.Option.{cond_some}
 use Rattle.std.specs.Prelude.{Contains}
 use mathlib.Core.Option as opt
-use mathlib.Core.Option.{some, none, some-injective, some-ne-none}
+use mathlib.Core.Option.{some, none, some-injective}
 use mathlib.Core.Logic.{dite}
 use native.Mathlib.Decide.{ℕ_discrete}
 use prog.Atomic.{either}
 use lib.ListN.{get_elem?}
-use Rattle.atomic_table.specs.Table.{State, step, keeps, takes, gives, Allows}
+use Rattle.atomic_table.specs.Table.{State, keeps, takes, gives}
 use Rattle.atomic_table.proofs.Lists.{at_set, set_here, set_else}
 use Rattle.q_board.specs.Phase.{Phase, fresh, empty, ready, claimed, finished, code, shelf, held_by}
 use Rattle.q_board.specs.Rule.{place, Orderly}
@@ -20,24 +24,9 @@ use Rattle.q_board.specs.declared.found.Look.{Look}
 use Rattle.q_board.specs.declared.view.Running.{Running}
 use Rattle.q_board.specs.declared.view.Holder.{Holder}
 use Rattle.q_board.specs.declared.view.Holder.TheVariants.{Runner}
-use Rattle.q_board.proofs.Moves.{board, at_lt, there, Alike, others, moves}
-use Rattle.q_board.proofs.AskerSteps.{word_is, home_is, home_set, home_same, some_injective}
-
-module _ {A : Type 0} where
-  get_or-front : (xs ys : List A) (k : ℕ) (d : A) → k < length xs → get_or (xs ++ ys) k d ≡ get_or xs k d
-  get_or-front [] ys k d h = absurd (omega arith)
-  get_or-front (x ∷ xs) ys zero d h = refl
-  get_or-front (x ∷ xs) ys (suc k) d h = get_or-front xs ys k d (omega arith)
-
-  get_or-last : (xs : List A) (x d : A) → get_or (xs ++ x ∷ []) (length xs) d ≡ x
-  get_or-last [] x d = refl
-  get_or-last (y ∷ xs) x d = get_or-last xs x d
-
-  pub contains-more : (xs ys : List A) (d : A) → Contains xs d → Contains (xs ++ ys) d
-  contains-more xs ys d c = let h = c.1 in (c.0, omega (arith, length-append xs ys), get_or-front xs ys c.0 d c.1 ∙ c.2)
-
-  pub contains-last : (xs : List A) (d : A) → Contains (xs ++ d ∷ []) d
-  contains-last xs d = (length xs, omega (arith, length-append xs (d ∷ [])), get_or-last xs d d)
+use Rattle.q_board.proofs.Moves.{Allowed, board, at_lt, there, Alike, others, moves}
+use Rattle.q_board.proofs.AskerSteps.{word_is, home_is, home_set, home_same}
+use Rattle.q_desk.proofs.Accepted.{same_some}
 
 pub held_yes : (n : ℕ) (j : Job) → held_by n (claimed n j) ≡ Some j
 held_yes n j = ap (λ b. cond b (Some j) None) (eq-eqb n n refl)
@@ -45,14 +34,20 @@ held_yes n j = ap (λ b. cond b (Some j) None) (eq-eqb n n refl)
 pub held_no : (n r : ℕ) (j : Job) → r ≢ n → held_by n (claimed r j) ≡ None
 held_no n r j ne = ap (λ b. cond b (Some j) None) (ne_eqb r n ne)
 
-pub held_by-some : (n : ℕ) (p : Phase) (j : Job) → held_by n p ≡ Some j → p ≡ claimed n j
+held_by-some : (n : ℕ) (p : Phase) (j : Job) → held_by n p ≡ Some j → p ≡ claimed n j
 held_by-some n fresh j e = cc
 held_by-some n empty j e = cc
 held_by-some n (ready x) j e = cc
-held_by-some n (claimed r x) j e = dite (ℕ_discrete r n)
-    (λ same. let y : x ≡ j = some_injective x j (sym (ap (λ b. cond b (Some x) None) (eq-eqb r n same)) ∙ e) in cc)
-    (λ ne. let z : None ≡ Some j = sym (held_no n r x ne) ∙ e in cc)
+held_by-some n (claimed r x) j e = let is = cond_some (eqb r n) x j e in let same : r ≡ n = eqb-true r n is.0 in let y : x ≡ j = is.1 in cc
 held_by-some n (finished d) j e = cc
+
+-- the slot of a claim is claimed
+pub claim_stands : (lanes : ℕ) (s : State Content Holder) (o : Orderly lanes s) (id : ℕ) (r : Running) (i : ℕ) (j : Job)
+    → get_elem? s.views id ≡ some (Runner r) → i < length o.phases → get_elem? r.held i ≡ some (Some j) → get_elem? o.phases i ≡ some (claimed r.number j)
+claim_stands lanes s o id r i j me near mine =
+    let t = there o.phases i near in
+    let job_is = some-injective (held_by r.number t.0) (Some j) (sym (o.fits id (Runner r) me i t.0 t.1) ∙ mine) in
+    t.1 ∙ ap (λ (y : Phase). some y) (held_by-some r.number t.0 j job_is)
 
 pub ready_code : (p : Phase) → code p ≡ 1 → (j : Job) × (p ≡ ready j)
 ready_code fresh e = absurd (omega arith)
@@ -89,8 +84,7 @@ module _ (lanes : ℕ) (s : State Content Holder) (o : Orderly lanes s) (id : �
       (λ d e. ⊎_elim inl (λ z. inr (now, refl, z)) (ends d e))
 
 module _ (lanes id : ℕ) (r : Running) (i : ℕ) (near : i < lanes) where
-  pub tries : (mine : List (ℕ × Content))
-      → Allows (Orderly lanes) lanes id (Runner r, mine) i (λ n. either (eqb n 1) (3 + r.number) n) (tried (step lanes i 1 (3 + r.number) none) (Runner r, mine))
+  pub tries : (mine : List (ℕ × Content)) → Allowed tried lanes lanes id (Runner r, mine) i (λ n. either (eqb n 1) (3 + r.number) n)
   tries mine s o wide me small =
       let f = o.fits id (Runner r) me in
       let t = there o.phases i (omega (arith, o.count)) in let p = t.0 in
@@ -134,13 +128,10 @@ module _ (lanes id : ℕ) (r : Running) (i : ℕ) (near : i < lanes) where
       ))
 
   pub finishes : (more : List (ℕ × Content)) (d : Finished) → get_elem? r.held i ≡ some (Some d.job)
-      → Allows (Orderly lanes) lanes id (Runner r, (i, cell.Finished d) ∷ more) i (λ _. 2) (λ _. ended (step lanes i 2 0 none) (Runner r, (i, cell.Finished d) ∷ more) 2)
+      → Allowed ended lanes lanes id (Runner r, (i, cell.Finished d) ∷ more) i (λ _. 2)
   finishes more d mine s o wide me small =
-      let f = o.fits id (Runner r) me in
-      let t = there o.phases i (omega (arith, o.count)) in let p = t.0 in
-      let p_is = held_by-some r.number p d.job (some-injective (held_by r.number p) (Some d.job) (sym (f i p t.1) ∙ mine)) in
       let c : Phase = claimed r.number d.job in
-      let is : get_elem? o.phases i ≡ some c = t.1 ∙ ap (λ (y : Phase). some y) p_is in (
+      let is = claim_stands lanes s o id r i d.job me (omega (arith, o.count)) mine in (
         Runner (finishing r i (cell.Finished d)),
         gives,
         tt,
@@ -150,20 +141,17 @@ module _ (lanes id : ℕ) (r : Running) (i : ℕ) (near : i < lanes) where
             (λ k ne. sym (held_no k r.number d.job (λ z. ne (sym z))))
             (set_here r.held i None (at_lt r.held i (Some d.job) mine))
             (λ k ne. set_else r.held i k None ne)
-            (λ e. contains-more r.finished (d ∷ []) e)
+            (λ e. Contains-append_left r.finished (d ∷ []) e)
             (λ k x e. cc)
-            (λ e eq. let y : d ≡ e = cc in inr (subst (Contains (r.finished ++ d ∷ [])) y (contains-last r.finished d))),
+            (λ e eq. let y : d ≡ e = cc in inr (subst (Contains (r.finished ++ d ∷ [])) y (Contains-push r.finished d))),
         refl,
       )
 
   pub gives_back : (more : List (ℕ × Content)) (j : Job) → get_elem? r.held i ≡ some (Some j)
-      → Allows (Orderly lanes) lanes id (Runner r, (i, cell.Offered j) ∷ more) i (λ _. 1) (λ _. given_back (step lanes i 1 0 none) (Runner r, (i, cell.Offered j) ∷ more) 1)
+      → Allowed given_back lanes lanes id (Runner r, (i, cell.Offered j) ∷ more) i (λ _. 1)
   gives_back more j mine s o wide me small =
-      let f = o.fits id (Runner r) me in
-      let t = there o.phases i (omega (arith, o.count)) in let p = t.0 in
-      let p_is = held_by-some r.number p j (some-injective (held_by r.number p) (Some j) (sym (f i p t.1) ∙ mine)) in
       let c : Phase = claimed r.number j in
-      let is : get_elem? o.phases i ≡ some c = t.1 ∙ ap (λ (y : Phase). some y) p_is in (
+      let is = claim_stands lanes s o id r i j me (omega (arith, o.count)) mine in (
         Runner (returning r i),
         gives,
         tt,

@@ -1,5 +1,6 @@
 -- One turn more of the pump.
-use Rattle.std.proofs.Common.{◌≡◌, ◌≢◌, ℕ, zero, suc, ◌+◌, ◌*◌, ◌≤◌, Bool, true, false, List, [], ◌∷◌, ◌++◌, map, length, take, replicate, refl, sym, ap, ◌∙◌, subst, arith, Option, Some, None, Ok, Err, inl, inr, length-append, append_assoc, append-nil, add-one}
+use Rattle.std.proofs.Common.{◌≡◌, ◌≢◌, ℕ, zero, suc, ◌+◌, ◌*◌, ◌≤◌, Bool, true, false, List, [], ◌∷◌, ◌++◌, map, length, take, replicate, refl}
+use Rattle.std.proofs.Common.{sym, ap, ◌∙◌, subst, arith, Option, Some, None, Ok, inl, inr, length-append, append_assoc, append-nil, add-one}
 use Rattle.std.proofs.lemmas.List.{map-append, replicate-append-replicate}
 use Rattle.std.specs.Int.{from_bool}
 use Rattle.std.specs.Prelude.{slice_set}
@@ -19,7 +20,7 @@ use Rattle.q_desk.specs.declared.journal.Entry.{Entry}
 use Rattle.q_desk.specs.declared.journal.Call.TheVariants as call
 use Rattle.q_desk.specs.declared.journal.Entry.TheVariants as entry
 use Rattle.q_book.specs.State.{BookState}
-use Rattle.q_book.specs.Books.{handed_out, posted}
+use Rattle.q_book.specs.Books.{handed_out}
 use Rattle.q_book.specs.Noted.{PostsAreNoted, HandOutsAreNoted}
 use Rattle.q_board.specs.Looks.{slots_of, is_finished, showing}
 use Rattle.q_board.specs.Pumped.{open_slots, Posts, HandsOut, post_of}
@@ -35,7 +36,7 @@ not_shown found.Finished n = absurd (n refl)
 not_shown (found.Claimed r) n = refl
 
 -- what stands behind a list that has grown twice
-grown : {A : Type 0} {y z : List A} (x first more : List A) → y ≡ x ++ first → z ≡ y ++ more → z ≡ x ++ (first ++ more)
+pub grown : {A : Type 0} {y z : List A} (x first more : List A) → y ≡ x ++ first → z ≡ y ++ more → z ≡ x ++ (first ++ more)
 grown x first more e f = f ∙ ap (λ l. l ++ more) e ∙ append_assoc x first more
 
 open_none : (i k : ℕ) (row : List (Option Job)) → is_at row k None → open_slots i (take (suc k) row) ≡ open_slots i (take k row)
@@ -171,7 +172,8 @@ offers_one a a₁ a₂ b b₁ b₂ n r noted o = let j = o.0 in let now = o.3.1 
   hands = hands_more b b₁ b₂ r.handed j r.hands o.2;
   journal =
       grown b.desk.journal (replicate (length r.handed) (entry.Call call.HandOut)) (entry.Call call.HandOut ∷ []) r.journal (noted b₁ j b₂ o.2)
-      ∙ ap (λ (l : List Entry). b.desk.journal ++ l) (replicate-append-replicate (length r.handed) 1 (entry.Call call.HandOut) ∙ ap (λ (x : ℕ). replicate x (entry.Call call.HandOut)) (sym (length-append r.handed (j ∷ []))));
+      ∙ ap (λ (l : List Entry). b.desk.journal ++ l) (replicate-append-replicate (length r.handed) 1 (entry.Call call.HandOut))
+      ∙ ap (λ (n : ℕ). b.desk.journal ++ replicate n (entry.Call call.HandOut)) (sym (length-append r.handed (j ∷ [])));
   balance = omega (arith, r.balance, o.4);
   count = omega (arith, length-append r.handed (j ∷ []), r.count);
   same = (ap (λ (x : AskerModel). x.table) now ∙ r.same.0, ap (λ (x : AskerModel). x.number) now ∙ r.same.1);

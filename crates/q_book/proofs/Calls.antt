@@ -26,19 +26,21 @@ use Rattle.q_book.specs.declared.answer.Delivery.{Delivery}
 use Rattle.q_book.specs.declared.reply.Reply.TheVariants as reply
 use Rattle.reasons.specs.declared.Reason.TheVariants.{OutOfMemory as memory}
 use Rattle.q_book.specs.State.{BookState}
-use Rattle.q_book.specs.Books.{present, asking, storing, taking, by_desk, by_node, with_desk, asks, asks_node, asked, stores, stores_node, stored, delivers, delivers_node, delivered, leaves, leaves_node, left, record_lengths}
-use Rattle.q_book.specs.Replays.{IsBook}
+use Rattle.q_book.specs.Books.{present, asking, storing, taking, by_desk, by_node, with_desk, asks, asks_node, asked, stores, stored, delivers, delivered}
+use Rattle.q_book.specs.Books.{leaves, left, record_lengths, new_book}
+use Rattle.q_book.specs.Replays.{IsFirst, IsBook}
 use Rattle.q_desk.proofs.Accepted.{same_answer, no_refusal}
 use Rattle.q_desk.proofs.Changes.{handed_after}
 use Rattle.q_book.proofs.Parts.{noted-ok}
 use Rattle.q_book.proofs.Replays.{with, book_next}
 
--- where a book passed its tests, they hold of it by its fields
-pub holds_inside : {A : Type 0} (tests : BookState → Tests Reason) (b seen : BookState) (value x : A) → b ≡ seen
-    → (let t : Result A Reason = Ok x in t) ≡ tested (tests seen) (Ok value) → AllHold (tests b)
-holds_inside tests b seen value x same h =
+-- where a book passed its tests, what they were to give was given, and they hold of it by its fields
+pub holds_inside : {A : Type 0} {b seen : BookState} {value x : A} (tests : BookState → Tests Reason) → b ≡ seen
+    → (let t : Result A Reason = Ok x in t) ≡ tested (tests seen) (Ok value) → (x ≡ value) × AllHold (tests b)
+holds_inside {A} {b} {seen} {value} {x} tests same h =
     let rest : Result (Unit {0}) Reason = Ok tt in
-    subst (λ (s : BookState). AllHold (tests s)) (sym same) (passes (tests seen) value x rest h).1
+    let passed = passes (tests seen) value x rest h in
+    (passed.0, subst (λ (s : BookState). AllHold (tests s)) (sym same) passed.1)
 
 -- ---- a book whose parts are as they were
 
@@ -47,24 +49,25 @@ same_book b n d hn hd r = subst (λ (p : NodeState × DeskState). IsBook (with b
 
 -- ---- calls of the desk
 
+-- the desk's part is the book's
+desk_call : {A : Type 0} (b : BookState) {r : Result (A × DeskState) Reason} {a : A} {d : DeskState} → AllHold (present b) → r ≡ Ok (a, d)
+    → tested (present b) (by_desk (with_desk b) r) ≡ Ok (a, with b b.node d)
+desk_call b {r} hold h = tested_pass (present b) (by_desk (with_desk b) r) hold ∙ ap (by_desk (with_desk b)) h
+
 pub registered_book : (b : BookState) (program : Certificate) (id : ℕ) (d : DeskState) → AllHold (present b) → desk.registered b.desk program ≡ Ok (id, d)
     → IsBook b → IsBook (with b b.node d)
 registered_book b program id d hold h r =
-    book_next b (with b b.node d) (entry.Call (call.Register program)) r
-    (reply.Registered id, ap (mapped reply.Registered) (tested_pass (present b) (by_desk (with_desk b) (desk.registered b.desk program)) hold ∙ ap (by_desk (with_desk b)) h), tt)
+    book_next b (with b b.node d) (entry.Call (call.Register program)) r (reply.Registered id, ap (mapped reply.Registered) (desk_call b hold h), tt)
 
 pub handed_book : (b : BookState) (o : Option Job) (d : DeskState) → AllHold (present b) → desk.handed_out b.desk b.id ≡ Ok (o, d) → IsBook b
     → IsBook (with b b.node d)
 handed_book b None d hold h r = same_book b b.node d refl (sym (handed_after b.desk b.id (None, d) h)) r
 handed_book b (Some j) d hold h r =
-    book_next b (with b b.node d) (entry.Call call.HandOut) r
-    (reply.HandedOut (Some j), ap (mapped reply.HandedOut) (tested_pass (present b) (by_desk (with_desk b) (desk.handed_out b.desk b.id)) hold ∙ ap (by_desk (with_desk b)) h), tt)
+    book_next b (with b b.node d) (entry.Call call.HandOut) r (reply.HandedOut (Some j), ap (mapped reply.HandedOut) (desk_call b hold h), tt)
 
 pub posted_book : (b : BookState) (j : Job) (ran : Ran) (d : DeskState) → AllHold (present b) → desk.posted b.desk b.id j ran ≡ Ok (tt, d)
     → IsRight j.certified j.view j.start ran → IsBook b → IsBook (with b b.node d)
-posted_book b j ran d hold h right r =
-    book_next b (with b b.node d) (entry.Post j.query ran) r
-    (j, refl, right, tested_pass (present b) (by_desk (with_desk b) (desk.posted b.desk b.id j ran)) hold ∙ ap (by_desk (with_desk b)) h)
+posted_book b j ran d hold h right r = book_next b (with b b.node d) (entry.Post j.query ran) r (j, refl, right, desk_call b hold h)
 
 -- ---- calls of the node that the desk notes
 
@@ -97,11 +100,17 @@ noted_call {A} d e r a x n h =
       w.3 ∙ ap (λ (p : A × (DeskState × NodeState)). let y : Result (A × NodeState) Reason = Ok (p.0, p.1.1) in y) w.4,
     )
 
--- a call that was refused
-pub call_refused : {A C : Type 0} (old new : BookState) (said : Result (C × BookState) Reason) (g : A → DeskState → NodeState → C × BookState) (r : Result (A × (DeskState × NodeState)) Reason) (f : Reason) (result : Result C Reason)
-    → said ≡ by_call g r → new ≡ old → (f ≢ memory → r ≡ Err f) → IsErrAnd result (λ e. e ≡ f) → Steps memory said old new result
-call_refused old new said g r f (Ok a) is same told gives = absurd gives
-call_refused old new said g r f (Err e) is same told gives = (same, λ other. is ∙ ap (by_call g) (told (λ m. other (gives ∙ m))) ∙ sym (ap Err gives))
+-- a call that was refused: the desk and the node are as they were
+pub call_refused : {A C : Type 0} {b seen : BookState} {r : Result (A × (DeskState × NodeState)) Reason} {n : NodeState} {d : DeskState} {f : Reason}
+    (said : BookState → Result (C × BookState) Reason) (g : A → DeskState → NodeState → C × BookState) (result : Result C Reason)
+    → b ≡ seen → said b ≡ by_call g r
+    → ((let parts : DeskState × NodeState = (d, n) in parts) ≡ (b.desk, b.node)) × (f ≢ memory → r ≡ Err f)
+    → IsErrAnd result (λ e. e ≡ f) → Steps memory (said seen) seen (with b n d) result
+call_refused said g (Ok a) same is told gives = absurd gives
+call_refused {A} {C} {b} said g (Err e) same is told gives = (
+  (λ i. with b (told.0 i).1 (told.0 i).0) ∙ same,
+  λ other. ap said (sym same) ∙ is ∙ ap (by_call g) (told.1 (λ m. other (gives ∙ m))) ∙ sym (ap Err gives),
+)
 
 -- a test that does not hold refuses whatever follows
 refuses_at : {A B : Type 0} (t : Bool) (e f : Reason) (r : Result A Reason) (s : Result B Reason) → (r ≡ Err e → s ≡ Err e)
@@ -116,8 +125,9 @@ tests_refuse [] value e rest h = absurd (no_refusal e value h)
 tests_refuse (t ∷ ts) value e rest h = refuses_at t.0 e t.1 (tested ts (Ok value)) (tested ts rest) (λ k. tests_refuse ts value e rest (sym k)) h
 
 -- a call that its tests refuse
-pub test_refused : {A C : Type 0} (old : BookState) (ts : Tests Reason) (value : A) (rest : Result (C × BookState) Reason) (f : Reason) (result : Result C Reason)
-    → (let x : Result A Reason = Err f in x) ≡ tested ts (Ok value) → IsErrAnd result (λ e. e ≡ f) → Steps memory (tested ts rest) old old result
+pub test_refused : {A C : Type 0} (old : BookState) (ts : Tests Reason) (value : A) (rest : Result (C × BookState) Reason) (f : Reason)
+    (result : Result C Reason) → (let x : Result A Reason = Err f in x) ≡ tested ts (Ok value) → IsErrAnd result (λ e. e ≡ f)
+    → Steps memory (tested ts rest) old old result
 test_refused old ts value rest f (Ok a) h gives = absurd gives
 test_refused {A} {C} old ts value rest f (Err e) h gives =
     (refl, λ loud. tests_refuse ts value f rest h ∙ ap (λ (x : Reason). let y : Result (C × BookState) Reason = Err x in y) (sym gives))
@@ -137,41 +147,47 @@ module _ (b : BookState) where
 
   pub asked_by : (program start : ℕ) → AllHold (asking b program) → asked b program start ≡ by_call asks_call (desk.asking b.desk b.node program start)
   asked_by program start hold =
-      tested_pass (asking b program) (by_desk (asks_node b) (desk.asked b.desk b.node.operations program start)) hold
-      ∙ by_both (asks b) (λ query begun. (query, begun)) asks_call (λ q d begun n. refl) (desk.asked b.desk b.node.operations program start) (node.collect_begun b.node)
+      let asks_desk = desk.asked b.desk b.node.operations program start in
+      tested_pass (asking b program) (by_desk (asks_node b) asks_desk) hold
+      ∙ by_both (asks b) (λ query begun. (query, begun)) asks_call (λ q d begun n. refl) asks_desk (node.collect_begun b.node)
 
-  pub stored_by : (value : List ℕ) → AllHold (storing b value)
-      → stored b value ≡ by_call stores_call (desk.noting b.desk (entry.Call (call.Store value)) (node.store_begun b.node value))
-  stored_by value hold =
-      tested_pass (storing b value) (by_desk (stores_node b value) (desk.noted b.desk (entry.Call (call.Store value)))) hold
-      ∙ by_both (λ u d. stores b d) (λ u begun. begun) stores_call (λ u d begun n. refl) (desk.noted b.desk (entry.Call (call.Store value))) (node.store_begun b.node value)
+  -- the tests passed, the desk notes the call, and the node does its part
+  noting_by : {A C : Type 0} (ts : Tests Reason) (f : A → DeskState → NodeState → C × BookState) (e : Entry) (r : Result (A × NodeState) Reason)
+      → AllHold ts → tested ts (by_desk (λ u d. by_node (λ a n. f a d n) r) (desk.noted b.desk e)) ≡ by_call f (desk.noting b.desk e r)
+  noting_by ts f e r hold =
+      tested_pass ts (by_desk (λ u d. by_node (λ a n. f a d n) r) (desk.noted b.desk e)) hold
+      ∙ by_both (λ u d a n. f a d n) (λ u a. a) f (λ u d a n. refl) (desk.noted b.desk e) r
+
+  pub stored_by : (value x : List ℕ) → (x ≡ value) × AllHold (storing b value)
+      → stored b value ≡ by_call stores_call (desk.noting b.desk (entry.Call (call.Store x)) (node.store_begun b.node x))
+  stored_by value x hold =
+      noting_by (storing b value) stores_call (entry.Call (call.Store value)) (node.store_begun b.node value) hold.1
+      ∙ ap (λ (v : List ℕ). by_call stores_call (desk.noting b.desk (entry.Call (call.Store v)) (node.store_begun b.node v))) (sym hold.0)
 
   pub left_by : AllHold (present b) → left b ≡ by_call leaves_call (desk.noting b.desk (entry.Call call.Leave) (node.left b.node))
-  left_by hold =
-      tested_pass (present b) (by_desk (leaves_node b) (desk.noted b.desk (entry.Call call.Leave))) hold
-      ∙ by_both (λ u d. leaves b d) (λ u outs. outs) leaves_call (λ u d outs n. refl) (desk.noted b.desk (entry.Call call.Leave)) (node.left b.node)
+  left_by hold = noting_by (present b) leaves_call (entry.Call call.Leave) (node.left b.node) hold
 
   pub delivered_by : (m : Message) → AllHold (taking b m)
       → delivered b m ≡ by_call delivers_call (desk.noting b.desk (entry.Deliver m) (node.delivered b.node m))
-  delivered_by m hold =
-      tested_pass (taking b m) (by_desk (delivers_node b m) (desk.noted b.desk (entry.Deliver m))) hold
-      ∙ by_both (λ u d. delivers b d) (λ u told. told) delivers_call (λ u d told n. refl) (desk.noted b.desk (entry.Deliver m)) (node.delivered b.node m)
+  delivered_by m hold = noting_by (taking b m) delivers_call (entry.Deliver m) (node.delivered b.node m) hold
 
 -- ---- before any call
 
-pub founded_book : (version : Version) (id : ℕ) (config : Config) (ids listed : List ℕ) (n : NodeState) (d : DeskState) (l : Interval)
-    → node.founded config id ids ≡ Ok n → listed ≡ ids → d ≡ new_desk l → l ≡ record_lengths version
-    → IsBook (record { version = version; id = id; config = config; founders = Some listed; node = n; desk = d })
-founded_book version id config ids listed n d l f same new lengths =
-    let is : d ≡ new_desk (record_lengths version) = new ∙ ap new_desk lengths in
-    subst (λ (p : List ℕ × DeskState). IsBook (record { version = version; id = id; config = config; founders = Some p.0; node = n; desk = p.1 })) (λ i. (sym same i, sym is i))
-    (record { replay = record { first = n; begun = f; replayed = refl }; lengths = refl })
+module _ (version : Version) (id : ℕ) (config : Config) where
+  -- a new book, with a new desk
+  first_book : (founders : Option (List ℕ)) {n : NodeState} {d : DeskState} {l : Interval} → IsFirst (new_book version id config founders n) n founders
+      → d ≡ new_desk l → l ≡ record_lengths version → IsBook (with (new_book version id config founders n) n d)
+  first_book founders {n} begun new lengths =
+      subst (λ (x : DeskState). IsBook (with (new_book version id config founders n) n x)) (sym (new ∙ ap new_desk lengths))
+      (record { replay = record { first = n; begun = begun; replayed = refl }; lengths = refl })
 
-pub entered_book : (version : Version) (id : ℕ) (config : Config) (outs : List Message) (n : NodeState) (d : DeskState) (l : Interval) → (let r : Result (NodeState × List Message) Reason = Ok (node.entered config id) in r) ≡ Ok (n, outs)
-    → d ≡ new_desk l → l ≡ record_lengths version → IsBook (record { version = version; id = id; config = config; founders = None; node = n; desk = d })
-entered_book version id config outs n d l e new lengths =
-    let p : node.entered config id ≡ (n, outs) = cc in
-    let at : n ≡ (node.entered config id).0 = sym (ap (λ (x : NodeState × List Message). x.0) p) in
-    let is : d ≡ new_desk (record_lengths version) = new ∙ ap new_desk lengths in
-    subst (λ (x : DeskState). IsBook (record { version = version; id = id; config = config; founders = None; node = n; desk = x })) (sym is)
-    (record { replay = record { first = n; begun = at; replayed = refl }; lengths = refl })
+  pub founded_book : (ids : List ℕ) {listed : List ℕ} {n : NodeState} {d : DeskState} {l : Interval} → node.founded config id ids ≡ Ok n → listed ≡ ids
+      → d ≡ new_desk l → l ≡ record_lengths version → IsBook (with (new_book version id config (Some listed) n) n d)
+  founded_book ids {listed} {n} f same new lengths =
+      first_book (Some listed) (subst (λ (xs : List ℕ). node.founded config id xs ≡ Ok n) (sym same) f) new lengths
+
+  pub entered_book : {outs : List Message} {n : NodeState} {d : DeskState} {l : Interval}
+      → (let r : Result (NodeState × List Message) Reason = Ok (node.entered config id) in r) ≡ Ok (n, outs)
+      → d ≡ new_desk l → l ≡ record_lengths version → IsBook (with (new_book version id config None n) n d)
+  entered_book {outs} {n} e new lengths =
+      first_book None (sym (ap (λ (x : NodeState × List Message). x.0) (same_answer (node.entered config id) (n, outs) e))) new lengths

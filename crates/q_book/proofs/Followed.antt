@@ -22,7 +22,8 @@ use Rattle.q_desk.specs.declared.journal.Call.{Call}
 use Rattle.q_desk.specs.declared.journal.Call.TheVariants as call
 use Rattle.q_desk.specs.declared.journal.Entry.TheVariants as entry
 use Rattle.q_desk.proofs.Accepted.{Keeps, IsPosted, posted-ok, posted_one, same_answer, collect_tag}
-use Rattle.q_desk.proofs.Changes.{Told, idle, left, began, took, Change, GoesOn, IsAfter, after_keeps, noted_after, registered_after, asked_after, ended_after, IsHanded, handed_after, posted_after}
+use Rattle.q_desk.proofs.Changes.{Told, idle, left, began, took, Change, GoesOn, IsAfter, after_keeps, noted_after, registered_after, asked_after}
+use Rattle.q_desk.proofs.Changes.{ended_after, IsHanded, handed_after, posted_after}
 use Rattle.q_book.specs.State.{BookState}
 use Rattle.q_book.specs.Books as book
 use Rattle.q_book.specs.Replays.{Follows, EntryFits}
@@ -107,15 +108,6 @@ Accepts b k a c = IsAccepted b (entry.Call k) (reply_deed a) (reply_told a) c
 -- ---- each call
 
 module _ (b : BookState) where
-  seen_is : {A X : Type 0} (f : A → X) (none : X) (r : Result (A × BookState) Reason) (z y : A × BookState) → r ≡ Ok z → y ≡ z → f y.0 ≡ seen f none r
-  seen_is f none r z y h same = ap (λ (x : _ × BookState). f x.0) same ∙ sym (ap (seen f none) h)
-
-  -- what is seen of a call's reply
-  reply_is : {A X : Type 0} (f : Reply → X) (none : X) (g : A → Reply) (r : Result (A × BookState) Reason) (z y : A × BookState) → r ≡ Ok z → y ≡ z
-      → f (g y.0) ≡ seen f none (mapped g r)
-  reply_is f none g r z y h same =
-      ap (λ (x : _ × BookState). f (g x.0)) same ∙ sym (ap (λ (x : Result (_ × BookState) Reason). seen f none (mapped g x)) h)
-
   -- from what is said of each part
   made : (e : Entry) (x : Deed) (t : Told) (n : NodeState) (d : DeskState) (o : Option Job) → b.node.gone ≡ false → NodeDid b x t n → t.outs ≡ sends b e
       → o ≡ handed b e → IsAfter b.desk b.id t e d o → EntryFits b.version e → IsAccepted b e x t (record b { node = n; desk = d })
@@ -132,26 +124,30 @@ module _ (b : BookState) where
         fits = fits;
       }
 
+  -- the same of a call that was answered so
+  made_call : (k : Call) (a : Reply) (n : NodeState) (d : DeskState) {c : BookState} → called b k ≡ Ok (a, c) → b.node.gone ≡ false
+      → NodeDid b (reply_deed a) (reply_told a) n → (reply_told a).outs ≡ reply_outs a → IsAfter b.desk b.id (reply_told a) (entry.Call k) d (reply_job a)
+      → EntryFits b.version (entry.Call k) → Accepts b k a (record b { node = n; desk = d })
+  made_call k a n d h there node outs after fits =
+      made (entry.Call k) (reply_deed a) (reply_told a) n d (reply_job a) there node (outs ∙ sym (ap (seen reply_outs []) h))
+      (sym (ap (seen reply_job None) h)) after fits
+
   left-accepted : (z : List Message × BookState) → book.left b ≡ Ok z → Accepts b call.Leave (reply.Left z.0) z.1
   left-accepted z h =
       let a = left-ok b z h in
       let e = entry.Call call.Leave in
-      let y = book.leaves b (desk.with_entry b.desk e) a.0.0 a.0.1 in
       subst (λ (x : List Message × BookState). Accepts b call.Leave (reply.Left x.0) x.1) a.2
-      (made e Leaves (left a.0.0) a.0.1 (desk.with_entry b.desk e) None (is_there b _ z h) (a.0.0, a.1, refl)
-      (reply_is reply_outs [] reply.Left (book.left b) z y h a.2) (reply_is reply_job None reply.Left (book.left b) z y h a.2)
-      (noted_after b.desk b.id (left a.0.0) e) tt)
+      (made_call call.Leave (reply.Left a.0.0) a.0.1 (desk.with_entry b.desk e) (ap (mapped reply.Left) (h ∙ ap Ok (sym a.2)))
+      (is_there b _ z h) (a.0.0, a.1, refl) refl (noted_after b.desk b.id (left a.0.0) e) tt)
 
   stored-accepted : (value : List ℕ) (z : Begun × BookState) → book.stored b value ≡ Ok z → Accepts b (call.Store value) (reply.Stored value z.0) z.1
   stored-accepted value z h =
       let a = stored-ok b value z h in
       let e = entry.Call (call.Store value) in
-      let y = book.stores b (desk.with_entry b.desk e) a.0.0 a.0.1 in
       let fits = told_is (length value) (value_lengths b.version) (stored-fits b value z h) in
       subst (λ (x : Begun × BookState). Accepts b (call.Store value) (reply.Stored value x.0) x.1) a.2
-      (made e (Stores value) (began a.0.0) a.0.1 (desk.with_entry b.desk e) None (is_there b _ z h) (a.0.0, a.1, refl, fits)
-      (reply_is reply_outs [] (reply.Stored value) (book.stored b value) z y h a.2) (reply_is reply_job None (reply.Stored value) (book.stored b value) z y h a.2)
-      (noted_after b.desk b.id (began a.0.0) e) fits)
+      (made_call (call.Store value) (reply.Stored value a.0.0) a.0.1 (desk.with_entry b.desk e) (ap (mapped (reply.Stored value)) (h ∙ ap Ok (sym a.2)))
+      (is_there b _ z h) (a.0.0, a.1, refl, fits) refl (noted_after b.desk b.id (began a.0.0) e) fits)
 
   delivered-accepted : (m : Message) (z : Delivery × BookState) → book.delivered b m ≡ Ok z
       → IsAccepted b (entry.Deliver m) (Delivers m) (taken z.0 (ended_by (node.delivered b.node m))) z.1
@@ -160,43 +156,36 @@ module _ (b : BookState) where
       let ended = ended_by (node.delivered b.node m) in
       let ends : ended ≡ a.0.0.ended = ap ended_by a.1 in
       let x = book.delivers b (desk.with_entry b.desk (entry.Deliver m)) a.0.0 a.0.1 in
+      let sent = ap (λ (y : Delivery × BookState). y.0.outs) a.2 ∙ sym (ap (seen (λ (y : Delivery). y.outs) []) h) in
       let fits = message_told (value_lengths b.version) m (delivered-fits b m z h) in
       subst (λ (y : Delivery × BookState). IsAccepted b (entry.Deliver m) (Delivers m) (taken y.0 ended) y.1) a.2
       (made (entry.Deliver m) (Delivers m) (taken x.0 ended) a.0.1 x.1.desk None (is_there b _ z h) (a.0.0, a.1, ap (taken x.0) (sym ends), fits)
-      (seen_is (λ (y : Delivery). y.outs) [] (book.delivered b m) z _ h a.2) refl (ended_after b.desk b.id (entry.Deliver m) (taken x.0 ended) a.0.0.ended ends) fits)
+      sent refl (ended_after b.desk b.id (entry.Deliver m) (taken x.0 ended) a.0.0.ended ends) fits)
 
   asked-accepted : (program start : ℕ) (z : Asked × BookState) → book.asked b program start ≡ Ok z → Accepts b (call.Ask program start) (reply.Asked z.0) z.1
   asked-accepted program start z h =
       let a = asked-ok b program start z h in
-      let e = entry.Call (call.Ask program start) in
       let begun = a.2.0 in
-      let y = book.asks b a.0.0 a.0.1 begun a.2.1 in
       subst (λ (x : Asked × BookState). Accepts b (call.Ask program start) (reply.Asked x.0) x.1) a.4
-      (made e Collects (began begun) a.2.1 a.0.1 None (is_there b _ z h) (begun, a.3, refl)
-      (reply_is reply_outs [] reply.Asked (book.asked b program start) z y h a.4) (reply_is reply_job None reply.Asked (book.asked b program start) z y h a.4)
+      (made_call (call.Ask program start) (reply.Asked (record { query = a.0.0; begun = begun })) a.2.1 a.0.1
+      (ap (mapped reply.Asked) (h ∙ ap Ok (sym a.4))) (is_there b _ z h) (begun, a.3, refl) refl
       (asked_after b.desk b.id b.node.operations program start begun a.0 (collect_tag b.node a.2.1 begun a.3) a.1) tt)
 
   registered-accepted : (program : Certificate) (z : ℕ × BookState) → book.registered b program ≡ Ok z
       → Accepts b (call.Register program) (reply.Registered z.0) z.1
   registered-accepted program z h =
       let a = desk-ok b (desk.registered b.desk program) z h in
-      let e = entry.Call (call.Register program) in
-      let y : ℕ × BookState = (a.0.0, record b { desk = a.0.1 }) in
       subst (λ (x : ℕ × BookState). Accepts b (call.Register program) (reply.Registered x.0) x.1) a.2
-      (made e Idles (idle None) b.node a.0.1 None (is_there b _ z h) (refl, refl)
-      (reply_is reply_outs [] reply.Registered (book.registered b program) z y h a.2) (reply_is reply_job None reply.Registered (book.registered b program) z y h a.2)
-      (registered_after b.desk b.id program a.0 a.1) tt)
+      (made_call (call.Register program) (reply.Registered a.0.0) b.node a.0.1 (ap (mapped reply.Registered) (h ∙ ap Ok (sym a.2)))
+      (is_there b _ z h) (refl, refl) refl (registered_after b.desk b.id program a.0 a.1) tt)
 
   pub handed-accepted : (j : Job) (c : BookState) → book.handed_out b ≡ Ok (Some j, c) → Accepts b call.HandOut (reply.HandedOut (Some j)) c
   handed-accepted j c h =
       let a = desk-ok b (desk.handed_out b.desk b.id) (Some j, c) h in
-      let e = entry.Call call.HandOut in
       let first : a.0.0 ≡ Some j = ap (λ (x : Option Job × BookState). x.0) a.2 in
       let after = subst (IsHanded b.desk b.id a.0.1) first (handed_after b.desk b.id a.0 a.1) in
       subst (λ (x : Option Job × BookState). Accepts b call.HandOut (reply.HandedOut (Some j)) x.1) a.2
-      (made e Idles (idle None) b.node a.0.1 (Some j) (is_there b _ (Some j, c) h) (refl, refl)
-      (reply_is reply_outs [] reply.HandedOut (book.handed_out b) (Some j, c) (Some j, c) h refl) (reply_is reply_job None reply.HandedOut (book.handed_out b) (Some j, c) (Some j, c) h refl)
-      after tt)
+      (made_call call.HandOut (reply.HandedOut (Some j)) b.node a.0.1 (ap (mapped reply.HandedOut) h) (is_there b _ (Some j, c) h) (refl, refl) refl after tt)
 
   -- where no query is ready, nothing changes
   pub none-handed : (c : BookState) → book.handed_out b ≡ Ok (None, c) → b ≡ c
@@ -215,16 +204,19 @@ module _ (b : BookState) where
       → ((z : A × BookState) → r ≡ Ok z → P (g z.0, z.1)) → (y : Reply × BookState) → mapped g r ≡ Ok y → P y
   by_reply g r P each y h = let m = mapped-ok g r y h in subst P m.2 (each m.0 m.1)
 
+  abbrev AcceptsAs : Call → Reply × BookState → Type 0
+  AcceptsAs k x = Accepts b k x.0 x.1
+
   called-accepted : (k : Call) (y : Reply × BookState) → called b k ≡ Ok y → IsNoted y.0 → Accepts b k y.0 y.1
-  called-accepted call.Leave y h noted = by_reply reply.Left (book.left b) (λ (x : Reply × BookState). Accepts b call.Leave x.0 x.1) left-accepted y h
+  called-accepted call.Leave y h noted = by_reply reply.Left (book.left b) (AcceptsAs call.Leave) left-accepted y h
   called-accepted (call.Register program) y h noted =
-      by_reply reply.Registered (book.registered b program) (λ (x : Reply × BookState). Accepts b (call.Register program) x.0 x.1) (registered-accepted program) y h
+      by_reply reply.Registered (book.registered b program) (AcceptsAs (call.Register program)) (registered-accepted program) y h
   called-accepted (call.Ask program start) y h noted =
-      by_reply reply.Asked (book.asked b program start) (λ (x : Reply × BookState). Accepts b (call.Ask program start) x.0 x.1) (asked-accepted program start) y h
+      by_reply reply.Asked (book.asked b program start) (AcceptsAs (call.Ask program start)) (asked-accepted program start) y h
   called-accepted (call.Store value) y h noted =
-      by_reply (reply.Stored value) (book.stored b value) (λ (x : Reply × BookState). Accepts b (call.Store value) x.0 x.1) (stored-accepted value) y h
+      by_reply (reply.Stored value) (book.stored b value) (AcceptsAs (call.Store value)) (stored-accepted value) y h
   called-accepted call.HandOut y h noted =
-      by_reply reply.HandedOut (book.handed_out b) (λ (x : Reply × BookState). IsNoted x.0 → Accepts b call.HandOut x.0 x.1) (λ z. hands-accepted z.0 z.1) y h noted
+      by_reply reply.HandedOut (book.handed_out b) (λ (x : Reply × BookState). IsNoted x.0 → AcceptsAs call.HandOut x) (λ z. hands-accepted z.0 z.1) y h noted
 
   no_job : {A : Type 0} (g : A → Reply) (r : Result (A × BookState) Reason) (c : BookState) → ((a : A) → IsNoted (g a))
       → mapped g r ≡ Ok (reply.HandedOut None, c) → ⊥
@@ -238,7 +230,7 @@ module _ (b : BookState) where
   none-called (call.Store value) c h = absurd (no_job (reply.Stored value) (book.stored b value) c (λ a. tt) h)
   none-called call.HandOut c h =
       let m = mapped-ok reply.HandedOut (book.handed_out b) (reply.HandedOut None, c) h in
-      none-handed c (m.1 ∙ (λ i. let r : Result (Option Job × BookState) Reason = Ok (ap (λ (x : Reply × BookState). reply_job x.0) m.2 i, ap (λ (x : Reply × BookState). x.1) m.2 i) in r))
+      none-handed c (m.1 ∙ ap (λ (x : Reply × BookState). let r : Result (Option Job × BookState) Reason = Ok (reply_job x.0, x.1) in r) m.2)
 
   -- the answer is recorded
   pub is_posted : (j : Job) (ran : Ran) (c : BookState) → book.posted b j ran ≡ Ok (tt, c) → ((j.node == b.id) ≡ true) × IsPosted b.desk j ran c.desk
@@ -252,7 +244,8 @@ module _ (b : BookState) where
   posted-accepted j ran c h =
       let a = desk-ok b (desk.posted b.desk b.id j ran) (tt, c) h in
       subst (λ (x : Unit {0} × BookState). IsAccepted b (entry.Post j.query ran) Idles (idle (Some (j, ran))) x.1) a.2
-      (made (entry.Post j.query ran) Idles (idle (Some (j, ran))) b.node a.0.1 None (is_there b _ (tt, c) h) (refl, refl) refl refl (posted_after b.desk b.id j ran a.0 a.1) tt)
+      (made (entry.Post j.query ran) Idles (idle (Some (j, ran))) b.node a.0.1 None (is_there b _ (tt, c) h) (refl, refl) refl refl
+      (posted_after b.desk b.id j ran a.0 a.1) tt)
 
   -- what an entry tells of
   pub follows-accepted : (e : Entry) (c : BookState) (f : Follows b e c) → IsAccepted b e (deed b e c f) (told b e c f) c

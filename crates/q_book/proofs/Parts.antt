@@ -1,7 +1,7 @@
 -- What the node and the desk did in a call that a book accepted.
 use Rattle.std.proofs.Common.{◌≡◌, ℕ, true, false, List, length, sym, subst, Result, Ok}
 use Rattle.std.proofs.lemmas.Bool.{not-true}
-use Rattle.forms.specs.Calls.{tested}
+use Rattle.forms.specs.Calls.{Tests, tested}
 use Rattle.forms.proofs.Calls.{same_answer, tested-ok, and_then-ok}
 use Rattle.sc_view.specs.Values.{is_within}
 use Rattle.sc_msg.specs.declared.message.Message.{Message}
@@ -47,16 +47,20 @@ module _ (b : BookState) where
   pub is_there : {B : Type 0} (r : Result B Reason) (z : B) → tested (book.present b) r ≡ Ok z → b.node.gone ≡ false
   is_there r z h = not-true b.node.gone (tested-ok (book.present b) r z h).0.0
 
+  -- the desk noted the call, and the node did its part
+  noting-ok : {A B : Type 0} (ts : Tests Reason) (f : DeskState → A → NodeState → B) (e : Entry) (r : Result (A × NodeState) Reason) (z : B)
+      → tested ts (book.by_desk (λ u d. book.by_node (f d) r) (desk.noted b.desk e)) ≡ Ok z
+      → (a : A × NodeState) × (r ≡ Ok a) × (f (desk.with_entry b.desk e) a.0 a.1 ≡ z)
+  noting-ok ts f e r z h =
+      by_node-ok (f (desk.with_entry b.desk e)) r z (by_noted-ok (λ u d. book.by_node (f d) r) b.desk e z (tested-ok ts _ z h).1)
+
   pub left-ok : (z : List Message × BookState) → book.left b ≡ Ok z
       → (a : List Message × NodeState) × (node.left b.node ≡ Ok a) × (book.leaves b (desk.with_entry b.desk (entry.Call call.Leave)) a.0 a.1 ≡ z)
-  left-ok z h =
-      by_node-ok (book.leaves b (desk.with_entry b.desk (entry.Call call.Leave))) (node.left b.node) z (by_noted-ok (book.leaves_node b) b.desk (entry.Call call.Leave) z (tested-ok (book.present b) _ z h).1)
+  left-ok z h = noting-ok (book.present b) (book.leaves b) (entry.Call call.Leave) (node.left b.node) z h
 
   pub delivered-ok : (m : Message) (z : Delivery × BookState) → book.delivered b m ≡ Ok z
       → (a : Delivered × NodeState) × (node.delivered b.node m ≡ Ok a) × (book.delivers b (desk.with_entry b.desk (entry.Deliver m)) a.0 a.1 ≡ z)
-  delivered-ok m z h =
-      by_node-ok (book.delivers b (desk.with_entry b.desk (entry.Deliver m))) (node.delivered b.node m) z
-      (by_noted-ok (book.delivers_node b m) b.desk (entry.Deliver m) z (tested-ok (book.taking b m) _ z h).1)
+  delivered-ok m z h = noting-ok (book.taking b m) (book.delivers b) (entry.Deliver m) (node.delivered b.node m) z h
 
   -- a message that was taken fits the book's version
   pub delivered-fits : (m : Message) (z : Delivery × BookState) → book.delivered b m ≡ Ok z → message.fits b.version m ≡ true
@@ -64,9 +68,7 @@ module _ (b : BookState) where
 
   pub stored-ok : (value : List ℕ) (z : Begun × BookState) → book.stored b value ≡ Ok z
       → (a : Begun × NodeState) × (node.store_begun b.node value ≡ Ok a) × (book.stores b (desk.with_entry b.desk (entry.Call (call.Store value))) a.0 a.1 ≡ z)
-  stored-ok value z h =
-      by_node-ok (book.stores b (desk.with_entry b.desk (entry.Call (call.Store value)))) (node.store_begun b.node value) z
-      (by_noted-ok (book.stores_node b value) b.desk (entry.Call (call.Store value)) z (tested-ok (book.storing b value) _ z h).1)
+  stored-ok value z h = noting-ok (book.storing b value) (book.stores b) (entry.Call (call.Store value)) (node.store_begun b.node value) z h
 
   -- a value that was stored has a length of it
   pub stored-fits : (value : List ℕ) (z : Begun × BookState) → book.stored b value ≡ Ok z → is_within (length value) (value_lengths b.version) ≡ true

@@ -31,11 +31,8 @@ replay_next b later e r f =
     let on = follows-accepted b e later f in
     let c : BookState = with b later.node later.desk in
     let first : BookState = new_book b.version b.id b.config b.founders r.first in
-    record {
-      first = r.first;
-      begun = r.begun;
-      replayed = subst (λ (es : List Entry). Replays first es c) (sym on.adds) (replays_next b.desk.journal first b c e r.replayed (subst (Follows b e) (sym on.same) f));
-    }
+    let next = replays_next b.desk.journal first b c e r.replayed (subst (Follows b e) (sym on.same) f) in
+    record { first = r.first; begun = r.begun; replayed = subst (λ (es : List Entry). Replays first es c) (sym on.adds) next }
 
 -- and the book keeps what each book keeps
 pub book_next : (b later : BookState) (e : Entry) → IsBook b → Follows b e later → IsBook (with b later.node later.desk)

@@ -9,6 +9,7 @@ use Rattle.sc_members.specs.Members.{Config}
 use Rattle.sc_view.specs.Values.{is_within}
 use Rattle.sc_msg.specs.declared.message.Message.{Message}
 use Rattle.sc_msg.specs.declared.version.Version.{Version}
+use Rattle.sc_msg.specs.declared.version.Version.TheVariants.{First, Second}
 use Rattle.sc_msg.specs.Lengths.{fits}
 use Rattle.sc_msg.specs.Values.{value_lengths}
 use Rattle.sc_node.specs.declared.answer.Begun.{Begun}
@@ -18,6 +19,8 @@ use Rattle.reasons.specs.declared.Reason.TheVariants as reasons
 use Rattle.sc_node.specs.State.{NodeState}
 use Rattle.sc_node.specs.Nodes as node
 use Rattle.bq_check.specs.Certificate.{Certificate}
+use Rattle.bq_check.specs.declared.form.NotesForm.{NotesForm}
+use Rattle.bq_check.specs.declared.form.NotesForm.TheVariants as forms
 use Rattle.bq_range.specs.Interval.{Interval}
 use Rattle.q_session.specs.Records.{records_of}
 use Rattle.q_session.specs.declared.ran.Ran.{Ran}
@@ -34,6 +37,11 @@ use Rattle.q_book.specs.State.{BookState}
 -- second
 abbrev pub record_lengths : Version → Interval
 record_lengths version = records_of (value_lengths version)
+
+-- the form of the notes of programs as bytes, in journals and in requests to a book of that version
+abbrev pub notes_form : Version → NotesForm
+notes_form First = forms.First
+notes_form Second = forms.Second
 
 -- ---- what is tested first, in the order of the refusals
 

@@ -6,6 +6,7 @@ use Rattle.sc_msg.specs.Values.{IsLength}
 use Rattle.sc_node.specs.State.{NodeState}
 use Rattle.sc_node.specs.Nodes as node
 use Rattle.q_session.specs.Right.{IsRight}
+use Rattle.q_desk.specs.Answers.{AnswersAreRight}
 use Rattle.q_session.specs.declared.job.Job.{Job}
 use Rattle.q_desk.specs.declared.journal.Entry.{Entry}
 use Rattle.q_desk.specs.declared.journal.Call.TheVariants as call
@@ -43,6 +44,16 @@ pub record IsReplay (b : BookState) : Type 0 where
   pub first : NodeState
   pub begun : IsFirst b first b.founders
   pub replayed : Replays (new_book b.version b.id b.config b.founders first) b.desk.journal b
+
+-- a book of this node, which is the replay of its journal, and whose recorded answers are right
+pub record IsBookOf (node : ℕ) (b : BookState) : Type 0 where
+  pub id : b.id ≡ node
+  pub replay : IsReplay b
+  pub right : AnswersAreRight b.desk
+
+-- a book of another node, which is the replay of its journal
+abbrev pub IsOther : ℕ → BookState → Type 0
+IsOther node b = IsReplay b × (b.id ≡ node → ⊥)
 
 -- what each book keeps
 pub record IsBook (b : BookState) : Type 0 where

@@ -35,10 +35,14 @@ mod answer;
 mod book;
 pub mod laws;
 mod lengths;
+mod notes;
+mod own;
 mod reply;
 pub mod worked;
 
 pub use answer::{Asked, Delivery};
 pub use book::{Book, BookFault};
 pub use lengths::record_lengths;
+pub use notes::read_notes;
+pub use own::is_of;
 pub use reply::Reply;

@@ -1,4 +1,4 @@
--- The books of the founders.
+-- The books of founders.
 use Rattle.std.proofs.Common.{◌≡◌, ℕ, Bool, true, cond, List, [], refl, sym, ap, subst, ◌∙◌, Result, Ok, Err}
 use Rattle.std.specs.FinMap as fin
 use Rattle.sc_members.specs.Members.{Config}
@@ -18,7 +18,8 @@ module _ (version : Version) (c : Config) (ids : List ℕ) where
   starts : are_founders ids ≡ true → started version c ids ≡ Ok (start version c ids)
   starts are = ap (λ (b : Bool). let r : Result ClusterState Reason = cond b (Ok (start version c ids)) (Err reasons.BadFounders) in r) are
 
-  module _ (books : BookMap) (past : Past) (jobs : List Job) (made : (are_founders ids ≡ true) × (books ≡ books_with version c ids fin.empty ids)) (is : past ≡ first c ids) (none : jobs ≡ []) where
+  module _ {books : BookMap} {past : Past} {jobs : List Job} (made : (are_founders ids ≡ true) × (books ≡ books_with version c ids fin.empty ids))
+      (is : past ≡ first c ids) (none : jobs ≡ []) where
     same_start : start version c ids ≡ cluster_of version books past jobs
     same_start = λ i. cluster_of version (sym made.1 i) (sym is i) (sym none i)
 

@@ -1,8 +1,9 @@
 -- A job is refused whatever its answer is.
-use Rattle.std.proofs.Common.{◌≡◌, ◌==◌, ℕ, Bool, true, false, not, cond, Option, Some, None, ap, ◌∙◌, refl, slice_get, Result, Ok, Err}
+use Rattle.std.proofs.Common.{◌≡◌, ◌==◌, ℕ, Bool, true, false, not, cond, Option, Some, None, ap, sym, ◌∙◌, refl, slice_get, Result, Ok, Err}
 use Rattle.reasons.specs.declared.Reason.TheVariants as reasons
 use Rattle.q_desk.specs.State.{DeskState}
 use Rattle.q_desk.specs.Desks as desk
+use Rattle.q_desk.proofs.Accepted.{no_refusal}
 use Rattle.reasons.specs.declared.Reason.{Reason}
 use Rattle.q_session.specs.declared.job.Job.{Job}
 use Rattle.q_session.specs.declared.query.Phase.{Phase}
@@ -16,17 +17,14 @@ by_test : {A E : Type 0} (b : Bool) (p q : Result A E) (e x : E) → (p ≡ Err 
 by_test true p q e x f h = f h
 by_test false p q e x f h = h
 
-by_room : {A : Type 0} (b : Bool) (p q : A) (e x : Reason) → (let r : Result A Reason = cond b (Ok p) (Err e) in r) ≡ Err x
-    → (let r : Result A Reason = cond b (Ok q) (Err e) in r) ≡ Err x
-by_room true p q e x h = absurd (cc)
-by_room false p q e x h = h
-
 -- a desk refuses a job, whatever its answer is
 module _ (s : DeskState) (j : Job) (r r' : Ran) (x : Reason) where
   to_err : (q : Query) (p : Phase) → desk.posted_to s j r q p ≡ Err x → desk.posted_to s j r' q p ≡ Err x
   to_err q Collecting h = h
   to_err q (Ready view) h = h
-  to_err q (Running view) h = by_test (desk.is_job_of s.programs j q view) _ _ reasons.Stranger x (λ k. by_room (desk.has_room s) _ _ reasons.BookFull x k) h
+  to_err q (Running view) h =
+      by_test (desk.is_job_of s.programs j q view) _ _ reasons.Stranger x
+      (λ k. by_test (desk.has_room s) _ _ reasons.BookFull x (λ no. absurd (no_refusal x _ (sym no))) k) h
   to_err q (Answered view ran) h = h
 
   at_err : (o : Option Query) → desk.posted_at s j r o ≡ Err x → desk.posted_at s j r' o ≡ Err x

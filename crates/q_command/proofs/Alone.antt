@@ -1,5 +1,6 @@
 -- That the book of a lone founder, to whom nothing has happened, gathers.
-use Rattle.std.proofs.Common.{◌≡◌, ◌<◌, ℕ, zero, suc, Bool, true, false, cond, ◌||◌, ◌==◌, List, [], ◌∷◌, ◌++◌, Option, Some, None, refl, sym, ap, ◌∙◌, subst, slice_get, arith}
+use Rattle.std.specs.Prelude.{Bool, true, false, ◌||◌, ◌==◌, List, [], ◌∷◌, ◌++◌, Option, Some, None}
+use Rattle.std.proofs.Common.{◌≡◌, ◌<◌, ℕ, zero, suc, cond, refl, sym, ap, ◌∙◌, subst, slice_get, arith}
 use Rattle.std.specs.Ordering.{nat_cmp}
 use Rattle.std.specs.FinSet as set
 use Rattle.std.proofs.lemmas.Bool.{eqb-true}
@@ -54,7 +55,9 @@ module _ (b : BookState) (founders : b.founders ≡ Some (b.id ∷ [])) where
   agree_on = record {
     taken = refl;
     versions = λ k x at. ap (λ (y : BookState). y.version) (sym (is_first b x k at));
-    heads = λ k x at. subst (λ (y : BookState). (y.config ≡ b.config) × (y.founders ≡ founders_for y.id (b.id ∷ []))) (is_first b x k at) (refl, founders ∙ sym (founder b.id));
+    heads = λ k x at.
+        subst (λ (y : BookState). (y.config ≡ b.config) × (y.founders ≡ founders_for y.id (b.id ∷ []))) (is_first b x k at)
+        (refl, founders ∙ sym (founder b.id));
     there = λ id listed. record { place = 0; book = b; at = refl; of = own b.id id listed };
   }
 
@@ -69,7 +72,7 @@ module _ (b : BookState) (founders : b.founders ≡ Some (b.id ∷ [])) where
           first = replay.first;
           begun = replay.begun;
           rest = [];
-          trace = subst (λ (es : List Entry). IsTraceFrom start es [] b) (sym none) (refl, subst (λ (es : List Entry). Replays start es b) none replay.replayed);
+          trace = subst (λ (es : List Entry). IsTraceFrom start es [] b) (sym none) (refl, subst (λ es. Replays start es b) none replay.replayed);
           is = ap (λ (o : Option (List ℕ)). entering b o ++ []) (sym founders);
         }
 

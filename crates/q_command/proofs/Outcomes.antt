@@ -1,6 +1,7 @@
 -- Which outcomes are wrong: an answer that is left out, an event that is cut though it is whole, bytes that are kept
 -- behind a journal, and what is told as gathered where a refusal was written.
-use Rattle.std.proofs.Common.{◌≡◌, ◌<◌, ℕ, Bool, false, List, [], ◌∷◌, ◌++◌, Some, length, drop, get_or, codes, refl, sym, ap, ◌∙◌, subst, append_assoc, length-append, flat_map, arith, lit<}
+use Rattle.std.specs.Prelude.{Bool, false, List, [], ◌∷◌, ◌++◌, Some, length, drop, get_or, codes}
+use Rattle.std.proofs.Common.{◌≡◌, ◌<◌, ℕ, refl, sym, ap, ◌∙◌, subst, append_assoc, length-append, flat_map, arith, lit<}
 use lib.Seq.{drop-append_seam}
 use Rattle.std.specs.Fmt.{digits}
 use Rattle.std.specs.FinMap as fin

@@ -1,9 +1,8 @@
 -- That the test for bytes that are too few for an event is right.
-use Rattle.std.proofs.Common.{◌≡◌, ℕ, ◌<◌, ◌^◌, Bool, true, false, inl, inr, List, ◌∷◌, ◌++◌, length, refl, sym, ap, ◌∙◌, length-append, nat_lt, MatchBool, arith}
+use Rattle.std.proofs.Common.{◌≡◌, ℕ, ◌<◌, ◌^◌, Bool, true, false, inl, inr, List, ◌∷◌, ◌++◌, length, refl, sym, ap, ◌∙◌, nat_lt, MatchBool, arith}
 use Rattle.std.proofs.lemmas.Bool.{ltb-true, ltb-false}
 use Rattle.spelling.specs.Numbers.{number_bytes}
-use Rattle.spelling.proofs.Numbers.{length-number_bytes}
-use Rattle.spelling.proofs.Codes.{number_front}
+use Rattle.spelling.proofs.Codes.{number_front, number_then}
 use Rattle.q_command.specs.Beginning.{IsCut}
 
 told_by : (b : Bool) (P Q : Type 0) → (b ≡ true → P) → (b ≡ false → Q) → MatchBool b P Q
@@ -17,7 +16,7 @@ tails x y xs ys h = cc
 pub whole : (bytes rest body : List ℕ) (kind told : ℕ) → bytes ≡ kind ∷ rest → rest ≡ number_bytes 4 told ++ body → told < 2 ^ 32
     → (length body < told → ⊥) → IsCut bytes → ⊥
 whole bytes rest body kind told first second fits long (inl short) =
-    omega (arith, short, ap length first, ap length second, length-append (number_bytes 4 told) body, length-number_bytes 4 told)
+    omega (arith, short, ap length first, number_then 4 told rest body second)
 whole bytes rest body kind told first second fits long (inr c) =
     let (other, n, left, parts, few, short) = c in
     let same = number_front 4 told n body left fits few (sym second ∙ tails kind other rest (number_bytes 4 n ++ left) (sym first ∙ parts)) in

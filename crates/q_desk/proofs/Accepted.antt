@@ -1,8 +1,8 @@
 -- What a call that a desk accepted was: what it keeps, whose job it hands out, and whose answer it records.
-use Rattle.std.proofs.Common.{◌≡◌, ℕ, zero, suc, ◌==◌, Bool, true, List, [], ◌∷◌, Option, Some, None, refl, sym, ap, ◌∙◌, subst, slice_get, slice_set, position, Ok}
+use Rattle.std.proofs.Common.{◌≡◌, ℕ, zero, suc, ◌==◌, Bool, true, List, [], ◌∷◌, Option, Some, None, refl, sym, ap, ◌∙◌, subst, Ok}
 use Rattle.std.proofs.lemmas.List.Quantifiers.{position-Some}
 use Rattle.std.proofs.lemmas.Option.{get_or_from_slice_get}
-use Rattle.std.specs.Prelude.{◌&&◌}
+use Rattle.std.specs.Prelude.{◌&&◌, slice_get, slice_set, position}
 use Rattle.std.specs.Cmp.{first_so, second_so, unsigned_Decides}
 pub use Rattle.forms.proofs.Calls.{same_answer, no_refusal, passed, tested-ok}
 use Rattle.forms.proofs.Calls.{and_then-ok}
@@ -32,7 +32,8 @@ same_some x y h = cc
 pub no_some : {X : Type 0} (x : X) → None ≡ Some x → ⊥
 no_some x h = absurd (cc)
 
-pub get_elsewhere : {X : Type 0} (xs : List X) (i : ℕ) (y : X) (k : ℕ) (x : X) → (k ≡ i → ⊥) → slice_get xs k ≡ Some x → slice_get (slice_set xs i y) k ≡ Some x
+pub get_elsewhere : {X : Type 0} (xs : List X) (i : ℕ) (y : X) (k : ℕ) (x : X) → (k ≡ i → ⊥) → slice_get xs k ≡ Some x
+    → slice_get (slice_set xs i y) k ≡ Some x
 get_elsewhere [] i y k x away h = absurd (cc)
 get_elsewhere (z ∷ xs) zero y zero x away h = absurd (away refl)
 get_elsewhere (z ∷ xs) zero y (suc k) x away h = h
@@ -104,7 +105,9 @@ pub record IsReadyJob (d : DeskState) (node : ℕ) (j : Job) : Type 0 where
 module _ (d : DeskState) (node : ℕ) where
   job_on-some : (k : ℕ) (q : Query) (p : Phase) (c : Option Certificate) (j : Job) → slice_get d.queries k ≡ Some q → q.phase ≡ p
       → slice_get d.programs q.program ≡ c → desk.job_on node k q (desk.ready_view p) c ≡ Some j → IsReadyJob d node j
-  job_on-some k q (Ready view) (Some c) j at is named h = subst (IsReadyJob d node) (same_some _ j h) (record { query = q; at = at; phase = is; by = refl; program = refl; start = refl; certified = named })
+  job_on-some k q (Ready view) (Some c) j at is named h =
+      subst (IsReadyJob d node) (same_some _ j h)
+      (record { query = q; at = at; phase = is; by = refl; program = refl; start = refl; certified = named })
   job_on-some k q (Ready view) None j at is named h = absurd (no_some j h)
   job_on-some k q Collecting c j at is named h = absurd (no_some j h)
   job_on-some k q (Running view) c j at is named h = absurd (no_some j h)

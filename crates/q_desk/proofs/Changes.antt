@@ -1,7 +1,9 @@
 -- What an accepted call makes of a desk's programs, queries and journal, and what its node tells of it.
-use Rattle.std.proofs.Common.{◌≡◌, ℕ, ◌==◌, true, nat_lt, List, [], ◌∷◌, ◌++◌, length, Option, Some, None, refl, sym, ap, ◌∙◌, subst, ◌⊎◌, inl, inr, slice_get, slice_set, position, Ok}
+use Rattle.std.proofs.Common.{◌≡◌, ℕ, ◌==◌, true, nat_lt, List, [], ◌∷◌, ◌++◌, length, Option, Some, None, refl, sym, ap, ◌∙◌, subst, ◌⊎◌, inl, inr, Ok}
 use Rattle.std.proofs.lemmas.Bool.{eqb-true}
+use Rattle.std.specs.Prelude.{slice_get, slice_set, position}
 use Rattle.std.specs.Cmp.{first_so, second_so}
+use Rattle.forms.proofs.Calls.{same_answer, passed, tested-ok}
 use Rattle.sc_view.specs.Views.{ViewMap}
 use Rattle.sc_msg.specs.declared.message.Message.{Message}
 use Rattle.sc_node.specs.declared.answer.Begun.{Begun}
@@ -23,8 +25,9 @@ use Rattle.q_desk.specs.Desks as desk
 use Rattle.q_desk.specs.declared.journal.Entry.{Entry}
 use Rattle.q_desk.specs.declared.journal.Call.TheVariants as call
 use Rattle.q_desk.specs.declared.journal.Entry.TheVariants as entry
-use Rattle.q_desk.proofs.Accepted.{HasNone, Keeps, same_some, no_some, same_answer, passed, tested-ok, get_elsewhere, found, registered-ok, IsReadyJob, next_job-some, posted-ok}
+use Rattle.q_desk.proofs.Accepted.{HasNone, Keeps, same_some, no_some, get_elsewhere, found, registered-ok, IsReadyJob, next_job-some, posted-ok}
 use Rattle.q_desk.proofs.Lists.{get-front, get-snoc, get-written}
+use Rattle.q_desk.proofs.Running.{collecting_is}
 
 -- ---- what is told of a call
 
@@ -95,6 +98,10 @@ pub record IsAfter (d : DeskState) (node : ℕ) (t : Told) (m : Entry) (e : Desk
 
 -- ---- what it keeps
 
+-- what stands in a list stands in one that is the same
+still : {X : Type 0} {xs ys : List X} → ys ≡ xs → (k : ℕ) (x : X) → slice_get xs k ≡ Some x → slice_get ys k ≡ Some x
+still same k x h = ap (λ zs. slice_get zs k) same ∙ h
+
 module _ (d : DeskState) (node : ℕ) (t : Told) where
   -- a query that goes on has no answer yet
   has_none : (k : ℕ) (q : Query) (p : Phase) (o : Option Job) → slice_get d.queries k ≡ Some q → GoesOver d node k q p t o → HasNone q.phase
@@ -106,26 +113,21 @@ module _ (d : DeskState) (node : ℕ) (t : Told) where
       absurd (cc)
 
   change_keeps : (e : DeskState) (o : Option Job) → e.lengths ≡ d.lengths → Change d node t e o → Keeps d e
-  change_keeps e None lengths (stays programs queries) = record {
-    lengths = lengths;
-    programs = λ i p h. ap (λ (x : List Certificate). slice_get x i) programs ∙ h;
-    answers = λ k q view ran h is. ap (λ (x : List Query). slice_get x k) queries ∙ h;
-  }
+  change_keeps e None lengths (stays programs queries) =
+      record { lengths = lengths; programs = still programs; answers = λ k q view ran h is. still queries k q h }
   change_keeps e None lengths (grows more queries) =
-      record { lengths = lengths; programs = more; answers = λ k q view ran h is. ap (λ (x : List Query). slice_get x k) queries ∙ h }
+      record { lengths = lengths; programs = more; answers = λ k q view ran h is. still queries k q h }
   change_keeps e None lengths (begins new b programs queries) = record {
     lengths = lengths;
-    programs = λ i p h. ap (λ (x : List Certificate). slice_get x i) programs ∙ h;
-    answers = λ k q view ran h is. ap (λ (x : List Query). slice_get x k) queries ∙ get-front d.queries (new ∷ []) k q h;
+    programs = still programs;
+    answers = λ k q view ran h is. still queries k q (get-front d.queries (new ∷ []) k q h);
   }
   change_keeps e o lengths (rephased k q p at goes programs queries) = record {
     lengths = lengths;
-    programs = λ i c h. ap (λ (x : List Certificate). slice_get x i) programs ∙ h;
+    programs = still programs;
     answers = λ i x view ran h is.
-        let new : Query = record q { phase = p } in
-        ap (λ (y : List Query). slice_get y i) queries
-        ∙ get_elsewhere d.queries k new i x
-        (λ here. has_none k q p o at goes view ran (ap (λ (y : Query). y.phase) (same_some q x (sym at ∙ ap (slice_get d.queries) (sym here) ∙ h)) ∙ is)) h;
+        still queries i x (get_elsewhere d.queries k (record q { phase = p }) i x
+        (λ here. has_none k q p o at goes view ran (ap (λ (y : Query). y.phase) (same_some q x (sym at ∙ ap (slice_get d.queries) (sym here) ∙ h)) ∙ is)) h);
   }
 
   pub after_keeps : (m : Entry) (e : DeskState) (o : Option Job) → IsAfter d node t m e o → Keeps d e
@@ -141,15 +143,15 @@ pub data IsNew (d : DeskState) (node : ℕ) (t : Told) (o : Option Job) (q : Que
 module _ (d : DeskState) (node : ℕ) (t : Told) (e : DeskState) where
   pub change_queries : (o : Option Job) → Change d node t e o → (k : ℕ) (q : Query) → slice_get e.queries k ≡ Some q
       → (slice_get d.queries k ≡ Some q) ⊎ IsNew d node t o q
-  change_queries None (stays programs queries) k q h = inl (ap (λ (x : List Query). slice_get x k) (sym queries) ∙ h)
-  change_queries None (grows more queries) k q h = inl (ap (λ (x : List Query). slice_get x k) (sym queries) ∙ h)
+  change_queries None (stays programs queries) k q h = inl (still (sym queries) k q h)
+  change_queries None (grows more queries) k q h = inl (still (sym queries) k q h)
   change_queries None (begins new b programs queries) k q h =
-      elim (get-snoc d.queries new k q (ap (λ (x : List Query). slice_get x k) (sym queries) ∙ h)) [
+      elim (get-snoc d.queries new k q (still (sym queries) k q h)) [
         | inl old ↦ inl old
         | inr same ↦ inr (fresh (subst (Begins t) same.1 b))
       ]
   change_queries o (rephased i old p at goes programs queries) k q h =
-      elim (get-written d.queries i (record old { phase = p }) k q (ap (λ (x : List Query). slice_get x k) (sym queries) ∙ h)) [
+      elim (get-written d.queries i (record old { phase = p }) k q (still (sym queries) k q h)) [
         | inl was ↦ inl was.1
         | inr same ↦ inr (moved i old p at goes same.1)
       ]
@@ -187,18 +189,13 @@ module _ (d : DeskState) (node : ℕ) where
   pub asked_after : (tag program start : ℕ) (a : Begun) (y : ℕ × DeskState) → a.tag ≡ tag → desk.asked d tag program start ≡ Ok y
       → IsAfter d node (began a) (entry.Call (call.Ask program start)) y.1 None
   asked_after tag program start a y tagged h =
-      subst (λ (x : ℕ × DeskState). IsAfter d node (began a) (entry.Call (call.Ask program start)) x.1 None) (same_answer _ y (tested-ok (desk.beginning d program) _ y h).1)
+      subst (λ (x : ℕ × DeskState). IsAfter d node (began a) (entry.Call (call.Ask program start)) x.1 None)
+      (same_answer _ y (tested-ok (desk.beginning d program) _ y h).1)
       (record {
         change = begins (desk.begun tag program start) (record { by = a; told = refl; tagged = tagged; phase = refl }) refl refl;
         lengths = refl;
         adds = refl;
       })
-
-  collecting_is : (p : Phase) → desk.is_collecting p ≡ true → p ≡ Collecting
-  collecting_is Collecting h = refl
-  collecting_is (Ready view) h = absurd (cc)
-  collecting_is (Running view) h = absurd (cc)
-  collecting_is (Answered view ran) h = absurd (cc)
 
   -- a message was noted, and an operation may have ended: the query that waits for it has its view
   module _ (m : Entry) (t : Told) where

@@ -1,5 +1,5 @@
 -- How many queries run, where a query begins or comes into another phase.
-use Rattle.std.proofs.Common.{◌≡◌, ◌<◌, ◌+◌, ℕ, zero, suc, Bool, true, false, List, [], ◌∷◌, ◌++◌, Option, Some, None, refl, ap, ◌∙◌, arith, get_or, if◌then◌else◌}
+use Rattle.std.proofs.Common.{◌≡◌, ◌<◌, ◌+◌, ℕ, zero, suc, Bool, true, false, List, [], ◌∷◌, ◌++◌, Option, Some, refl, ap, ◌∙◌, arith, get_or, if◌then◌else◌}
 use Rattle.std.proofs.lemmas.List.Quantifiers.{position-Some}
 use Rattle.std.proofs.lemmas.Option.{slice_get-get_or}
 use Rattle.std.specs.Prelude.{slice_get, slice_set, position, ◌==◌}
@@ -22,7 +22,8 @@ pub run-begun : (qs : List Query) (q : Query) → is_running q.phase ≡ false �
 run-begun [] q e = let none : one q.phase ≡ 0 = ap counts e in omega (arith, none)
 run-begun (x ∷ qs) q e = ap (λ n. one x.phase + n) (run-begun qs q e)
 
-run-set : (qs : List Query) (k : ℕ) (q r : Query) → slice_get qs k ≡ Some q → how_many_run (slice_set qs k r) + one q.phase ≡ how_many_run qs + one r.phase
+run-set : (qs : List Query) (k : ℕ) (q r : Query) → slice_get qs k ≡ Some q
+    → how_many_run (slice_set qs k r) + one q.phase ≡ how_many_run qs + one r.phase
 run-set [] k q r there = absurd (cc)
 run-set (x ∷ qs) zero q r there =
     let same : x ≡ q = cc in
@@ -30,18 +31,11 @@ run-set (x ∷ qs) zero q r there =
     omega (arith, is)
 run-set (x ∷ qs) (suc k) q r there = omega (arith, run-set qs k q r there)
 
-run-in_phase : (qs : List Query) (k : ℕ) (q : Query) (p : Phase) (o : Option Query) → slice_get qs k ≡ o → o ≡ Some q
-    → how_many_run (in_phase qs k p o) + one q.phase ≡ how_many_run qs + one p
-run-in_phase qs k q p None there h = absurd (cc)
-run-in_phase qs k q p (Some x) there h =
-    let same : x ≡ q = cc in
-    let is : one x.phase ≡ one q.phase = ap (λ (y : Query). one y.phase) same in
-    omega (arith, run-set qs k x (record x { phase = p }) there, is)
-
 -- a query comes into another phase
 pub run-with_phase : (qs : List Query) (k : ℕ) (q : Query) (p : Phase) → slice_get qs k ≡ Some q
     → how_many_run (with_phase qs k p) + one q.phase ≡ how_many_run qs + one p
-run-with_phase qs k q p there = run-in_phase qs k q p (slice_get qs k) refl there
+run-with_phase qs k q p there =
+    omega (arith, ap (λ (o : Option Query). how_many_run (in_phase qs k p o)) there, run-set qs k q (record q { phase = p }) there)
 
 -- one of the queries runs
 pub run-some : (qs : List Query) (k : ℕ) (q : Query) → slice_get qs k ≡ Some q → is_running q.phase ≡ true → 0 < how_many_run qs
@@ -52,11 +46,11 @@ run-some (x ∷ qs) zero q there e =
     omega (arith, yes)
 run-some (x ∷ qs) (suc k) q there e = omega (arith, run-some qs k q there e)
 
-pub collecting-idle : (p : Phase) → is_collecting p ≡ true → is_running p ≡ false
-collecting-idle Collecting e = refl
-collecting-idle (Ready view) e = absurd (cc)
-collecting-idle (Running view) e = absurd (cc)
-collecting-idle (Answered view ran) e = absurd (cc)
+pub collecting_is : (p : Phase) → is_collecting p ≡ true → p ≡ Collecting
+collecting_is Collecting e = refl
+collecting_is (Ready view) e = absurd (cc)
+collecting_is (Running view) e = absurd (cc)
+collecting_is (Answered view ran) e = absurd (cc)
 
 -- the query that waits for a collect is ready
 pub run-returned : (qs after : List Query) (tag k : ℕ) (view : ViewMap) → position (waits tag) qs ≡ Some k → after ≡ with_phase qs k (Ready view)
@@ -65,7 +59,7 @@ run-returned qs after tag k view first is =
     let none = begun 0 0 0 in
     let passes = position-Some (waits tag) qs k none first in
     let q = get_or qs k none in
-    let idle : one q.phase ≡ 0 = ap counts (collecting-idle q.phase (second_so (q.tag == tag) _ passes.1)) in
+    let idle : one q.phase ≡ 0 = ap one (collecting_is q.phase (second_so (q.tag == tag) _ passes.1)) in
     omega (arith, ap how_many_run is, run-with_phase qs k q (Ready view) (slice_get-get_or qs k none passes.0), idle)
 
 -- a ready query runs

@@ -46,7 +46,8 @@ pub exchanges_more : (version : Version) (node : ℕ) (gives : Giving) (input mi
     → Appends between after (reply_bytes a) → Exchanges version node gives input left before after [] []
 exchanges_more version node gives input mid left before between after r a e legal consumed said written =
     let read = Consumes-trans input mid left (spellings e.requests) (spelling r) (consumed_of version node gives input mid before between e) consumed in
-    let wrote = Appends-trans before between after (replies_bytes e.replies) (reply_bytes a) (written_of version node gives input mid before between e) written in
+    let wrote = Appends-trans before between after (replies_bytes e.replies) (reply_bytes a)
+    (written_of version node gives input mid before between e) written in
     record {
       requests = e.requests ++ r ∷ [];
       legal = all_push (IsRequest version) e.requests r e.legal legal;

@@ -1,6 +1,6 @@
 -- Whether books are of different nodes, and agree on their heads.
-use Rattle.std.proofs.Common.{◌≡◌, ◌<◌, ◌≤◌, ◌+◌, ℕ, Bool, true, false, cond, List, [], ◌∷◌, length, take, Option, Some, None, Result, Ok, sym, ap, ◌∙◌, subst, slice_get, arith, inl, inr, ⊎_elim}
-use Rattle.std.specs.Prelude.{MatchBool, nat_eq}
+use Rattle.std.proofs.Common.{◌≡◌, ◌<◌, ◌≤◌, ◌+◌, ℕ, Bool, true, false, cond, List, [], ◌∷◌, Some, None, Ok, sym, ap, ◌∙◌, subst, arith, inl, inr, ⊎_elim}
+use Rattle.std.specs.Prelude.{MatchBool, nat_eq, length, take, slice_get}
 use Rattle.std.specs.List.{list_any}
 use Rattle.std.specs.Ordering.{nat_cmp}
 use Rattle.std.specs.FinSet as set
@@ -18,24 +18,18 @@ use Rattle.q_history.specs.Headline.{ClusterState}
 use Rattle.q_history.specs.Heads.{founders_for}
 use Rattle.q_history.specs.Clusters.{start, started}
 use Rattle.q_history.proofs.Lists.{same_some, no_some}
+use Rattle.q_history.proofs.Kept.{IsAmong}
 use Rattle.q_gather.specs.Gathered.{HasBook, AreDistinct, AgreeOn}
 use Rattle.q_gather.specs.Gather.{AreReplayed, Agree, IsRefused}
 use Rattle.q_gather.specs.Heads.{AreHeaded, AreThere, HasHead}
 use Rattle.q_gather.specs.declared.fault.GatherFault.TheVariants.{BadFounders}
-use Rattle.q_gather.proofs.Finding.{get_take, take_within}
+use Rattle.q_gather.proofs.Finding.{get_take}
 
 -- ---- ids
 
 -- no book before a place is of the node of one before it
 abbrev pub DistinctBelow : List BookState → ℕ → Type 0
 DistinctBelow books n = (k : ℕ) (b : BookState) → k < n → slice_get books k ≡ Some b → HasBook (take k books) b.id → ⊥
-
--- one before a place is of the node of that at the place
-pub not_distinct : (books : List BookState) (n : ℕ) (x : BookState) → slice_get books n ≡ Some x → HasBook (take n books) x.id → AreDistinct books → ⊥
-not_distinct books n x here has distinct =
-    let less : has.place < n = take_within books n has.place has.book has.at in
-    let same : has.place ≡ n = distinct has.place n has.book x (sym (get_take books n has.place less) ∙ has.at) here has.of in
-    omega (arith, less, same)
 
 pub distinct_next : (books : List BookState) (n : ℕ) (x : BookState) → slice_get books n ≡ Some x → (HasBook (take n books) x.id → ⊥)
     → DistinctBelow books n → DistinctBelow books (n + 1)
@@ -63,7 +57,7 @@ some_by true ids founders h = sym (same_some founders ids h)
 some_by false ids founders h = absurd (no_some ids h)
 
 -- where the books agree, it is on the head of each founder
-module _ (books : List BookState) (version : Version) (config : Config) (ids : List ℕ) (h : HasHead books version config ids) (a : Agree books) where
+module _ {books : List BookState} {version : Version} {config : Config} {ids : List ℕ} (h : HasHead books version config ids) (a : Agree books) where
   founders_same : ids ≡ a.2
   founders_same = some_by (set.contains (set.from_list {R = nat_cmp} a.2) h.book.id) ids a.2 (sym (a.3.heads h.place h.book h.at).1 ∙ h.founders_are)
 
@@ -86,11 +80,11 @@ nobody_agrees books none (version, config, founders, a) = by_first founders a
     by_first : (ids : List ℕ) → AgreeOn books version config ids → ⊥
     by_first [] agree = absurd (cc)
     by_first (x ∷ xs) agree =
-        let listed : set.contains (set.from_list {R = nat_cmp} (x ∷ xs)) x ≡ true = has_at (x ∷ xs) 0 0 (omega arith) in
+        let listed : IsAmong (x ∷ xs) x = has_at (x ∷ xs) 0 0 (omega arith) in
         let has = agree.there x listed in
-        let mine : set.contains (set.from_list {R = nat_cmp} (x ∷ xs)) has.book.id ≡ true = ap (set.contains (set.from_list {R = nat_cmp} (x ∷ xs))) has.of ∙ listed in
+        let mine : IsAmong (x ∷ xs) has.book.id = subst (IsAmong (x ∷ xs)) (sym has.of) listed in
         let founders : has.book.founders ≡ Some (x ∷ xs) =
-        (agree.heads has.place has.book has.at).1 ∙ ap (λ (k : Bool). let o : Option (List ℕ) = cond k (Some (x ∷ xs)) None in o) mine in
+        (agree.heads has.place has.book has.at).1 ∙ (λ i. cond (mine i) (Some (x ∷ xs)) None) in
         no_some (x ∷ xs) (sym (none has.place has.book has.at) ∙ founders)
 
 -- where the books agree, they have one version
@@ -105,12 +99,13 @@ versions_refused journals books i k a b r distinct at here other = (books, r, di
 -- ---- the start
 
 pub starts : (version : Version) (config : Config) (ids : List ℕ) (c : ClusterState) → started version config ids ≡ Ok c → c ≡ start version config ids
-starts version config ids c h = same_answer {E = Reason} c (start version config ids) (sym (passed (are_founders ids) reasons.BadFounders (Ok (start version config ids)) c h).1)
+starts version config ids c h =
+    same_answer {E = Reason} c (start version config ids) (sym (passed (are_founders ids) reasons.BadFounders (Ok (start version config ids)) c h).1)
 
-pub agree_on : (books : List BookState) (version : Version) (config : Config) (ids : List ℕ) (c : ClusterState) → started version config ids ≡ Ok c
+pub agree_on : {books : List BookState} {version : Version} {config : Config} {ids : List ℕ} {c : ClusterState} → started version config ids ≡ Ok c
     → AreHeaded books version config ids → AreThere books ids → AgreeOn books version config ids
-agree_on books version config ids c h heads there = record {
-  taken = h ∙ ap (λ (x : ClusterState). let r : Result ClusterState Reason = Ok x in r) (starts version config ids c h);
+agree_on {version = version} {config = config} {ids = ids} {c = c} h heads there = record {
+  taken = h ∙ (λ i. Ok (starts version config ids c h i));
   versions = λ k b at. (heads k b at).0;
   heads = λ k b at. let own = heads k b at in (own.1, own.2);
   there = there;
@@ -119,10 +114,10 @@ agree_on books version config ids c h heads there = record {
 -- ---- who is listed
 
 -- a node is listed among the founders, or it is not
-pub founders_listed : (b : BookState) (ids : List ℕ) (k r : Bool) → set.contains (set.from_list {R = nat_cmp} ids) b.id ≡ k
+pub founders_listed : {id : ℕ} (b : BookState) (ids : List ℕ) (k r : Bool) → id ≡ b.id → k ≡ list_any (λ y. nat_eq y id) ids
     → MatchBool r (b.founders ≡ cond k (Some ids) None) (b.founders ≡ cond k (Some ids) None → ⊥)
     → MatchBool r (b.founders ≡ founders_for b.id ids) (b.founders ≡ founders_for b.id ids → ⊥)
-founders_listed b ids k r is test = subst (λ (t : Bool). MatchBool r (b.founders ≡ cond t (Some ids) None) (b.founders ≡ cond t (Some ids) None → ⊥)) (sym is) test
-
-pub listed_is : (ids : List ℕ) (id : ℕ) (k : Bool) → k ≡ list_any (λ y. nat_eq y id) ids → set.contains (set.from_list {R = nat_cmp} ids) id ≡ k
-listed_is ids id k is = set.contains-from_list_nat ids id ∙ sym is
+founders_listed {id} b ids k r same listed test =
+    let is : k ≡ set.contains (set.from_list {R = nat_cmp} ids) b.id =
+    listed ∙ sym (set.contains-from_list_nat ids id) ∙ ap (set.contains (set.from_list {R = nat_cmp} ids)) same in
+    subst (λ (t : Bool). MatchBool r (b.founders ≡ cond t (Some ids) None) (b.founders ≡ cond t (Some ids) None → ⊥)) is test

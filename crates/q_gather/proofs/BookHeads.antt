@@ -17,10 +17,10 @@ use Rattle.q_history.proofs.Lists.{no_some}
 use Rattle.q_gather.specs.Beginnings.{IsBeginningOf, IsGivenBy, AreBeginnings, HoldWhatTheyDeliver, MayGather}
 use Rattle.q_gather.proofs.FrontsTraced.{trace_replay}
 use Rattle.q_gather.proofs.FrontsGather.{hold_all}
-use Rattle.q_gather.proofs.Cutting.{first_on}
+use Rattle.q_gather.proofs.Cutting.{first_on, headed_begun}
 
 pub whole_begun : (b : BookState) → IsReplay b → IsBeginningOf b b
-whole_begun b r = record { version = refl; id = refl; config = refl; founders = refl; entries = length b.desk.journal; journal = sym (take-length b.desk.journal); replay = r }
+whole_begun b r = headed_begun b b.node b.desk (length b.desk.journal) (sym (take-length b.desk.journal)) r
 
 pub wholes_begun : (books : List BookState) (version : Version) (config : Config) (founders : List ℕ) → MayGather books version config founders
     → AreBeginnings books books × HoldWhatTheyDeliver books
@@ -36,15 +36,9 @@ wholes_begun books version config founders may = (
 )
 
 pub head_begun : (b : BookState) (first : NodeState) → IsFirst b first b.founders → IsBeginningOf (new_book b.version b.id b.config b.founders first) b
-head_begun b first h = record {
-  version = refl;
-  id = refl;
-  config = refl;
-  founders = refl;
-  entries = 0;
-  journal = refl;
-  replay = record { first = first; begun = first_on b first (new_desk (record_lengths b.version)) first b.founders h; replayed = refl };
-}
+head_begun b first h =
+    let desk = new_desk (record_lengths b.version) in
+    headed_begun b first desk 0 refl (record { first = first; begun = first_on b first desk first b.founders h; replayed = refl })
 
 pub heads_hold : (books : List BookState) → ((k : ℕ) (b : BookState) → slice_get books k ≡ Some b → b.desk.journal ≡ []) → HoldWhatTheyDeliver books
 heads_hold books heads k place b m here at = absurd (no_some (entry.Deliver m) (ap (λ (x : List Entry). slice_get x place) (sym (heads k b here)) ∙ at))

@@ -1,5 +1,6 @@
 -- A book has one beginning of each number of entries; and what a book gives.
-use Rattle.std.proofs.Common.{◌≡◌, ℕ, List, [], ◌∷◌, ◌++◌, length, take, drop, Option, Some, None, refl, sym, ap, ◌∙◌, subst, slice_get, take-append-drop, take-take, take_all, length-take, arith, inl, inr}
+use Rattle.std.proofs.Common.{◌≡◌, ℕ, List, [], ◌∷◌, ◌++◌, refl, sym, ap, ◌∙◌, subst, take-append-drop, take-take, take_all, length-take, arith, inl, inr}
+use Rattle.std.specs.Prelude.{length, take, drop, slice_get, Option, Some, None}
 use Rattle.std.proofs.lemmas.Bool.{cases_lt}
 use Rattle.std.proofs.lemmas.Option.{slice_get_read}
 use Rattle.sc_msg.specs.declared.message.Message.{Message}
@@ -41,28 +42,27 @@ module _ (whole : BookState) where
   first_on n d first (Some ids) h = h
   first_on n d first None h = h
 
+  -- a replay with this head, and with the first entries, is a beginning
+  pub headed_begun : (n : NodeState) (d : DeskState) (entries : ℕ) → d.journal ≡ take entries whole.desk.journal
+      → IsReplay (record whole { node = n; desk = d }) → IsBeginningOf (record whole { node = n; desk = d }) whole
+  headed_begun n d entries journal replay =
+      record { version = refl; id = refl; config = refl; founders = refl; entries = entries; journal = journal; replay = replay }
+
   pub some_part : (entries : ℕ) → IsReplay whole → (part : BookState) × IsBeginningOf part whole × (part.desk.journal ≡ take entries whole.desk.journal)
   some_part entries r =
       let es = take entries whole.desk.journal in
-      let s = split es (drop entries whole.desk.journal) (begins r.first) whole (subst (λ (x : List Entry). Replays (begins r.first) x whole) (sym (take-append-drop entries whole.desk.journal)) r.replayed) in
+      let all = subst (λ (x : List Entry). Replays (begins r.first) x whole) (sym (take-append-drop entries whole.desk.journal)) r.replayed in
+      let s = split es (drop entries whole.desk.journal) (begins r.first) whole all in
       let c = s.0 in
       let on = replays_later es (begins r.first) c s.1 in
       let part : BookState = record whole { node = c.node; desk = c.desk } in (
         part,
-        record {
-          version = refl;
-          id = refl;
-          config = refl;
-          founders = refl;
-          entries = entries;
-          journal = on.adds;
-          replay = record {
-            first = r.first;
-            begun = first_on c.node c.desk r.first whole.founders r.begun;
-            replayed = subst (λ (x : List Entry). Replays (begins r.first) x part) (sym on.adds)
-                (subst (λ (x : BookState). Replays (begins r.first) es x) (sym on.same) s.1);
-          };
-        },
+        headed_begun c.node c.desk entries on.adds (record {
+          first = r.first;
+          begun = first_on c.node c.desk r.first whole.founders r.begun;
+          replayed = subst (λ (x : List Entry). Replays (begins r.first) x part) (sym on.adds)
+              (subst (λ (x : BookState). Replays (begins r.first) es x) (sym on.same) s.1);
+        }),
         on.adds,
       )
 

@@ -1,7 +1,7 @@
 -- An entry that a node's book can take next is an event that its cluster accepts.
 use Rattle.std.proofs.Common.{◌≡◌, ℕ, ◌==◌, true, List, [], ◌∷◌, ◌++◌, length, Option, Some, None, refl, sym, ap, ◌∙◌, subst, slice_get, Result, Ok}
 use Rattle.std.specs.Prelude.{IfSome}
-use Rattle.std.proofs.lemmas.Bool.{eq-eqb}
+use Rattle.std.proofs.lemmas.Bool.{eq-eqb, and_from}
 use Rattle.std.proofs.lemmas.List.{append-nil}
 use Rattle.std.proofs.lemmas.Option.{slice_get_read}
 use Rattle.forms.specs.Calls.{tested}
@@ -40,7 +40,7 @@ use Rattle.q_history.proofs.Lists.{same_some}
 use Rattle.q_desk.proofs.Accepted.{Keeps, keeps_itself, answered as with_answer, IsPosted}
 use Rattle.bq_insn.specs.Slots.{spelling}
 use Rattle.q_table.specs.Programs as table
-use Rattle.q_desk.proofs.Own.{job_by, and_both, same_bytes, same_number, own_fits}
+use Rattle.q_desk.proofs.Own.{job_by, same_bytes, same_number, own_fits}
 use Rattle.q_book.proofs.Followed.{deed, told, follows-accepted, is_posted}
 use Rattle.q_history.proofs.Accepted.{WasSent, event_for, outcome, ledger, ledger_sent, did_act}
 use Rattle.q_history.proofs.World.{at_live}
@@ -63,7 +63,8 @@ nothing = record { acc = 0; steps = 0 }
 -- ---- an answer
 
 -- a job of the query passes
-module _ (programs : List Certificate) (queries : List Query) (j : Job) (o : IsOut programs queries j) (q : Query) (view : ViewMap) (at : slice_get queries j.query ≡ Some q) (phase : q.phase ≡ Running view) where
+module _ {programs : List Certificate} {queries : List Query} {j : Job} {q : Query} {view : ViewMap} (o : IsOut programs queries j)
+    (at : slice_get queries j.query ≡ Some q) (phase : q.phase ≡ Running view) where
   its_query : o.query ≡ q
   its_query = same_some o.query q (sym o.at ∙ at)
 
@@ -83,7 +84,7 @@ module _ (programs : List Certificate) (queries : List Query) (j : Job) (o : IsO
   its_job i = record { node = j.node; query = j.query; program = its_program i; start = its_start i; certified = j.certified; view = its_view i }
 
   same_program : desk.is_same_program j.certified (Some j.certified) ≡ true
-  same_program = and_both (table.is_same_text j.certified.text j.certified.text) _ (same_bytes (spelling j.certified.text)) (same_number j.certified.longest)
+  same_program = and_from (table.is_same_text j.certified.text j.certified.text) _ (same_bytes (spelling j.certified.text)) (same_number j.certified.longest)
 
   job_passes : desk.is_job_of programs j q view ≡ true
   job_passes =
@@ -98,7 +99,8 @@ abbrev answers : DeskState → ViewMap → Ran → ℕ → Posted
 answers d view ran k = tested (desk.room d) (Ok (tt, with_answer d k view ran))
 
 -- two jobs of one query
-module _ (d : DeskState) (node : ℕ) (i j : Job) (ran : Ran) (q : Query) (view : ViewMap) (same : j.query ≡ i.query) (at : slice_get d.queries i.query ≡ Some q) (phase : q.phase ≡ Running view) where
+module _ (d : DeskState) (node : ℕ) (i j : Job) (ran : Ran) (q : Query) (view : ViewMap) (same : j.query ≡ i.query)
+    (at : slice_get d.queries i.query ≡ Some q) (phase : q.phase ≡ Running view) where
   posted_as : (x : Job) → (x.node == node) ≡ true → slice_get d.queries x.query ≡ Some q → desk.is_job_of d.programs x q view ≡ true
       → desk.posted d node x ran ≡ answers d view ran x.query
   posted_as x own here fits =
@@ -118,8 +120,8 @@ pub record IsRightLater (d : DeskState) : Type 0 where
   pub right : AnswersAreRight later
 
 -- the answer that a book recorded is right of the job that the cluster has for its query
-module _ (c : ClusterState) (b d : BookState) (ran : Ran) (i j : Job) (up : live_at c j.node ≡ Some b) (own : b.id ≡ j.node) (same : j.query ≡ i.query) (h : book.posted b i ran ≡ Ok (tt, d)) (o : IsOut b.desk.programs b.desk.queries j)
-    (right : IsRightLater d.desk) where
+module _ (c : ClusterState) (b d : BookState) (ran : Ran) (i j : Job) (up : live_at c j.node ≡ Some b) (own : b.id ≡ j.node) (same : j.query ≡ i.query)
+    (h : book.posted b i ran ≡ Ok (tt, d)) (o : IsOut b.desk.programs b.desk.queries j) (right : IsRightLater d.desk) where
   was_posted : ((i.node == b.id) ≡ true) × IsPosted b.desk i ran d.desk
   was_posted = is_posted b i ran d h
 
@@ -148,13 +150,13 @@ module _ (c : ClusterState) (b d : BookState) (ran : Ran) (i j : Job) (up : live
       same_some answered.program j.certified
       (sym answered.named
       ∙ right.keeps.programs by.query.program j.certified
-      (ap (λ (x : List Certificate). slice_get x by.query.program) programs ∙ its_certificate b.desk.programs b.desk.queries j o by.query by.view here by.phase))
+      (ap (λ (x : List Certificate). slice_get x by.query.program) programs ∙ its_certificate o here by.phase))
 
   right_of_it : Answers j ran
   right_of_it =
       subst (λ (x : Certificate). IsRight x j.view j.start ran) certificate
-      (subst (λ (x : ViewMap). IsRight answered.program x j.start ran) (its_view b.desk.programs b.desk.queries j o by.query by.view here by.phase)
-      (subst (λ (x : ℕ). IsRight answered.program by.view x ran) (its_start b.desk.programs b.desk.queries j o by.query by.view here by.phase) answered.right))
+      (subst (λ (x : ViewMap). IsRight answered.program x j.start ran) (its_view o here by.phase)
+      (subst (λ (x : ℕ). IsRight answered.program by.view x ran) (its_start o here by.phase) answered.right))
 
   -- and a right answer is unique
   one_answer : (r : Ran) → Answers j r → ran ≡ r
@@ -166,7 +168,7 @@ module _ (c : ClusterState) (b d : BookState) (ran : Ran) (i j : Job) (up : live
   posts_too =
       ap (λ (x : Posted). tested (book.present b) (book.by_desk (book.with_desk b) x))
       (same_post b.desk b.id i j ran by.query by.view same by.at by.phase was_posted.0 (eq-eqb j.node b.id (sym own))
-      by.fits (job_passes b.desk.programs b.desk.queries j o by.query by.view here by.phase))
+      by.fits (job_passes o here by.phase))
       ∙ h
 
   finish_makes : (number : ℕ) → slice_get c.jobs number ≡ Some j → Makes c (event.Finish number) j.node d []
@@ -198,7 +200,7 @@ module _ (c : ClusterState) (h : IsHistory c) (id : ℕ) (b d : BookState) (up :
       let r = outcome (told b e d f) d.node in
       let o = event_for id c.past.sent (deed b e d f) s in
       put_turn c (ledger c.past id o r) jobs id d (sends b e)
-      (ledger_sent c.past id o b.node r (did_act id c.past.sent b (deed b e d f) s (told b e d f) d.node a.node) ∙ ap (λ (x : List Message). c.past.sent ++ x) a.sent)
+      (ledger_sent c.past id o b.node r (did_act id c.past.sent b (deed b e d f) s (told b e d f) d.node a.node) ∙ (λ k. c.past.sent ++ a.sent k))
 
   -- the event by which the node takes the entry, which runs no job
   entry_goes : {A : Type 0} (e : Entry) (next : A → BookState → ClusterStep × ClusterState) (call : BookState → Result (A × BookState) Reason) (a : A)
@@ -211,11 +213,13 @@ module _ (c : ClusterState) (h : IsHistory c) (id : ℕ) (b d : BookState) (up :
   pub entry_makes : (e : Entry) (ev : ClusterEvent) → IsRightLater d.desk → Follows b e d → IsEventOf c id e ev → Makes c ev id d (sends b e)
   entry_makes (entry.Call k) ev right f is =
       entry_goes (entry.Call k) (replies c id) (λ x. called x k) f.0 f.1 (event.Call id k) ev is tt (λ r. refl)
-      (subst (IsTurn c id d (sends b (entry.Call k))) (replied_is c id f.0 d) (entry_turn (entry.Call k) f (sent_nothing c.past.sent f.0) (with_job c.jobs (reply_job f.0))))
+      (subst (IsTurn c id d (sends b (entry.Call k))) (replied_is c id f.0 d)
+      (entry_turn (entry.Call k) f (sent_nothing c.past.sent f.0) (with_job c.jobs (reply_job f.0))))
   entry_makes (entry.Deliver m) ev right f is =
       entry_goes (entry.Deliver m) (delivers c is.0 id) (λ x. book.delivered x m) f.0 f.1 (event.Deliver is.0 id) ev is.2 tt
       (λ r. ap (λ (o : Option Message). at_node c id (λ x. delivered_as c is.0 id x o)) is.1) (entry_turn (entry.Deliver m) f (is.0, is.1) c.jobs)
-  entry_makes (entry.Post query ran) ev right f is = subst (λ (x : ClusterEvent). Makes c x id d []) (sym is.2) (post_makes query ran f.0 is.0 right f.1 f.3 is.1)
+  entry_makes (entry.Post query ran) ev right f is =
+      subst (λ (x : ClusterEvent). Makes c x id d []) (sym is.2) (post_makes query ran f.0 is.0 right f.1 f.3 is.1)
 
   -- where what an entry wants was sent, there is such an event
   pub entry_event : (e : Entry) → Follows b e d → CanGo c.past.sent (step_of b e) → (ev : ClusterEvent) × IsEventOf c id e ev

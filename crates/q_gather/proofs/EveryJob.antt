@@ -32,7 +32,8 @@ JobsAre books jobs = (id : ℕ) (b : BookState) → fin.get books id ≡ Some b 
 module _ (books : BookMap) (jobs later : List Job) (id : ℕ) (b : BookState) (are : JobsAre books jobs) (new : AreJobsOf later id b.desk)
     (others : (q : ℕ) (x : DeskState) → (q ≡ id → ⊥) → AreJobsOf jobs q x → AreJobsOf later q x) where
   put_by : (q : ℕ) (x : BookState) (here : Bool) → (q == id) ≡ here → cond here (Some b) (fin.get books q) ≡ Some x → AreJobsOf later q x.desk
-  put_by q x true is at = subst (λ (p : ℕ). AreJobsOf later p x.desk) (sym (eqb-true q id is)) (subst (λ (y : BookState). AreJobsOf later id y.desk) (same_some b x at) new)
+  put_by q x true is at =
+      subst (λ (p : ℕ). AreJobsOf later p x.desk) (sym (eqb-true q id is)) (subst (λ (y : BookState). AreJobsOf later id y.desk) (same_some b x at) new)
   put_by q x false is at = others q x.desk (eqb-false q id is) (are q x at)
 
   put_jobs : JobsAre (fin.insert books id b) later
@@ -49,7 +50,7 @@ module _ (c : ClusterState) (kept : IsKept c) (are : JobsAre c.books c.jobs) whe
       let a = accepted c d k in
       let change : Change b k.id t e o = subst (λ (n : ℕ). Change b n t e o) (kept.headed k.id k.book at).id a.change in
       subst (λ (x : ClusterState). JobsAre x.books x.jobs) k.is
-      (put_jobs c.books c.jobs (with_job c.jobs o) k.id k.later are (change_jobs c.jobs k.id b e t o change a.keeps.programs (are k.id k.book at)) (away_jobs c.jobs k.id b e t o change))
+      (put_jobs c.books c.jobs (with_job c.jobs o) k.id k.later are (change_jobs c.jobs change a.keeps.programs (are k.id k.book at)) (away_jobs c.jobs change))
 
   made_jobs : (d : ClusterState) → IsMade c d → JobsAre d.books d.jobs
   made_jobs d (enters id none is) =
@@ -81,4 +82,4 @@ start_jobs version config ids id b at = record {
 
 pub history_jobs : (c : ClusterState) → IsHistory c → JobsAre c.books c.jobs
 history_jobs c h =
-    jobs_run h.0 (start c.version c.past.config c.past.founders) c (start_kept c.version c.past.config c.past.founders) (start_jobs c.version c.past.config c.past.founders) h.1
+    jobs_run h.0 _ c (start_kept c.version c.past.config c.past.founders) (start_jobs c.version c.past.config c.past.founders) h.1

@@ -1,17 +1,12 @@
--- Reads of lists that were written, and of lists that begin others.
-use Rattle.std.proofs.Common.{◌≡◌, ℕ, zero, suc, List, [], ◌∷◌, ◌++◌, Some, refl, subst, ◌⊎◌, inl, inr, ⊎_elim, slice_get, slice_set}
+-- Lists that begin others, and places that are found.
+use Rattle.std.proofs.Common.{◌≡◌, ℕ, zero, suc, List, [], ◌∷◌, ◌++◌, Some, refl, subst, ◌⊎◌, inl, inr, slice_get}
 use Rattle.std.proofs.lemmas.Bool.{cases_eq}
 use Rattle.q_history.proofs.Lists.{no_some}
 pub use Rattle.q_desk.proofs.Lists.{get-front}
-use Rattle.q_gather.proofs.Lists.{get_after}
 
 -- one list is the first part of another
 abbrev pub IsFront : {X : Type 0} → List X → List X → Type 0
 IsFront {X} front whole = (rest : List X) × (whole ≡ front ++ rest)
-
--- what stands elsewhere stood there
-pub get_other : {X : Type 0} (xs : List X) (i : ℕ) (y : X) (k : ℕ) (x : X) → (k ≡ i → ⊥) → slice_get (slice_set xs i y) k ≡ Some x → slice_get xs k ≡ Some x
-get_other xs i y k x away h = ⊎_elim (λ old. old) (λ new. absurd (away new.0)) (get_after xs i y k x h)
 
 -- a place that is in a relation to this number is found, or there is none
 abbrev pub Found : {X : Type 0} → List X → (ℕ → ℕ → Type 0) → ℕ → Type 0

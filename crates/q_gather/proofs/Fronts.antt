@@ -6,9 +6,9 @@ use Rattle.std.proofs.lemmas.List.Elements.{Contains-append_left, Contains-appen
 use Rattle.q_history.proofs.Lists.{same_some, no_some, get_elsewhere}
 use Rattle.q_gather.specs.Merging.{Step, CanGo, AreOver, Merges}
 use Rattle.q_gather.specs.Merging.Merges.{Over, Takes}
-use Rattle.q_gather.proofs.Lists.{get-same, get_after}
+use Rattle.q_gather.proofs.Lists.{get-same, get-written, get_after}
 use Rattle.q_gather.proofs.Merging.{over_at, all_over, same_first}
-use Rattle.q_gather.proofs.FrontLists.{IsFront, get-front, get_other, find_place}
+use Rattle.q_gather.proofs.FrontLists.{IsFront, get-front, find_place}
 
 -- ---- the steps of lists
 
@@ -56,20 +56,23 @@ module _ {M : Type 0} (lists : List (List (Step M))) (j : ℕ) (s : Step M) (res
     | inr away ↦ inr (record { steps = h.steps; at = get_elsewhere lists j rest i h.steps away h.at; place = h.place; there = h.there })
   ]
 
-  pub given_before : (m : M) → IsGiven (slice_set lists j rest) m → IsGiven lists m
-  given_before m g = record { list = g.list; step = g.step; has = has_before g.list g.step g.has; gives = g.gives }
+  -- what was given by then, or is given later
+  given_back : (given : List M) (m : M) → Contains (given ++ s.gives) m ⊎ IsGiven (slice_set lists j rest) m → Contains given m ⊎ IsGiven lists m
+  given_back given m (inr g) = inr (record { list = g.list; step = g.step; has = has_before g.list g.step g.has; gives = g.gives })
+  given_back given m (inl now) = elim (Contains-append_cases given s.gives m now) [
+    | inl old ↦ inl old
+    | inr new ↦ inr (record { list = j; step = s; has = has_first; gives = new })
+  ]
 
 -- in lists that merge each message that a step wants is given by a step
 pub all_given : {M : Type 0} {given : List M} {lists : List (List (Step M))} → Merges M given lists → (m : M) (i : ℕ) (t : Step M) → HasStep lists i t
     → t.wants ≡ Some m → Contains given m ⊎ IsGiven lists m
-all_given (Over {lists = lists} over) m i t h is = absurd (no_some t (ap (λ (x : List (Step _)). slice_get x h.place) (sym (over_at lists i h.steps over h.at)) ∙ h.there))
-all_given {M} (Takes {given = given} {lists = lists} j s rest at can then) m i t h is =
-    ⊎_elim (λ first. inl (subst (λ (o : Option M). IfSome o (Contains given)) (ap (λ (x : Step M). x.wants) first ∙ is) can))
-    (λ k. ⊎_elim
-    (λ now. ⊎_elim (λ old. inl old) (λ new. inr (record { list = j; step = s; has = has_first lists j s rest at; gives = new })) (Contains-append_cases given s.gives m now))
-    (λ g. inr (given_before lists j s rest at m g))
-    (all_given then m i t k is))
-    (has_after lists j s rest at i t h)
+all_given (Over {lists = lists} over) m i t h is =
+    absurd (no_some t (ap (λ (x : List (Step _)). slice_get x h.place) (sym (over_at lists i h.steps over h.at)) ∙ h.there))
+all_given {M} (Takes {given = given} {lists = lists} j s rest at can then) m i t h is = elim (has_after lists j s rest at i t h) [
+  | inl first ↦ inl (subst (λ (o : Option M). IfSome o (Contains given)) (ap (λ (x : Step M). x.wants) first ∙ is) can)
+  | inr still ↦ given_back lists j s rest at given m (all_given then m i t still is)
+]
 
 -- ---- fronts
 
@@ -119,7 +122,8 @@ module _ {M : Type 0} (From : ℕ → ℕ → Type 0) (once : (i k j : ℕ) → 
 
       -- what stands elsewhere is a front of what it was a front of
       front_elsewhere : (k : ℕ) (steps : List (Step M)) (p : IsFrontOf lists k steps) → (p.list ≡ j → ⊥) → IsFrontOf (slice_set lists j rest) k steps
-      front_elsewhere k steps p away = record { list = p.list; comes = p.comes; whole = p.whole; at = get_elsewhere lists j rest p.list p.whole away p.at; front = p.front }
+      front_elsewhere k steps p away =
+          record { list = p.list; comes = p.comes; whole = p.whole; at = get_elsewhere lists j rest p.list p.whole away p.at; front = p.front }
 
       -- it is not kept
       module _ (none : (k : ℕ) (steps : List (Step M)) → slice_get kept k ≡ Some steps → From k j → steps ≡ []) where
@@ -164,19 +168,17 @@ module _ {M : Type 0} (From : ℕ → ℕ → Type 0) (once : (i k j : ℕ) → 
         taken_can = taken_by s.wants refl can
 
         taken_front : (i : ℕ) (steps : List (Step M)) → slice_get (slice_set kept k left) i ≡ Some steps → IsFrontOf (slice_set lists j rest) i steps
-        taken_front i steps now = elim (cases_eq i k) [
-          | inl same ↦
-              let one_left : left ≡ steps = same_some left steps (sym (get-same kept k (s ∷ left) left here) ∙ ap (slice_get (slice_set kept k left)) (sym same) ∙ now) in
-              record {
-                list = j;
-                comes = subst (λ (x : ℕ). From x j) (sym same) comes;
-                whole = rest;
-                at = get-same lists j (s ∷ rest) rest at;
-                front = subst (λ (x : List (Step M)). IsFront x rest) one_left front;
-              }
-          | inr away ↦
-              let p = f.fronts i steps (get_other kept k left i steps away now) in
-              front_elsewhere i steps p (λ same. away (once i k j (subst (From i) same p.comes) comes))
+        taken_front i steps now = elim (get-written kept k left i steps now) [
+          | inl old ↦
+              let p = f.fronts i steps old.1 in
+              front_elsewhere i steps p (λ same. old.0 (once i k j (subst (From i) same p.comes) comes))
+          | inr new ↦ record {
+            list = j;
+            comes = subst (λ (x : ℕ). From x j) (sym new.0) comes;
+            whole = rest;
+            at = get-same lists j (s ∷ rest) rest at;
+            front = subst (λ (x : List (Step M)). IsFront x rest) new.1 front;
+          }
         ]
 
         taken_held : (m : M) (i : ℕ) (t : Step M) → HasStep (slice_set kept k left) i t → t.wants ≡ Some m
@@ -201,7 +203,8 @@ module _ {M : Type 0} (From : ℕ → ℕ → Type 0) (once : (i k j : ℕ) → 
         }
 
       -- so the kept lists merge where those do that are left
-      module _ (on : (later : List M) (those : List (List (Step M))) → AreFronts (given ++ s.gives) later (slice_set lists j rest) those → Merges M later those) where
+      module _ (on : (later : List M) (those : List (List (Step M))) → AreFronts (given ++ s.gives) later (slice_set lists j rest) those
+          → Merges M later those) where
         by_list : (k : ℕ) (steps : List (Step M)) → From k j → slice_get kept k ≡ Some steps → Merges M more kept
         by_list k [] comes here =
             on more kept (skipped (λ i steps now from. same_some steps [] (sym now ∙ ap (slice_get kept) (once i k j from comes) ∙ here)))

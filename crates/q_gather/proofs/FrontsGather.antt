@@ -1,5 +1,5 @@
 -- Of books that may be gathered, beginnings may be gathered that hold what they deliver.
-use Rattle.std.proofs.Common.{◌≡◌, ℕ, zero, suc, cond, Bool, List, [], ◌∷◌, length, Option, Some, None, refl, sym, ap, ◌∙◌, subst, inl, inr, slice_get, arith}
+use Rattle.std.proofs.Common.{◌≡◌, ℕ, zero, suc, cond, List, [], ◌∷◌, length, Some, None, refl, sym, ap, ◌∙◌, subst, inl, inr, slice_get, arith}
 use Rattle.std.specs.Prelude.{Contains}
 use Rattle.std.proofs.lemmas.Option.{slice_get_read}
 use Rattle.sc_members.specs.Members.{Config}
@@ -143,8 +143,8 @@ module _ (wholes parts : List BookState) (version : Version) (config : Config) (
         (w.is.config ∙ h.0, w.is.founders ∙ h.1 ∙ ap (λ (x : ℕ). founders_for x founders) (sym w.is.id));
     there = λ id listed.
         let w = agree.there id listed in
-        let some : founders_for id founders ≡ Some founders = ap (λ (x : Bool). let o : Option (List ℕ) = cond x (Some founders) None in o) listed in
-        subst (HasBook parts) w.of (begun.founders w.place w.book founders w.at ((agree.heads w.place w.book w.at).1 ∙ ap (λ (x : ℕ). founders_for x founders) w.of ∙ some));
+        let own = (agree.heads w.place w.book w.at).1 ∙ (λ i. founders_for (w.of i) founders) ∙ (λ i. cond (listed i) (Some founders) None) in
+        subst (HasBook parts) w.of (begun.founders w.place w.book founders w.at own);
   }
 
   parts_right : (lists : List Steps) → AreTraces wholes lists → AreRight wholes → AreRight parts

@@ -1,5 +1,6 @@
 -- The trace of a beginning is a front of the whole book's, and its steps are its entries.
-use Rattle.std.proofs.Common.{◌≡◌, ℕ, zero, suc, List, [], ◌∷◌, ◌++◌, take, drop, Option, Some, None, refl, sym, ap, ◌∙◌, subst, slice_get, take-append-drop, append_assoc}
+use Rattle.std.proofs.Common.{◌≡◌, ℕ, zero, suc, List, [], ◌∷◌, ◌++◌, Option, Some, None, refl, sym, ap, ◌∙◌, subst, slice_get, take-append-drop, append_assoc}
+use Rattle.std.specs.Prelude.{take, drop}
 use Rattle.sc_msg.specs.declared.message.Message.{Message}
 use Rattle.sc_node.specs.State.{NodeState}
 use Rattle.q_desk.specs.State.{DeskState}
@@ -49,9 +50,9 @@ module _ (whole : BookState) (n : NodeState) (d : DeskState) where
       let same : u.first ≡ t.first = first_same whole part refl refl u.first t.first whole.founders u.begun t.begun in
       let all : whole.desk.journal ≡ d.journal ++ rest = sym (take-append-drop entries whole.desk.journal) ∙ ap (λ (x : List Entry). x ++ rest) (sym journal) in
       let begins = λ (x : NodeState). new_book whole.version whole.id whole.config whole.founders x in
-      let r = from_front d.journal rest (begins t.first) part whole t.rest u.rest t.trace
-      (subst (λ (x : List Entry). IsTraceFrom (begins t.first) x u.rest whole) all (subst (λ (x : NodeState). IsTraceFrom (begins x) whole.desk.journal u.rest whole) same u.trace))
-      in (
+      let on = subst (λ (x : NodeState). IsTraceFrom (begins x) whole.desk.journal u.rest whole) same u.trace in
+      let own = subst (λ (x : List Entry). IsTraceFrom (begins t.first) x u.rest whole) all on in
+      let r = from_front d.journal rest (begins t.first) part whole t.rest u.rest t.trace own in (
         (
           r.0,
           u.is ∙ ap (λ (x : Steps). entering whole whole.founders ++ x) r.1 ∙ sym (append_assoc (entering whole whole.founders) t.rest r.0)
@@ -95,7 +96,7 @@ from_entry : (es : List Entry) (b c : BookState) (steps : Steps) → IsTraceFrom
 from_entry [] b c steps t k s m h is = absurd (no_some s (ap (λ (x : Steps). slice_get x k) (sym t.0) ∙ h))
 from_entry (e ∷ es) b c steps t zero s m h is =
     let first : step_of b e ≡ s = same_some (step_of b e) s (ap (λ (x : Steps). slice_get x 0) (sym t.3) ∙ h) in
-    ap (λ (x : Entry). let o : Option Entry = Some x in o) (wants_it e m (ap (λ (x : Step Message). x.wants) first ∙ is))
+    λ i. Some (wants_it e m (ap (λ (x : Step Message). x.wants) first ∙ is) i)
 from_entry (e ∷ es) b c steps t (suc k) s m h is = from_entry es t.0 c t.2 t.4 k s m (ap (λ (x : Steps). slice_get x (suc k)) (sym t.3) ∙ h) is
 
 -- and an entry that delivers a message has such a step
@@ -126,7 +127,7 @@ module _ (b : BookState) (steps : Steps) (t : IsTrace b steps) where
   pub step_entry : (k : ℕ) (s : Step Message) (m : Message) → slice_get steps k ≡ Some s → s.wants ≡ Some m
       → (place : ℕ) × (slice_get b.desk.journal place ≡ Some (entry.Deliver m))
   step_entry k s m h is =
-      entry_by b t.rest b.founders b.desk.journal (λ i x y at w. from_entry b.desk.journal _ b t.rest t.trace i x y at w) k s m (ap (λ (x : Steps). slice_get x k) (sym t.is) ∙ h) is
+      entry_by b t.rest b.founders b.desk.journal (from_entry b.desk.journal _ b t.rest t.trace) k s m (ap (λ (x : Steps). slice_get x k) (sym t.is) ∙ h) is
 
   pub entry_step : (place : ℕ) (m : Message) → slice_get b.desk.journal place ≡ Some (entry.Deliver m)
       → (k : ℕ) × (s : Step Message) × (slice_get steps k ≡ Some s) × (s.wants ≡ Some m)

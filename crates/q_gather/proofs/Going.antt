@@ -1,5 +1,6 @@
 -- The books are gathered by the events that are found, until none is.
-use Rattle.std.proofs.Common.{◌≡◌, ◌<◌, ℕ, List, [], ◌∷◌, ◌++◌, length, length-append, Option, Some, refl, sym, ap, ◌∙◌, subst, slice_get, slice_set, arith, ◌+◌, inl, inr}
+use Rattle.std.proofs.Common.{◌≡◌, ◌<◌, ℕ, List, [], ◌∷◌, ◌++◌, length-append, Option, refl, sym, ap, ◌∙◌, subst, arith, ◌+◌, inl, inr}
+use Rattle.std.specs.Prelude.{length, slice_get, slice_set}
 use Rattle.std.proofs.lemmas.List.{append-nil}
 use Rattle.sc_msg.specs.declared.message.Message.{Message}
 use Rattle.q_desk.specs.declared.journal.Entry.{Entry}
@@ -9,7 +10,7 @@ use Rattle.q_history.specs.declared.event.ClusterStep.{ClusterStep}
 use Rattle.q_history.specs.Headline.{ClusterState}
 use Rattle.q_history.specs.Calls.{Follows}
 use Rattle.q_history.proofs.Lists.{same_some, no_some}
-use Rattle.q_gather.specs.Merging.{Step, CanGo, AreOver, Merges}
+use Rattle.q_gather.specs.Merging.{CanGo, AreOver, Merges}
 use Rattle.q_gather.specs.Merging.Merges.{Over, Takes}
 use Rattle.q_gather.specs.Traces.{IsTraceFrom}
 use Rattle.q_gather.specs.Turns.{IsTurn}
@@ -19,6 +20,7 @@ use Rattle.q_gather.specs.Gathered.IsAt.{Away, There}
 use Rattle.q_gather.proofs.Lists.{get_after}
 use Rattle.q_gather.proofs.Merging.{over_at, all_over, merges_next, merges_stuck}
 use Rattle.q_gather.proofs.BooksGather.{gathered, done_at}
+use Rattle.q_gather.proofs.Keeping.{Steps}
 use Rattle.q_gather.proofs.Tracing.{traces_one}
 use Rattle.q_gather.specs.Gather.{Merge}
 use Rattle.q_gather.specs.declared.rounds.Rounds.{Rounds}
@@ -34,17 +36,19 @@ sent_same old new (m ∷ ms) is long =
     let more : length old ≡ length old + length (m ∷ ms) = sym long ∙ ap (λ (xs : List Message). length xs) is ∙ length-append old (m ∷ ms) in
     absurd (omega (arith, more))
 
-module _ (books : List BookState) (c later : ClusterState) (numbers after : NumberList) (g : IsGathering books c numbers) (ev : ClusterEvent) (n : IsNextAmong c books ev) (told : ClusterStep) (f : Follows c ev told later) where
+module _ {books : List BookState} {c later : ClusterState} {numbers : NumberList} {ev : ClusterEvent} {told : ClusterStep}
+    (g : IsGathering books c numbers) (n : IsNextAmong c books ev) (f : Follows c ev told later) where
   abbrev turn : Turn c g.left n.place n.book ev
-  turn = turn_of books c g.left g.under_way n.place n.book n.at ev n.next
+  turn = turn_of g.under_way n.place n.at ev n.next
 
   goes : Goes books c g.left n.place turn.step turn.rest ev
-  goes = turn_goes books c g.left g.under_way n.place n.book n.at ev turn
+  goes = turn_goes g.under_way n.place n.at ev turn
 
-  pub goes_on : ((outs : List Message) → AreNumbers c.past.sent numbers → later.past.sent ≡ c.past.sent ++ outs → AreNumbers later.past.sent after)
+  pub goes_on : {after : NumberList}
+      → ((outs : List Message) → AreNumbers c.past.sent numbers → later.past.sent ≡ c.past.sent ++ outs → AreNumbers later.past.sent after)
       → IsGathering books later after
   goes_on numbered =
-      let rests : List (List (Step Message)) = slice_set g.left n.place turn.rest in
+      let rests : List Steps = slice_set g.left n.place turn.rest in
       let sent : later.past.sent ≡ c.past.sent ++ turn.step.gives = goes.sent told later f in
       record {
         lists = g.lists;
@@ -66,13 +70,13 @@ module _ (books : List BookState) (c later : ClusterState) (numbers after : Numb
   -- where the event sent nothing, those that could not go on still cannot; the book that went was none of them
   pub idle_on : (places : List ℕ) → AreIdle c books places → length later.past.sent ≡ length c.past.sent → AreIdle later books places
   idle_on places idle long k b next among at is =
-      let rests : List (List (Step Message)) = slice_set g.left n.place turn.rest in
+      let rests : List Steps = slice_set g.left n.place turn.rest in
       let same : later.past.sent ≡ c.past.sent = sent_same c.past.sent later.past.sent turn.step.gives (goes.sent told later f) long in
-      let now : Turn later rests k b next = turn_of books later rests (goes.goes told later f) k b at next is in
+      let now : Turn later rests k b next = turn_of (goes.goes told later f) k at next is in
       elim (get_after g.left n.place turn.rest k (now.step ∷ now.rest) now.at) [
         | inl old ↦
             let can : CanGo c.past.sent now.step = subst (λ (x : List Message). CanGo x now.step) same now.can in
-            let before = next_is books c g.left g.under_way k b at now.step now.rest can old in
+            let before = next_is g.under_way k at now.step now.rest can old in
             idle k b before.0 among at before.1
         | inr new ↦
             let one : n.book ≡ b = same_some n.book b (sym n.at ∙ ap (slice_get books) (sym new.0) ∙ at) in
@@ -86,22 +90,22 @@ pub record AreGoing (books : List BookState) (c : ClusterState) (numbers : Numbe
   pub gathering : IsGathering books c numbers
   pub waiting : AreWaiting c books rounds
 
--- the event that the rounds answered is taken
-module _ (books : List BookState) (c later : ClusterState) (numbers after : NumberList) (rounds : Rounds) (g : AreGoing books c numbers rounds) (answer : Option ClusterEvent) (ev : ClusterEvent) (is : answer ≡ Some ev)
-    (next : AreNumbers c.past.sent numbers → AreWaiting c books rounds → Finds (IsNextAmong c books) answer) (told : ClusterStep) (f : Follows c ev told later) where
-  found : IsNextAmong c books ev
-  found = subst (λ (o : Option ClusterEvent). Finds (IsNextAmong c books) o) is (next g.gathering.numbered g.waiting)
+-- what the rounds answered
+pub found : {books : List BookState} {c : ClusterState} {numbers : NumberList} {rounds : Rounds} {answer o : Option ClusterEvent}
+    → AreGoing books c numbers rounds → answer ≡ o
+    → (AreNumbers c.past.sent numbers → AreWaiting c books rounds → Finds (IsNextAmong c books) answer) → Finds (IsNextAmong c books) o
+found {books} {c} g is next = subst (Finds (IsNextAmong c books)) is (next g.gathering.numbered g.waiting)
 
-  pub turn_less : all_left later books < all_left c books
-  turn_less = goes_less books c later numbers after g.gathering ev found told f
-
-  pub turn_kept : ((outs : List Message) → AreNumbers c.past.sent numbers → later.past.sent ≡ c.past.sent ++ outs → AreNumbers later.past.sent after)
-      → (turned : Rounds) → (AreNumbers c.past.sent numbers → AreWaiting c books rounds → AreIdle c books turned.waiting.keys)
-      → turned.sent ≡ length c.past.sent → AreGoing books later after turned
-  turn_kept numbered turned idle sent = record {
-    gathering = goes_on books c later numbers after g.gathering ev found told f numbered;
-    waiting = λ long. idle_on books c later numbers after g.gathering ev found told f turned.waiting.keys (idle g.gathering.numbered g.waiting) (long ∙ sent);
-  }
+-- its event is taken
+pub turn_kept : {books : List BookState} {c later : ClusterState} {numbers after : NumberList} {rounds turned : Rounds} {ev : ClusterEvent}
+    {told : ClusterStep} → AreGoing books c numbers rounds → IsNextAmong c books ev → Follows c ev told later
+    → ((outs : List Message) → AreNumbers c.past.sent numbers → later.past.sent ≡ c.past.sent ++ outs → AreNumbers later.past.sent after)
+    → (AreNumbers c.past.sent numbers → AreWaiting c books rounds → AreIdle c books turned.waiting.keys) → turned.sent ≡ length c.past.sent
+    → AreGoing books later after turned
+turn_kept {turned = turned} g n f numbered idle sent = record {
+  gathering = goes_on g.gathering n f numbered;
+  waiting = λ long. idle_on g.gathering n f turned.waiting.keys (idle g.gathering.numbered g.waiting) (long ∙ sent);
+}
 
 -- ---- no event
 
@@ -110,7 +114,7 @@ no_more [] n h = refl
 no_more (e ∷ es) n h = absurd (omega (arith, h))
 
 -- the node of a book that has taken all entries has no step left
-taken_over : (c : ClusterState) (whole : BookState) (left : List Entry) (steps : List (Step Message)) → IsAt c whole left steps → HasTaken c whole → steps ≡ []
+taken_over : (c : ClusterState) (whole : BookState) (left : List Entry) (steps : Steps) → IsAt c whole left steps → HasTaken c whole → steps ≡ []
 taken_over c whole left steps (Away absent none is t) taken = absurd (no_some taken.book (sym absent ∙ taken.at))
 taken_over c whole left steps (There b here t) taken =
     let same : taken.book ≡ b = same_some taken.book b (sym taken.at ∙ here) in
@@ -122,7 +126,7 @@ taken_over c whole left steps (There b here t) taken =
     over_by [] none t = t.0
     over_by (x ∷ xs) none t = absurd (cc)
 
-module _ (books : List BookState) (c : ClusterState) (numbers : NumberList) (g : IsGathering books c numbers) where
+module _ {books : List BookState} {c : ClusterState} {numbers : NumberList} (g : IsGathering books c numbers) where
   taken_all : HaveTaken c books → AreOver g.left
   taken_all taken =
       all_over g.left (λ k steps at.
@@ -148,5 +152,5 @@ module _ (books : List BookState) (c : ClusterState) (numbers : NumberList) (g :
       let on : Merges Message c.past.sent g.left = g.on (subst (Merges Message []) same m.merges) in
       some (taken_by (merges_stuck on (λ k s rest at can.
       let b = g.under_way.few k (s ∷ rest) at in
-      let ev = next_is books c g.left g.under_way k b.0 b.1 s rest can at in
+      let ev = next_is g.under_way k b.1 s rest can at in
       none ev.0 (record { place = k; book = b.0; at = b.1; next = ev.1 }))))

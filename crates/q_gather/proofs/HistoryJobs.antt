@@ -152,11 +152,11 @@ module _ (jobs : List Job) where
   new_job None j some = absurd (no_some j some)
   new_job (Some i) j some =
       let same : i ≡ j = same_some i j some in
-      record { number = length jobs; is = record { job = i; at = slice_get_last jobs i; by = ap (λ (x : Job). x.node) same; of = ap (λ (x : Job). x.query) same } }
+      record { number = length jobs; is = record { job = i; at = slice_get_last jobs i; by = λ k. (same k).node; of = λ k. (same k).query } }
 
 -- ---- an accepted call
 
-module _ (jobs : List Job) (id : ℕ) (d e : DeskState) (t : Told) (o : Option Job) (change : Change d id t e o) where
+module _ (jobs : List Job) {id : ℕ} {d e : DeskState} {t : Told} {o : Option Job} (change : Change d id t e o) where
   on : AreOn d.queries id o e.programs e.queries
   on = change_on d e id t o change
 
@@ -174,7 +174,8 @@ module _ (jobs : List Job) (id : ℕ) (d e : DeskState) (t : Told) (o : Option J
     still_out : (j : Job) → IsOut d.programs d.queries j → IsOut e.programs e.queries j
     still_out j x =
         let s = on.stay j.query x.query x.at in
-        record { query = s.query; at = s.at; program = s.program ∙ x.program; start = s.start ∙ x.start; certified = more j.program j.certified x.certified; runs = s.runs j.view x.runs }
+        let there = more j.program j.certified x.certified in
+        record { query = s.query; at = s.at; program = s.program ∙ x.program; start = s.start ∙ x.start; certified = there; runs = s.runs j.view x.runs }
 
     pub change_jobs : AreJobsOf (with_job jobs o) id e
     change_jobs = record {

@@ -15,6 +15,7 @@ use Rattle.q_desk.specs.Answers.{AnswersAreRight}
 use Rattle.q_desk.specs.declared.journal.Entry.{Entry}
 use Rattle.q_desk.proofs.Accepted.{same_some, no_some, Keeps}
 use Rattle.q_desk.proofs.Changes.{Told, GoesOver, readied, handed, recorded, Change, IsNew, fresh, moved, change_queries}
+use Rattle.q_desk.proofs.Own.{some_program}
 use Rattle.q_book.specs.State.{BookState}
 use Rattle.q_book.specs.Replays.{Follows, Replays, IsReplay}
 use Rattle.q_book.specs.Sends.{handed as handed_by}
@@ -29,10 +30,6 @@ abbrev pub AreKnown : DeskState → Type 0
 AreKnown d = (k : ℕ) (q : Query) (view : ViewMap) (ran : Ran) → slice_get d.queries k ≡ Some q → q.phase ≡ Answered view ran → HasProgram d q
 
 -- ---- an accepted call
-
-some_program : (c : Certificate) (o : Option Certificate) → desk.is_same_program c o ≡ true → (program : Certificate) × (o ≡ Some program)
-some_program c None h = absurd (cc)
-some_program c (Some program) h = (program, refl)
 
 -- the program of a query to which a job belongs
 job_program : (programs : List Certificate) (j : Job) (q : Query) (view : ViewMap) → desk.is_job_of programs j q view ≡ true

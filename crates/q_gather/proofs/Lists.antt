@@ -2,8 +2,7 @@
 use Rattle.std.proofs.Common.{◌≡◌, ◌⊎◌, ℕ, zero, suc, List, [], ◌∷◌, map, Some, refl, inl, inr, ⊎_elim, slice_get, slice_set}
 use Rattle.std.specs.Prelude.{Contains}
 use Rattle.std.proofs.lemmas.Option.{get_or_from_slice_get, slice_get_within}
-use Rattle.q_desk.proofs.Lists.{get-written}
-pub use Rattle.q_desk.proofs.Lists.{get-same}
+pub use Rattle.q_desk.proofs.Lists.{get-same, get-written}
 
 -- what stands somewhere is among all
 pub get_contains : {X : Type 0} (xs : List X) (k : ℕ) (x : X) → slice_get xs k ≡ Some x → Contains xs x

@@ -83,42 +83,51 @@ module _ (books : List BookState) (distinct : AreDistinct books) (c later : Clus
     merges = subst (λ (x : List Message). Merges Message x lists) sent coming.merges;
   }
 
-  -- a node went on by this step, behind which these are left
-  module _ (id : ℕ) (d : BookState) (outs : List Message) (turn : IsTurn c id d outs later) (k : ℕ) (whole : BookState) (mine : slice_get books k ≡ Some whole) (of : whole.id ≡ id) (steps : Steps)
-      (there : slice_get lists k ≡ Some steps) (s : Step Message) (left : List Entry) (was : IsAt c whole left (s ∷ steps)) (can : CanGo c.past.sent s) (sends : s.gives ≡ outs) where
-    elsewhere : (i : ℕ) (b : BookState) → (i ≡ k → ⊥) → slice_get books i ≡ Some b → IsPlaced c lists i b
+  -- a node went on by this step
+  module _ (id : ℕ) (d : BookState) (s : Step Message) (turn : IsTurn c id d s.gives later) where
+    abbrev has : HasBook books id
+    has = coming.all id d turn.book
+
+    abbrev placed : IsPlaced later lists has.place has.book
+    placed = coming.at has.place has.book has.at
+
+    -- behind its new book these are left
+    is_left : (left : List Entry) (steps : Steps) → IsAt later has.book left steps → IsTraceFrom d left steps has.book
+    is_left left steps (Away absent none is t) = absurd (no_some d (sym absent ∙ ap (book_at later) has.of ∙ turn.book))
+    is_left left steps (There b at t) =
+        subst (λ (x : BookState). IsTraceFrom x left steps has.book) (same_some b d (sym at ∙ ap (book_at later) has.of ∙ turn.book)) t
+
+    elsewhere : (i : ℕ) (b : BookState) → (i ≡ has.place → ⊥) → slice_get books i ≡ Some b → IsPlaced c lists i b
     elsewhere i b away here =
         let p = coming.at i b here in
-        (p.0, p.1, p.2, at_stays later c b p.2 p.0 (sym (turn.others b.id (λ same. away (distinct i k b whole here mine (same ∙ sym of))))) p.3)
+        let others = turn.others b.id (λ same. away (distinct i has.place b has.book here has.at (same ∙ sym has.of))) in
+        (p.0, p.1, p.2, at_stays later c b p.2 p.0 (sym others) p.3)
 
-    merges_back : Merges Message c.past.sent (slice_set lists k (s ∷ steps))
-    merges_back =
-        Takes k s steps (get-same lists k steps (s ∷ steps) there) can
-        (subst (λ (x : List Steps). Merges Message (c.past.sent ++ s.gives) x) (sym (set_back lists k (s ∷ steps) steps there))
-        (subst (λ (x : List Message). Merges Message x lists) (turn.sent ∙ ap (λ (x : List Message). c.past.sent ++ x) (sym sends)) coming.merges))
+    abbrev more : List Steps
+    more = slice_set lists has.place (s ∷ placed.0)
 
-    went_back : IsComing books c (slice_set lists k (s ∷ steps))
-    went_back = record {
-      at = placed_set books k whole mine c lists (s ∷ steps) (s ∷ steps, get-same lists k steps (s ∷ steps) there, left, was) elsewhere;
-      few = few_set books k whole mine lists (s ∷ steps) coming.few;
-      all = λ q b at. has_book books k whole mine q (λ away. coming.all q b (turn.others q (λ same. away (same ∙ sym of)) ∙ at));
-      merges = merges_back;
+    merges_back : CanGo c.past.sent s → Merges Message c.past.sent more
+    merges_back can =
+        Takes has.place s placed.0 (get-same lists has.place placed.0 (s ∷ placed.0) placed.1) can
+        (subst (λ (x : List Steps). Merges Message (c.past.sent ++ s.gives) x) (sym (set_back lists has.place (s ∷ placed.0) placed.0 placed.1))
+        (subst (λ (x : List Message). Merges Message x lists) turn.sent coming.merges))
+
+    went_back : (left : List Entry) → IsAt c has.book left (s ∷ placed.0) → CanGo c.past.sent s → IsComing books c more
+    went_back left was can = record {
+      at = placed_set books has.place has.book has.at c lists placed.1 was elsewhere;
+      few = few_set books has.place has.book has.at lists (s ∷ placed.0) coming.few;
+      all = λ q b at. has_book books has.place has.book has.at q (λ away. coming.all q b (turn.others q (λ same. away (same ∙ sym has.of)) ∙ at));
+      merges = merges_back can;
     }
-
-  -- behind its new book the node has these entries left
-  left_there : (id : ℕ) (d : BookState) (whole : BookState) (left : List Entry) (steps : Steps) → book_at later id ≡ Some d → whole.id ≡ id
-      → IsAt later whole left steps → IsTraceFrom d left steps whole
-  left_there id d whole left steps here of (Away absent none is t) = absurd (no_some d (sym absent ∙ ap (book_at later) of ∙ here))
-  left_there id d whole left steps here of (There b at t) = subst (λ (x : BookState). IsTraceFrom x left steps whole) (same_some b d (sym at ∙ ap (book_at later) of ∙ here)) t
 
   goes_back : (id : ℕ) (b d : BookState) (e : Entry) → book_at c id ≡ Some b → replays.Follows b e d → CanGo c.past.sent (step_of b e)
       → IsTurn c id d (step_of b e).gives later → (more : List Steps) × IsComing books c more
   goes_back id b d e here f can turn =
-      let h = coming.all id d turn.book in
-      let p = coming.at h.place h.book h.at in
-      let t = left_there id d h.book p.2 p.0 turn.book h.of p.3 in
-      let was : IsAt c h.book (e ∷ p.2) (step_of b e ∷ p.0) = There b (ap (book_at c) h.of ∙ here) (d, f, p.0, refl, t) in
-      (slice_set lists h.place (step_of b e ∷ p.0), went_back id d (step_of b e).gives turn h.place h.book h.at h.of p.0 p.1 (step_of b e) (e ∷ p.2) was can refl)
+      let s = step_of b e in
+      let h = has id d s turn in
+      let p = placed id d s turn in
+      let was : IsAt c h.book (e ∷ p.2) (s ∷ p.0) = There b (ap (book_at c) h.of ∙ here) (d, f, p.0, refl, is_left id d s turn p.2 p.0 p.3) in
+      (more id d s turn, went_back id d s turn (e ∷ p.2) was can)
 
   -- the steps of a node that entered
   module _ (id : ℕ) (whole : BookState) (left : List Entry) (steps : Steps) (t : IsTraceFrom (book.entered c.version c.past.config id).0 left steps whole) where
@@ -153,12 +162,13 @@ module _ (books : List BookState) (distinct : AreDistinct books) (c later : Clus
       → (more : List Steps) × IsComing books c more
   enters_back id absent turn =
       let e = book.entered c.version c.past.config id in
-      let h = coming.all id e.0 turn.book in
-      let p = coming.at h.place h.book h.at in
-      let t = left_there id e.0 h.book p.2 p.0 turn.book h.of p.3 in
       let s : Step Message = record { wants = None; gives = e.1 } in
-      let was : IsAt c h.book h.book.desk.journal (s ∷ p.0) = Away (ap (book_at c) h.of ∙ absent) (entered_alone id h.book p.2 p.0 t) refl (entered_trace id h.book p.2 p.0 t) in
-      (slice_set lists h.place (s ∷ p.0), went_back id e.0 e.1 turn h.place h.book h.at h.of p.0 p.1 s h.book.desk.journal was tt refl)
+      let h = has id e.0 s turn in
+      let p = placed id e.0 s turn in
+      let t = is_left id e.0 s turn p.2 p.0 p.3 in
+      let was : IsAt c h.book h.book.desk.journal (s ∷ p.0) =
+      Away (ap (book_at c) h.of ∙ absent) (entered_alone id h.book p.2 p.0 t) refl (entered_trace id h.book p.2 p.0 t) in
+      (more id e.0 s turn, went_back id e.0 s turn h.book.desk.journal was tt)
 
   back : IsMove c later → (more : List Steps) × IsComing books c more
   back (Rests same sent) = (lists, rests_back same sent)

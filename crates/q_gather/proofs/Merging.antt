@@ -24,8 +24,9 @@ wants_on : {M : Type 0} (given more : List M) (o : Option M) → IsWithin given 
 wants_on given more None within can = tt
 wants_on given more (Some m) within can = within m can
 
-pub goes_on : {M : Type 0} (given more : List M) (s : Step M) → IsWithin given more → CanGo given s → CanGo more s
-goes_on given more s within can = wants_on given more s.wants within can
+-- a step that can go still can where more was given
+still_can : {M : Type 0} (given more : List M) (s : Step M) → CanGo given s → CanGo (given ++ more) s
+still_can given more s can = wants_on given (given ++ more) s.wants (λ m h. Contains-append_left given more m h) can
 
 both_on : {M : Type 0} (given more outs : List M) → IsWithin given more → IsWithin (given ++ outs) (more ++ outs)
 both_on given more outs within m h =
@@ -36,7 +37,7 @@ pub merges_on : {M : Type 0} {given : List M} {lists : List (List (Step M))} →
     → Merges M more lists
 merges_on (Over over) more within = Over over
 merges_on (Takes {given = given} k s rest at can then) more within =
-    Takes k s rest at (goes_on given more s within can) (merges_on then (more ++ s.gives) (both_on given more s.gives within))
+    Takes k s rest at (wants_on given more s.wants within can) (merges_on then (more ++ s.gives) (both_on given more s.gives within))
 
 swapped : {M : Type 0} (given one two : List M) → IsWithin ((given ++ one) ++ two) ((given ++ two) ++ one)
 swapped given one two m h =
@@ -52,23 +53,21 @@ pub same_first : {X : Type 0} (x y : X) (xs ys : List X) → x ∷ xs ≡ y ∷ 
 same_first x y xs ys h = (cc, cc)
 
 -- two lists whose first steps can go
-module _ {M : Type 0} (given : List M) (lists : List (List (Step M))) (j : ℕ) (t : Step M) (left : List (Step M)) (there : slice_get lists j ≡ Some (t ∷ left)) (may : CanGo given t) (k : ℕ) (s : Step M)
-    (rest : List (Step M)) (at : slice_get lists k ≡ Some (s ∷ rest)) (can : CanGo given s) where
-  by_one : j ≡ k → Merges M (given ++ t.gives) (slice_set lists j left) → Merges M (given ++ s.gives) (slice_set lists k rest)
-  by_one same then =
+module _ {M : Type 0} (given : List M) (lists : List (List (Step M))) (j : ℕ) (t : Step M) (left : List (Step M))
+    (there : slice_get lists j ≡ Some (t ∷ left)) (may : CanGo given t) (k : ℕ) (s : Step M) (rest : List (Step M)) where
+  by_one : slice_get lists k ≡ Some (s ∷ rest) → j ≡ k → Merges M (given ++ t.gives) (slice_set lists j left)
+      → Merges M (given ++ s.gives) (slice_set lists k rest)
+  by_one at same then =
       let parts = same_first t s left rest (same_some (t ∷ left) (s ∷ rest) (sym there ∙ ap (slice_get lists) same ∙ at)) in
       subst (λ (x : Step M). Merges M (given ++ x.gives) (slice_set lists k rest)) parts.0
       (subst (λ (x : List (Step M)). Merges M (given ++ t.gives) (slice_set lists k x)) parts.1
       (subst (λ (x : ℕ). Merges M (given ++ t.gives) (slice_set lists x left)) same then))
 
-  by_two : (j ≡ k → ⊥)
-      → (slice_get (slice_set lists j left) k ≡ Some (s ∷ rest) → CanGo (given ++ t.gives) s → Merges M ((given ++ t.gives) ++ s.gives) (slice_set (slice_set lists j left) k rest))
+  by_two : (j ≡ k → ⊥) → Merges M ((given ++ t.gives) ++ s.gives) (slice_set (slice_set lists j left) k rest)
       → Merges M (given ++ s.gives) (slice_set lists k rest)
   by_two away then =
-      Takes j t left (get_elsewhere lists k rest j (t ∷ left) away there) (goes_on given (given ++ s.gives) t (λ m h. Contains-append_left given s.gives m h) may)
-      (merges_on
-      (subst (λ (x : List (List (Step M))). Merges M ((given ++ t.gives) ++ s.gives) x) (set_comm lists j k left rest away)
-      (then (get_elsewhere lists j left k (s ∷ rest) (λ e. away (sym e)) at) (goes_on given (given ++ t.gives) s (λ m h. Contains-append_left given t.gives m h) can)))
+      Takes j t left (get_elsewhere lists k rest j (t ∷ left) away there) (still_can given s.gives t may)
+      (merges_on (subst (λ (x : List (List (Step M))). Merges M ((given ++ t.gives) ++ s.gives) x) (set_comm lists j k left rest away) then)
       ((given ++ s.gives) ++ t.gives) (swapped given t.gives s.gives))
 
 -- a first step that can go may go at once
@@ -76,8 +75,10 @@ pub merges_next : {M : Type 0} {given : List M} {lists : List (List (Step M))} �
     → slice_get lists k ≡ Some (s ∷ rest) → CanGo given s → Merges M (given ++ s.gives) (slice_set lists k rest)
 merges_next (Over {lists = lists} over) k s rest at can = let none : s ∷ rest ≡ [] = over_at lists k (s ∷ rest) over at in absurd (cc)
 merges_next (Takes {given = given} {lists = lists} j t left there may then) k s rest at can = elim (cases_eq j k) [
-  | inl same ↦ by_one given lists j t left there may k s rest at can same then
-  | inr away ↦ by_two given lists j t left there may k s rest at can away (λ here goes. merges_next then k s rest here goes)
+  | inl same ↦ by_one given lists j t left there may k s rest at same then
+  | inr away ↦
+      by_two given lists j t left there may k s rest away
+      (merges_next then k s rest (get_elsewhere lists j left k (s ∷ rest) (λ e. away (sym e)) at) (still_can given t.gives s can))
 ]
 
 -- where no first step can go, lists merge only if all are over

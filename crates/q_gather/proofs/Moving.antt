@@ -43,8 +43,9 @@ module _ (c : ClusterState) where
 
   called_moves : (later : ClusterState) → IsCalled c later → IsMove c later
   called_moves later k =
+      let turn = put_turn c (past c later k) (with_job c.jobs (handed k.book k.entry)) k.id k.later (sends k.book k.entry) (called_sent c later k) in
       Goes k.id k.book k.later k.entry (at_live c k.id k.book k.live) k.follows (may_go k.book k.entry k.later k.follows k.wants)
-      (subst (IsTurn c k.id k.later (sends k.book k.entry)) k.is (put_turn c (past c later k) (with_job c.jobs (handed k.book k.entry)) k.id k.later (sends k.book k.entry) (called_sent c later k)))
+      (subst (IsTurn c k.id k.later (sends k.book k.entry)) k.is turn)
 
   made_moves : (later : ClusterState) → IsMade c later → IsMove c later
   made_moves later (enters id none is) =

@@ -1,6 +1,6 @@
 -- The numbers of messages after one more is sent.
-use Rattle.std.proofs.Common.{◌≡◌, ◌<◌, ℕ, Bool, true, false, cond, List, [], ◌∷◌, ◌++◌, length, Option, Some, None, is_some, refl, sym, ap, ◌∙◌, subst, inl, inr, slice_get, arith}
-use Rattle.std.specs.Prelude.{bytes_eq}
+use Rattle.std.proofs.Common.{◌≡◌, ◌<◌, ℕ, Bool, true, false, cond, List, [], ◌∷◌, ◌++◌, refl, sym, ap, ◌∙◌, subst, inl, inr, arith, true≢false}
+use Rattle.std.specs.Prelude.{bytes_eq, length, Option, Some, None, is_some, slice_get}
 use Rattle.std.proofs.lemmas.Option.{slice_get_within}
 use Rattle.std.proofs.lemmas.Slice.Eq.{bytes_eq-Decides}
 use Rattle.sc_msg.specs.declared.message.Message.{Message}
@@ -30,7 +30,8 @@ number_last : (bytes other : List ℕ) (n : ℕ) (es : NumberList) → number_of
     → number_of bytes (es ++ (other, n) ∷ []) ≡ cond (bytes_eq bytes other) (Some n) None
 number_last bytes other n [] none = refl
 number_last bytes other n (e ∷ es) none =
-    last_by (bytes_eq bytes e.0) e.1 (number_of bytes es) (number_of bytes (es ++ (other, n) ∷ [])) (cond (bytes_eq bytes other) (Some n) None) none (λ h. number_last bytes other n es h)
+    last_by (bytes_eq bytes e.0) e.1 (number_of bytes es) (number_of bytes (es ++ (other, n) ∷ []))
+    (cond (bytes_eq bytes other) (Some n) None) none (λ h. number_last bytes other n es h)
 
 -- what is found stays found
 number_first : (bytes other : List ℕ) (n k : ℕ) (es : NumberList) → number_of bytes es ≡ Some k → number_of bytes (es ++ (other, n) ∷ []) ≡ Some k
@@ -64,14 +65,16 @@ module _ (one : OneSpelling) (sent : List Message) (es : NumberList) (are : AreN
   there_by x good (Some n) at some = kept x n (subst (IsLeastNumber sent x) at (are x good))
   there_by x good None at some =
       not_sent x (subst (IsLeastNumber sent x) at (are x good))
-      (λ same. let none : false ≡ true = ap (λ (o : Option ℕ). is_some o) (sym at) ∙ ap (λ (y : Message). is_some (number_of (message_bytes Second y) es)) (sym same) ∙ some in absurd (cc))
+      (λ same. true≢false (sym some ∙ (λ i. is_some (number_of (message_bytes Second (same i)) es)) ∙ (λ i. is_some (at i))))
 
   new_by : (x : Message) → IsMessage Second x → (o : Option ℕ) → number_of (message_bytes Second x) es ≡ o → number_of (message_bytes Second m) es ≡ None
       → IsLeastNumber (sent ++ m ∷ []) x (number_of (message_bytes Second x) (es ++ (message_bytes Second m, length sent) ∷ []))
   new_by x good (Some n) at none =
-      subst (IsLeastNumber (sent ++ m ∷ []) x) (sym (number_first (message_bytes Second x) (message_bytes Second m) (length sent) n es at)) (kept x n (subst (IsLeastNumber sent x) at (are x good)))
+      subst (IsLeastNumber (sent ++ m ∷ []) x) (sym (number_first (message_bytes Second x) (message_bytes Second m) (length sent) n es at))
+      (kept x n (subst (IsLeastNumber sent x) at (are x good)))
   new_by x good None at none =
-      subst (IsLeastNumber (sent ++ m ∷ []) x) (sym (number_last (message_bytes Second x) (message_bytes Second m) (length sent) es at)) (go (bytes_eq (message_bytes Second x) (message_bytes Second m)) refl)
+      subst (IsLeastNumber (sent ++ m ∷ []) x) (sym (number_last (message_bytes Second x) (message_bytes Second m) (length sent) es at))
+      (go (bytes_eq (message_bytes Second x) (message_bytes Second m)) refl)
     where
       go : (b : Bool) → bytes_eq (message_bytes Second x) (message_bytes Second m) ≡ b → IsLeastNumber (sent ++ m ∷ []) x (cond b (Some (length sent)) None)
       go true is =
@@ -79,9 +82,7 @@ module _ (one : OneSpelling) (sent : List Message) (es : NumberList) (are : AreN
           subst (λ (y : Message). IsLeastNumber (sent ++ m ∷ []) y (Some (length sent))) same (first_sent (subst (IsLeastNumber sent m) none (are m legal)))
       go false is =
           not_sent x (subst (IsLeastNumber sent x) at (are x good))
-          (λ same.
-          let both : false ≡ true = sym is ∙ (bytes_eq-Decides (message_bytes Second x) (message_bytes Second m)).1 (ap (message_bytes Second) (sym same)) in
-          absurd (cc))
+          (λ same. true≢false (sym ((bytes_eq-Decides (message_bytes Second x) (message_bytes Second m)).1 (ap (message_bytes Second) (sym same))) ∙ is))
 
   by_test : (b : Bool) → is_some (number_of (message_bytes Second m) es) ≡ b
       → AreNumbers (sent ++ m ∷ []) (cond b es (es ++ (message_bytes Second m, length sent) ∷ []))

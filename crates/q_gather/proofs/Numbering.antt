@@ -15,23 +15,24 @@ use Rattle.q_gather.specs.Numbers.{NumberList, added, AreNumbers}
 use Rattle.q_gather.specs.Gathering.{HasTaken}
 
 abbrev pub OneMore : Type 0
-OneMore = (sent : List Message) (numbers : NumberList) (m : Message) → AreNumbers sent numbers → IsMessage Second m → AreNumbers (sent ++ m ∷ []) (added (message_bytes Second m) (length sent) numbers)
+OneMore = (sent : List Message) (numbers : NumberList) (m : Message) → AreNumbers sent numbers → IsMessage Second m
+    → AreNumbers (sent ++ m ∷ []) (added (message_bytes Second m) (length sent) numbers)
 
-pub numbered_next : OneMore → (sent : List Message) (numbers after : NumberList) (m : Message) (n : ℕ) → Some m ≡ slice_get sent n → IsMessage Second m
-    → after ≡ added (message_bytes Second m) n numbers → AreNumbers (take n sent) numbers → AreNumbers (take (n + 1) sent) after
-numbered_next more sent numbers after m n at legal is are =
+pub numbered_next : {after : NumberList} {m : Message} → OneMore → (sent : List Message) (numbers : NumberList) (n : ℕ) → Some m ≡ slice_get sent n
+    → IsMessage Second m → after ≡ added (message_bytes Second m) n numbers → AreNumbers (take n sent) numbers → AreNumbers (take (n + 1) sent) after
+numbered_next {after = after} {m = m} more sent numbers n at legal is are =
     let within : n < length sent = slice_get_within sent n m (sym at) in
     let long : length (take n sent) ≡ n = length-take-le n sent (omega (arith, within)) in
     let list : take (n + 1) sent ≡ take n sent ++ m ∷ [] =
     take_more sent n m within ∙ ap (λ (x : Message). take n sent ++ x ∷ []) (get_or_from_slice_get sent n m m (sym at)) in
-    let next : AreNumbers (take n sent ++ m ∷ []) (added (message_bytes Second m) (length (take n sent)) numbers) = more (take n sent) numbers m are legal in
-    let so : AreNumbers (take n sent ++ m ∷ []) (added (message_bytes Second m) n numbers) = subst (λ (k : ℕ). AreNumbers (take n sent ++ m ∷ []) (added (message_bytes Second m) k numbers)) long next in
-    subst (λ (x : List Message). AreNumbers x after) (sym list) (subst (λ (x : NumberList). AreNumbers (take n sent ++ m ∷ []) x) (sym is) so)
+    let same : added (message_bytes Second m) (length (take n sent)) numbers ≡ after = (λ i. added (message_bytes Second m) (long i) numbers) ∙ sym is in
+    subst (λ (x : List Message). AreNumbers x after) (sym list)
+    (subst (AreNumbers (take n sent ++ m ∷ [])) same (more (take n sent) numbers m are legal))
 
 -- the messages that were sent before the event are the first
-pub sent_before : (old new outs : List Message) (n : ℕ) (numbers : NumberList) → n ≡ length old → new ≡ old ++ outs → AreNumbers old numbers
+pub sent_before : {new : List Message} {n : ℕ} (old outs : List Message) (numbers : NumberList) → n ≡ length old → new ≡ old ++ outs → AreNumbers old numbers
     → AreNumbers (take n new) numbers
-sent_before old new outs n numbers long is are =
+sent_before {new = new} {n = n} old outs numbers long is are =
     let le : length old ≤ length old = omega arith in
     let whole : take n new ≡ old =
     (λ i. take (long i) (is i)) ∙ take-append-le (length old) old outs le ∙ take_all (length old) old le in
@@ -39,9 +40,9 @@ sent_before old new outs n numbers long is are =
 
 -- ---- what was taken
 
-pub taken_test : (c : ClusterState) (whole b : BookState) (n m : ℕ) → Some b ≡ book_at c whole.id → n ≡ length b.desk.journal
+pub taken_test : {b : BookState} {n m : ℕ} (c : ClusterState) (whole : BookState) → Some b ≡ book_at c whole.id → n ≡ length b.desk.journal
     → m ≡ length whole.desk.journal → MatchBool (nat_eq n m) (HasTaken c whole) (HasTaken c whole → ⊥)
-taken_test c whole b n m at is are = go (nat_eq n m) refl
+taken_test {b = b} {n = n} {m = m} c whole at is are = go (nat_eq n m) refl
   where
     go : (t : Bool) → nat_eq n m ≡ t → MatchBool t (HasTaken c whole) (HasTaken c whole → ⊥)
     go true same = record { book = b; at = sym at; all = sym is ∙ eqb-true n m same ∙ are }

@@ -1,6 +1,6 @@
 -- Journals and their books, and that refusals exclude each other.
-use Rattle.std.proofs.Common.{◌≡◌, ◌<◌, ◌+◌, ℕ, zero, suc, List, [], ◌∷◌, ◌++◌, length, map, take, get_or, Some, Result, Ok, Err, refl, sym, ap, ◌∙◌, subst, slice_get, Bor, ⊎_elim}
-use Rattle.std.specs.Prelude.{option_map, IfOk, IfErr, MatchResult}
+use Rattle.std.proofs.Common.{◌≡◌, ◌<◌, ◌+◌, ℕ, zero, suc, List, [], ◌∷◌, ◌++◌, map, get_or, Some, Result, Ok, Err, refl, sym, ap, ◌∙◌, subst, Bor, ⊎_elim}
+use Rattle.std.specs.Prelude.{◌≢◌, option_map, IfOk, IfErr, MatchResult, length, take, slice_get}
 use Rattle.std.specs.List.{AllByRecursion}
 use Rattle.std.proofs.lemmas.Bool.{cases_order}
 use Rattle.std.proofs.lemmas.List.{map-append, take_more}
@@ -23,21 +23,26 @@ use Rattle.q_gather.proofs.Finding.{get_take}
 
 -- ---- one journal after another
 
--- the bytes at a place
-pub text_at : (js : List (Bor (List ℕ))) (k : ℕ) (d : Bor (List ℕ)) → k < length js
-    → slice_get (map (λ (bytes : Bor (List ℕ)). bytes.now) js) k ≡ Some (get_or js k d).now
-text_at js k d less = slice_get-map (λ (bytes : Bor (List ℕ)). bytes.now) js k ∙ ap (option_map (λ (bytes : Bor (List ℕ)). bytes.now)) (slice_get-get_or js k d less)
+-- the bytes of the journals, and those at a place
+abbrev pub texts : List (Bor (List ℕ)) → List (List ℕ)
+texts js = map (λ (bytes : Bor (List ℕ)). bytes.now) js
 
-pub replayed_text : (js : List (Bor (List ℕ))) (books more : List BookState) (place : ℕ) (d : Bor (List ℕ)) (b : BookState) → place < length js
-    → AreReplayed (take place (map (λ (bytes : Bor (List ℕ)). bytes.now) js)) books → (get_or js place d).now ≡ journal_of b → IsJournalled b
-    → more ≡ books ++ b ∷ [] → AreReplayed (take (place + 1) (map (λ (bytes : Bor (List ℕ)). bytes.now) js)) more
-replayed_text js books more place d b less before spelled is grows =
-    let journals : List (List ℕ) = map (λ (bytes : Bor (List ℕ)). bytes.now) js in
-    let at = text_at js place d less in
-    let read : get_or journals place [] ≡ journal_of b = get_or_from_slice_get journals place (get_or js place d).now [] at ∙ spelled in
-    subst (AreReplayed (take (place + 1) journals)) (sym grows) (record {
+abbrev pub text : List (Bor (List ℕ)) → ℕ → List ℕ
+text js k = (get_or js k (record { ref_ptr = (0, 0); now = [] })).now
+
+text_at : (js : List (Bor (List ℕ))) (k : ℕ) → k < length js → slice_get (texts js) k ≡ Some (text js k)
+text_at js k less =
+    slice_get-map (λ (bytes : Bor (List ℕ)). bytes.now) js k ∙ ap (option_map (λ (bytes : Bor (List ℕ)). bytes.now)) (slice_get-get_or js k _ less)
+
+pub replayed_text : {books more : List BookState} (js : List (Bor (List ℕ))) (place : ℕ) (b : BookState) → place < length js
+    → AreReplayed (take place (texts js)) books → text js place ≡ journal_of b → IsJournalled b → more ≡ books ++ b ∷ []
+    → AreReplayed (take (place + 1) (texts js)) more
+replayed_text {books = books} js place b less before spelled is grows =
+    let at = text_at js place less in
+    let read : get_or (texts js) place [] ≡ journal_of b = get_or_from_slice_get (texts js) place (text js place) [] at ∙ spelled in
+    subst (AreReplayed (take (place + 1) (texts js))) (sym grows) (record {
       are =
-          take_more journals place [] (slice_get_within journals place (get_or js place d).now at) ∙ (λ i. before.are i ++ read i ∷ [])
+          take_more (texts js) place [] (slice_get_within (texts js) place (text js place) at) ∙ (λ i. before.are i ++ read i ∷ [])
           ∙ sym (map-append journal_of books (b ∷ []));
       each = all_push IsJournalled books b before.each is;
     })
@@ -62,8 +67,8 @@ books_one one (x ∷ xs) (y ∷ ys) all more same =
     let rest = books_one one xs ys all.1 more.1 parts.1 in
     λ i. head i ∷ rest i
 
-replayed_one : OneBook → (journals : List (List ℕ)) (books others : List BookState) → AreReplayed journals books → AreReplayed journals others → books ≡ others
-replayed_one one journals books others r s = books_one one books others r.each s.each (sym r.are ∙ s.are)
+replayed_one : {journals : List (List ℕ)} {books others : List BookState} → OneBook → AreReplayed journals books → AreReplayed journals others → books ≡ others
+replayed_one {books = books} {others = others} one r s = books_one one books others r.each s.each (sym r.are ∙ s.are)
 
 -- each of the journals is that of a book
 journal_at : (books : List BookState) → AllByRecursion IsJournalled books → (k : ℕ) (bytes : List ℕ) → slice_get (map journal_of books) k ≡ Some bytes
@@ -72,7 +77,7 @@ journal_at [] all k bytes at = absurd (no_some bytes at)
 journal_at (x ∷ xs) all zero bytes at = (x, all.0, same_some (journal_of x) bytes at)
 journal_at (x ∷ xs) all (suc k) bytes at = journal_at xs all.1 k bytes at
 
-module _ (one : OneBook) (none : NoFault) (journals : List (List ℕ)) (books : List BookState) (r : AreReplayed journals books) where
+module _ (one : OneBook) (none : NoFault) {journals : List (List ℕ)} {books : List BookState} (r : AreReplayed journals books) where
   not_faulty : (place : ℕ) (fault : ReplayFault) → IsFaulty journals place fault → ⊥
   not_faulty place fault f =
       let b = journal_at books r.each place f.bytes (ap (λ (x : List (List ℕ)). slice_get x place) (sym r.are) ∙ f.at) in
@@ -81,20 +86,20 @@ module _ (one : OneBook) (none : NoFault) (journals : List (List ℕ)) (books : 
   -- journals that merge are refused for want of memory alone
   refused_memory : AreDistinct books → Agree books → Merge books → (e : GatherFault) → IsRefused journals e → e ≡ OutOfMemory
   refused_memory distinct agree merge (Journal place fault) f = absurd (not_faulty place fault f)
-  refused_memory distinct agree merge IdUsed f = absurd (f.2 (subst AreDistinct (replayed_one one journals books f.0 r f.1) distinct))
-  refused_memory distinct agree merge BadFounders f = absurd (f.3 (subst Agree (replayed_one one journals books f.0 r f.1) agree))
-  refused_memory distinct agree merge NeverSent f = absurd (f.4 (subst Merge (replayed_one one journals books f.0 r f.1) merge))
+  refused_memory distinct agree merge IdUsed f = absurd (f.2 (subst AreDistinct (replayed_one one r f.1) distinct))
+  refused_memory distinct agree merge BadFounders f = absurd (f.3 (subst Agree (replayed_one one r f.1) agree))
+  refused_memory distinct agree merge NeverSent f = absurd (f.4 (subst Merge (replayed_one one r f.1) merge))
   refused_memory distinct agree merge OutOfMemory f = refl
 
   pub gathers_all : (result : Result ClusterState GatherFault) → IfOk result (Gathers journals) → IfErr result (IsRefused journals) → AreDistinct books
       → Agree books → Merge books → MatchResult result (IsGathered books) (λ e. e ≡ OutOfMemory)
-  gathers_all (Ok c) is refused distinct agree merge = subst (λ (x : List BookState). IsGathered x c) (replayed_one one journals is.books books is.replayed r) is.gathered
+  gathers_all (Ok c) is refused distinct agree merge = subst (λ (x : List BookState). IsGathered x c) (replayed_one one is.replayed r) is.gathered
   gathers_all (Err e) is refused distinct agree merge = refused_memory distinct agree merge e refused
 
 -- ---- one refusal
 
 abbrev pub OneFault : Type 0
-OneFault = (bytes : List ℕ) (d e : ReplayFault) → IsFault bytes d → IsFault bytes e → (d ≡ replay_fault.OutOfMemory → ⊥) → (e ≡ replay_fault.OutOfMemory → ⊥) → d ≡ e
+OneFault = (bytes : List ℕ) (d e : ReplayFault) → IsFault bytes d → IsFault bytes e → d ≢ replay_fault.OutOfMemory → e ≢ replay_fault.OutOfMemory → d ≡ e
 
 module _ (one : OneBook) (none : NoFault) (first : OneFault) (journals : List (List ℕ)) where
   -- what stands before the first faulty bytes is a journal
@@ -116,40 +121,41 @@ module _ (one : OneBook) (none : NoFault) (first : OneFault) (journals : List (L
       let fault : f ≡ g = first y.bytes f g (subst (λ (b : List ℕ). IsFault b f) bytes x.is) y.is x.known y.known in
       λ i. Journal (place i) (fault i)
 
-  same_books : (books others : List BookState) → AreReplayed journals books → AreReplayed journals others → books ≡ others
-  same_books books others r s = replayed_one one journals books others r s
-
   pub refused_one : (d e : GatherFault) → IsRefused journals d → IsRefused journals e → (d ≡ OutOfMemory → ⊥) → (e ≡ OutOfMemory → ⊥) → d ≡ e
   refused_one OutOfMemory e x y loud known = absurd (loud refl)
   refused_one d OutOfMemory x y loud known = absurd (known refl)
   refused_one (Journal p f) (Journal q g) x y loud known = one_faulty p q f g x y
-  refused_one (Journal p f) e x y loud known = absurd (not_faulty one none journals y.0 y.1 p f x)
-  refused_one d (Journal q g) x y loud known = absurd (not_faulty one none journals x.0 x.1 q g y)
+  refused_one (Journal p f) e x y loud known = absurd (not_faulty one none y.1 p f x)
+  refused_one d (Journal q g) x y loud known = absurd (not_faulty one none x.1 q g y)
   refused_one IdUsed IdUsed x y loud known = refl
-  refused_one IdUsed BadFounders x y loud known = absurd (x.2 (subst AreDistinct (same_books y.0 x.0 y.1 x.1) y.2))
-  refused_one IdUsed NeverSent x y loud known = absurd (x.2 (subst AreDistinct (same_books y.0 x.0 y.1 x.1) y.2))
-  refused_one BadFounders IdUsed x y loud known = absurd (y.2 (subst AreDistinct (same_books x.0 y.0 x.1 y.1) x.2))
-  refused_one NeverSent IdUsed x y loud known = absurd (y.2 (subst AreDistinct (same_books x.0 y.0 x.1 y.1) x.2))
+  refused_one IdUsed BadFounders x y loud known = absurd (x.2 (subst AreDistinct (replayed_one one y.1 x.1) y.2))
+  refused_one IdUsed NeverSent x y loud known = absurd (x.2 (subst AreDistinct (replayed_one one y.1 x.1) y.2))
+  refused_one BadFounders IdUsed x y loud known = absurd (y.2 (subst AreDistinct (replayed_one one x.1 y.1) x.2))
+  refused_one NeverSent IdUsed x y loud known = absurd (y.2 (subst AreDistinct (replayed_one one x.1 y.1) x.2))
   refused_one BadFounders BadFounders x y loud known = refl
-  refused_one BadFounders NeverSent x y loud known = absurd (x.3 (subst Agree (same_books y.0 x.0 y.1 x.1) y.3))
-  refused_one NeverSent BadFounders x y loud known = absurd (y.3 (subst Agree (same_books x.0 y.0 x.1 y.1) x.3))
+  refused_one BadFounders NeverSent x y loud known = absurd (x.3 (subst Agree (replayed_one one y.1 x.1) y.3))
+  refused_one NeverSent BadFounders x y loud known = absurd (y.3 (subst Agree (replayed_one one x.1 y.1) x.3))
   refused_one NeverSent NeverSent x y loud known = refl
 
 -- ---- refusals on the way
 
 -- the first that is no journal
-pub faulty : (journals : List (List ℕ)) (place : ℕ) (before : List BookState) (bytes : List ℕ) (fault : ReplayFault) → AreReplayed (take place journals) before
-    → slice_get journals place ≡ Some bytes → IsFault bytes fault → IsRefused journals (of_replay place fault)
-faulty journals place before bytes replay_fault.OutOfMemory r at is = tt
-faulty journals place before bytes fault r at is = record { before = before; replayed = r; bytes = bytes; at = at; is = is; known = λ e. absurd (cc) }
+pub faulty : {before : List BookState} (js : List (Bor (List ℕ))) (place : ℕ) (fault : ReplayFault) → place < length js
+    → AreReplayed (take place (texts js)) before → IsFault (text js place) fault → IsRefused (texts js) (of_replay place fault)
+faulty js place replay_fault.OutOfMemory less r is = tt
+faulty {before = before} js place fault less r is =
+    record { before = before; replayed = r; bytes = text js place; at = text_at js place less; is = is; known = λ e. absurd (cc) }
 
 -- ---- journals whose books are gathered
 
-module _ (journals : List (List ℕ)) (books : List BookState) (r : AreReplayed journals books) where
-  pub gathers_so : (c : ClusterState) → GathersBooks books c → Gathers journals c
+module _ {journals : List (List ℕ)} {before books : List BookState} (replayed : AreReplayed journals before) (same : books ≡ before) where
+  r : AreReplayed journals books
+  r = subst (AreReplayed journals) (sym same) replayed
+
+  gathers_so : (c : ClusterState) → GathersBooks books c → Gathers journals c
   gathers_so c g = record { books = books; replayed = r; distinct = g.distinct; agree = g.agree; merge = g.merge; gathered = g.gathered }
 
-  pub refused_so : (e : GatherFault) → AreRefused books e → IsRefused journals e
+  refused_so : (e : GatherFault) → AreRefused books e → IsRefused journals e
   refused_so (Journal place fault) none = absurd none
   refused_so IdUsed none = (books, r, none)
   refused_so BadFounders none = (books, r, none.0, none.1)

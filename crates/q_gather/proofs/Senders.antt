@@ -39,26 +39,26 @@ record IsOwn (n : NodeState) (outs : List Message) (later : NodeState) : Type 0 
   stays : later.id ≡ n.id
   own : AreOwn n.id outs
 
-of_outcome : (n : NodeState) (x y : Outcome) → x ≡ y → IsOwn n x.outs x.node → IsOwn n y.outs y.node
-of_outcome n x y is own = subst (λ (z : Outcome). IsOwn n z.outs z.node) is own
+of_outcome : (n : NodeState) (x y : Outcome) → x ≡ y → x.node.id ≡ n.id → AreOwn n.id x.outs → IsOwn n y.outs y.node
+of_outcome n x y is stays own = subst (λ (z : Outcome). IsOwn n z.outs z.node) is (record { stays = stays; own = own })
 
 did_own : (b : BookState) (x : Deed) (t : Told) (n : NodeState) → NodeDid b x t n → IsOwn b.node t.outs n
 did_own b Leaves t n d =
     let y = of_left (d.0, n) in
     subst (λ (z : Told). IsOwn b.node z.outs n) d.2
-    (of_outcome b.node _ y (leaves-ok b.node y (ap (by_node of_left) d.1)) (record { stays = refl; own = one_own b.node.id Leave }))
+    (of_outcome b.node _ y (leaves-ok b.node y (ap (by_node of_left) d.1)) refl (one_own b.node.id Leave))
 did_own b Collects t n d =
     let y = of_begun (d.0, n) in
     subst (λ (z : Told). IsOwn b.node z.outs n) d.2
-    (of_outcome b.node _ y (collects-ok b.node y (ap (by_node of_begun) d.1)) (record { stays = refl; own = one_own b.node.id (CollectQuery b.node.operations) }))
+    (of_outcome b.node _ y (collects-ok b.node y (ap (by_node of_begun) d.1)) refl (one_own b.node.id (CollectQuery b.node.operations)))
 did_own b (Stores value) t n d =
     let y = of_begun (d.0, n) in
     let own = one_own b.node.id (Store (store_under b.node.operations (stored_view b.node value))) in
-    subst (λ (z : Told). IsOwn b.node z.outs n) d.2 (of_outcome b.node _ y (stores-ok value b.node y (ap (by_node of_begun) d.1)) (record { stays = refl; own = own }))
+    subst (λ (z : Told). IsOwn b.node z.outs n) d.2 (of_outcome b.node _ y (stores-ok value b.node y (ap (by_node of_begun) d.1)) refl own)
 did_own b (Delivers m) t n d =
     let y = of_delivered (d.0, n) in
     let own = all_own b.node.id (answers b.node m.from m.body) in
-    subst (λ (z : Told). IsOwn b.node z.outs n) d.2 (of_outcome b.node _ y (delivers-ok m b.node y (ap (by_node of_delivered) d.1)) (record { stays = refl; own = own }))
+    subst (λ (z : Told). IsOwn b.node z.outs n) d.2 (of_outcome b.node _ y (delivers-ok m b.node y (ap (by_node of_delivered) d.1)) refl own)
 did_own b Idles t n d =
     subst (λ (z : Told). IsOwn b.node z.outs n) d.1
     (record { stays = ap (λ (x : NodeState). x.id) (sym d.0); own = λ k m h. absurd (no_some m h) })
@@ -82,7 +82,8 @@ from_own (e ∷ es) b c steps r id named (suc k) t h =
 first_named : (b : BookState) (n : NodeState) (founders : Option (List ℕ)) → IsFirst b n founders → n.id ≡ b.id
 first_named b n None h = ap (λ (x : NodeState). x.id) h
 first_named b n (Some ids) h =
-    let founded = passed (node.are_founders ids && set.contains (set.from_list {R = nat_cmp} ids) b.id) reasons.BadFounders (Ok (node.founder b.config ids b.id)) n h in
+    let test = node.are_founders ids && set.contains (set.from_list {R = nat_cmp} ids) b.id in
+    let founded = passed test reasons.BadFounders (Ok (node.founder b.config ids b.id)) n h in
     ap (λ (x : NodeState). x.id) (sym (same_answer {E = Reason} (node.founder b.config ids b.id) n founded.1))
 
 all_by : (b : BookState) (rest : List (Step Message)) (founders : Option (List ℕ))

@@ -42,17 +42,17 @@ IsFounded books c = (version : Version) × (config : Config) × (founders : List
 pub agreed : (books : List BookState) (c : ClusterState) → IsFounded books c → Agree books
 agreed books c f = (f.0, f.1, f.2, f.3)
 
-module _ (books : List BookState) (c d : ClusterState) (founded : IsFounded books c) where
-  pub begins_gathering : AreReplays books → AreDistinct books → d ≡ c → (numbers : NumberList) → numbers ≡ [] → IsGathering books d numbers
-  begins_gathering all distinct same numbers none =
+module _ (books : List BookState) {c d : ClusterState} (founded : IsFounded books c) where
+  pub begins_gathering : {numbers : NumberList} → AreReplays books → AreDistinct books → d ≡ c → numbers ≡ [] → IsGathering books d numbers
+  begins_gathering {numbers = numbers} all distinct same none =
       let begun : IsGathering books (start founded.0 founded.1 founded.2) [] = gathering_starts books all distinct founded.0 founded.1 founded.2 founded.3 in
       subst (λ (s : ClusterState). IsGathering books s numbers) (sym (same ∙ founded.4))
       (subst (λ (n : NumberList). IsGathering books (start founded.0 founded.1 founded.2) n) (sym none) begun)
 
 -- ---- the end
 
-pub gathers_books : (books : List BookState) (f c d : ClusterState) → IsFounded books f → AreDistinct books → IsMerged books c → d ≡ c → GathersBooks books d
-gathers_books books f c d founded distinct m same = record {
+pub gathers_books : (books : List BookState) {f c d : ClusterState} → IsFounded books f → AreDistinct books → IsMerged books c → d ≡ c → GathersBooks books d
+gathers_books books {f = f} founded distinct m same = record {
   distinct = distinct;
   agree = agreed books f founded;
   merge = m.0;
@@ -68,10 +68,10 @@ unfounded books distinct OutOfMemory none = tt
 unfounded books distinct e none = absurd none
 
 -- and so is why some are left
-pub stuck_on : (books : List BookState) (f : ClusterState) → IsFounded books f → AreDistinct books → (e : GatherFault) → IsStuck books e → AreRefused books e
-stuck_on books f founded distinct NeverSent none = (distinct, agreed books f founded, none)
-stuck_on books f founded distinct OutOfMemory none = tt
-stuck_on books f founded distinct e none = absurd none
+pub stuck_on : (books : List BookState) {f : ClusterState} → IsFounded books f → AreDistinct books → (e : GatherFault) → IsStuck books e → AreRefused books e
+stuck_on books {f = f} founded distinct NeverSent none = (distinct, agreed books f founded, none)
+stuck_on books founded distinct OutOfMemory none = tt
+stuck_on books founded distinct e none = absurd none
 
 -- a refusal that a call passes on
 pub passed : {A : Type 0} (P : GatherFault → Type 0) (e : GatherFault) (r : Result A GatherFault) → IsErrAnd r (λ x. x ≡ e) → P e → IfErr r P

@@ -19,23 +19,23 @@ pub listed_snoc : (es : Entries) (k : Vec ℕ Global) (n : ℕ) → listed (es +
 listed_snoc es k n = map-append (λ e. (e.0.items, e.1)) es ((k, n) ∷ [])
 
 -- what a look-up finds
-pub found_number : (bytes m : List ℕ) (es : Entries) (now : NumberList) (r : Option ℕ) → bytes ≡ m → listed es ≡ now
+pub found_number : {bytes m : List ℕ} {now : NumberList} {r : Option ℕ} (es : Entries) → bytes ≡ m → listed es ≡ now
     → r ≡ lookup (λ (k : Vec ℕ Global). bytes_eq bytes k.items) es → r ≡ number_of m now
-found_number bytes m es now r spelled is at = at ∙ lookup_is bytes es ∙ (λ i. number_of (spelled i) (is i))
+found_number {bytes = bytes} es spelled is at = at ∙ lookup_is bytes es ∙ (λ i. number_of (spelled i) (is i))
 
 some_number : (bytes m : List ℕ) (es : Entries) (now : NumberList) (b : Bool) → bytes ≡ m → listed es ≡ now
     → is_some (lookup (λ (k : Vec ℕ Global). bytes_eq bytes k.items) es) ≡ b → is_some (number_of m now) ≡ b
 some_number bytes m es now b spelled is some = ap (λ (o : Option ℕ). is_some o) (sym (lookup_is bytes es ∙ (λ i. number_of (spelled i) (is i)))) ∙ some
 
 -- bytes that have a number
-pub added_there : (bytes m : List ℕ) (es : Entries) (now : NumberList) (n : ℕ) → bytes ≡ m → listed es ≡ now
+pub added_there : {bytes m : List ℕ} {now : NumberList} (es : Entries) (n : ℕ) → bytes ≡ m → listed es ≡ now
     → is_some (lookup (λ (k : Vec ℕ Global). bytes_eq bytes k.items) es) ≡ true → now ≡ added m n now
-added_there bytes m es now n spelled is some = sym (ap (λ (b : Bool). cond b now (now ++ (m, n) ∷ [])) (some_number bytes m es now true spelled is some))
+added_there {bytes} {m} {now} es n spelled is some = sym (ap (λ (b : Bool). cond b now (now ++ (m, n) ∷ [])) (some_number bytes m es now true spelled is some))
 
 -- and bytes that have none yet
-pub added_new : (k : Vec ℕ Global) (m : List ℕ) (es new : Entries) (now : NumberList) (n : ℕ) → k.items ≡ m → listed es ≡ now
+pub added_new : {m : List ℕ} {new : Entries} {now : NumberList} (k : Vec ℕ Global) (es : Entries) (n : ℕ) → k.items ≡ m → listed es ≡ now
     → is_some (lookup (λ (x : Vec ℕ Global). bytes_eq k.items x.items) es) ≡ false → new ≡ es ++ (k, n) ∷ [] → listed new ≡ added m n now
-added_new k m es new now n spelled is none grows =
+added_new {m = m} {now = now} k es n spelled is none grows =
     ap listed grows ∙ listed_snoc es k n ∙ (λ i. is i ++ (spelled i, n) ∷ [])
     ∙ sym (ap (λ (b : Bool). cond b now (now ++ (m, n) ∷ [])) (some_number k.items m es now false spelled is none))
 

@@ -1,8 +1,8 @@
 -- The next event of a node takes the first of its steps.
-use Rattle.std.proofs.Common.{◌≡◌, ◌<◌, ◌+◌, ◌-◌, ℕ, zero, suc, List, [], ◌∷◌, ◌++◌, length, Option, Some, None, refl, sym, ap, ◌∙◌, subst, slice_get, slice_set, arith, length-append}
+use Rattle.std.proofs.Common.{◌≡◌, ◌<◌, ◌+◌, ◌-◌, ℕ, zero, suc, List, [], ◌∷◌, ◌++◌, Option, Some, None, refl, sym, ap, ◌∙◌, subst, arith, length-append}
 use Rattle.std.specs.Ordering.{nat_cmp}
 use Rattle.std.specs.FinSet as set
-use Rattle.std.specs.Prelude.{IfSome, Contains}
+use Rattle.std.specs.Prelude.{IfSome, Contains, slice_get, slice_set, length}
 use Rattle.sc_msg.specs.declared.message.Message.{Message}
 use Rattle.q_desk.specs.declared.journal.Entry.{Entry}
 use Rattle.q_desk.specs.declared.journal.Entry.TheVariants as entry
@@ -21,17 +21,17 @@ use Rattle.q_gather.specs.Traces.{wants, step_of, IsTraceFrom, entering, IsTrace
 use Rattle.q_gather.specs.Turns.{IsEventOf, IsNext, IsTurn, Makes}
 use Rattle.q_gather.specs.Gathered.{IsAt, IsUnderWay, Goes}
 use Rattle.q_gather.specs.Gathered.IsAt.{Away, There}
-use Rattle.q_gather.proofs.Lists.{get-same, get_contains}
+use Rattle.q_gather.proofs.Lists.{get_contains}
 use Rattle.q_gather.proofs.Merging.{same_first}
 use Rattle.q_gather.proofs.Turning.{next_up}
 use Rattle.q_gather.proofs.Entries.{next_event, entry_makes, enter_makes}
 use Rattle.q_gather.proofs.BooksGather.{no_first, at_stays, IsPlaced, placed_set, few_set, has_book}
 use Rattle.q_gather.specs.Gathering.{IsNextEntry, IsNextAfter, IsNextOf}
-use Rattle.q_gather.proofs.Keeping.{trace_later}
+use Rattle.q_gather.proofs.Keeping.{Steps, trace_later}
 
 -- ---- the journal of a later book
 
-pub trace_length : (es : List Entry) (b : BookState) (steps : List (Step Message)) (c : BookState) → IsTraceFrom b es steps c
+pub trace_length : (es : List Entry) (b : BookState) (steps : Steps) (c : BookState) → IsTraceFrom b es steps c
     → length c.desk.journal ≡ length b.desk.journal + length es
 trace_length es b steps c t = ap (λ (xs : List Entry). length xs) (trace_later es b c steps t).adds ∙ length-append b.desk.journal es
 
@@ -40,7 +40,7 @@ get_behind [] ys = refl
 get_behind (x ∷ xs) ys = get_behind xs ys
 
 -- the entry behind those that were taken is the first that is left
-pub entry_behind : (es : List Entry) (b : BookState) (steps : List (Step Message)) (c : BookState) → IsTraceFrom b es steps c
+pub entry_behind : (es : List Entry) (b : BookState) (steps : Steps) (c : BookState) → IsTraceFrom b es steps c
     → slice_get c.desk.journal (length b.desk.journal) ≡ slice_get es 0
 entry_behind es b steps c t = ap (λ (xs : List Entry). slice_get xs (length b.desk.journal)) (trace_later es b c steps t).adds ∙ get_behind b.desk.journal es
 
@@ -54,7 +54,7 @@ left_by whole (Some b) = length whole.desk.journal - length b.desk.journal
 abbrev pub left_of : ClusterState → BookState → ℕ
 left_of c whole = left_by whole (book_at c whole.id)
 
-left_there : (es : List Entry) (b : BookState) (steps : List (Step Message)) (whole : BookState) (c : ClusterState) → IsTraceFrom b es steps whole
+left_there : (es : List Entry) (b : BookState) (steps : Steps) (whole : BookState) (c : ClusterState) → IsTraceFrom b es steps whole
     → book_at c whole.id ≡ Some b → left_of c whole ≡ length es
 left_there es b steps whole c t at =
     let long = trace_length es b steps whole t in
@@ -63,9 +63,9 @@ left_there es b steps whole c t at =
 -- ---- the next event
 
 -- the event takes the first step of this list; the node has this book then, and these entries are left
-pub record Turn (c : ClusterState) (lists : List (List (Step Message))) (k : ℕ) (whole : BookState) (ev : ClusterEvent) : Type 0 where
+pub record Turn (c : ClusterState) (lists : List Steps) (k : ℕ) (whole : BookState) (ev : ClusterEvent) : Type 0 where
   pub step : Step Message
-  pub rest : List (Step Message)
+  pub rest : Steps
   pub at : slice_get lists k ≡ Some (step ∷ rest)
   pub can : CanGo c.past.sent step
   pub left : List Entry
@@ -78,10 +78,8 @@ can_go : (c : ClusterState) (id : ℕ) (ev : ClusterEvent) (e : Entry) → IsEve
 can_go c id ev (entry.Deliver m) is = get_contains c.past.sent is.0 m is.1
 can_go c id ev e is = tt
 
-some_list : (xs : List (Step Message)) (ys : List (Step Message)) → xs ≡ ys → (let o : Option (List (Step Message)) = Some xs in o) ≡ Some ys
-some_list xs ys same = ap (λ (x : List (Step Message)). let o : Option (List (Step Message)) = Some x in o) same
-
-module _ (books : List BookState) (c : ClusterState) (lists : List (List (Step Message))) (u : IsUnderWay books c lists) (k : ℕ) (whole : BookState) (mine : slice_get books k ≡ Some whole) where
+module _ {books : List BookState} {c : ClusterState} {lists : List Steps} (u : IsUnderWay books c lists) (k : ℕ) {whole : BookState}
+    (mine : slice_get books k ≡ Some whole) where
   is_next : (b : BookState) → book_at c whole.id ≡ Some b → (e : Entry) (d : BookState) → Follows b e d → IsNext c whole.id b e d
   is_next b here e d f = record {
     book = here;
@@ -90,13 +88,13 @@ module _ (books : List BookState) (c : ClusterState) (lists : List (List (Step M
   }
 
   module _ (ev : ClusterEvent) (next : IsNextOf c whole ev) where
-    entry_is : (b : BookState) → book_at c whole.id ≡ Some b → (left : List Entry) (steps : List (Step Message)) → IsTraceFrom b left steps whole
+    entry_is : (b : BookState) → book_at c whole.id ≡ Some b → (left : List Entry) (steps : Steps) → IsTraceFrom b left steps whole
         → IsNextEntry c whole.id (slice_get left 0) ev
     entry_is b here left steps t =
         let after : IsNextAfter c whole (Some b) ev = subst (λ (o : Option BookState). IsNextAfter c whole o ev) here next in
         subst (λ (o : Option Entry). IsNextEntry c whole.id o ev) (entry_behind left b steps whole t) after
 
-    turn_there : (steps : List (Step Message)) → slice_get lists k ≡ Some steps → (b : BookState) → book_at c whole.id ≡ Some b → (left : List Entry)
+    turn_there : (steps : Steps) → slice_get lists k ≡ Some steps → (b : BookState) → book_at c whole.id ≡ Some b → (left : List Entry)
         → IsTraceFrom b left steps whole → Turn c lists k whole ev
     turn_there steps at b here [] t = absurd (entry_is b here [] steps t)
     turn_there steps at b here (e ∷ es) t =
@@ -104,7 +102,7 @@ module _ (books : List BookState) (c : ClusterState) (lists : List (List (Step M
         record {
           step = step_of b e;
           rest = t.2;
-          at = at ∙ some_list steps (step_of b e ∷ t.2) t.3;
+          at = at ∙ (λ i. Some (t.3 i));
           can = can_go c whole.id ev e is;
           left = es;
           book = t.0;
@@ -116,7 +114,7 @@ module _ (books : List BookState) (c : ClusterState) (lists : List (List (Step M
         }
 
     -- the node enters
-    turn_away : (steps : List (Step Message)) → slice_get lists k ≡ Some steps → book_at c whole.id ≡ None → whole.founders ≡ None
+    turn_away : (steps : Steps) → slice_get lists k ≡ Some steps → book_at c whole.id ≡ None → whole.founders ≡ None
         → IsTrace whole steps → Turn c lists k whole ev
     turn_away steps at absent none t =
         let its = u.versions k whole mine in
@@ -125,42 +123,44 @@ module _ (books : List BookState) (c : ClusterState) (lists : List (List (Step M
         let s : Step Message = record { wants = None; gives = new.1 } in
         let own : (book.entered whole.version whole.config whole.id) ≡ new = λ i. book.entered (its i) (same i) whole.id in
         let begun : IsFirst whole t.first None = subst (IsFirst whole t.first) none t.begun in
-        let begins : book.new_book whole.version whole.id whole.config whole.founders t.first ≡ (book.entered whole.version whole.config whole.id).0 = λ i. book.new_book whole.version whole.id whole.config (none i) (begun i) in
         record {
           step = s;
           rest = t.rest;
-          at = at ∙ some_list steps (s ∷ t.rest) (t.is ∙ ap (λ (o : Option (List ℕ)). entering whole o ++ t.rest) none ∙ (λ i. record { wants = None; gives = (own i).1 } ∷ t.rest));
+          at = at ∙ (λ i. Some ((t.is ∙ (λ j. entering whole (none j) ++ t.rest) ∙ (λ j. record { wants = None; gives = (own j).1 } ∷ t.rest)) i));
           can = tt;
           left = whole.desk.journal;
           book = new.0;
           makes =
               let enters : ev ≡ event.Enter whole.id = subst (λ (o : Option BookState). IsNextAfter c whole o ev) absent next in
               subst (λ (x : ClusterEvent). Makes c x whole.id new.0 new.1) (sym enters) (enter_makes c whole.id absent);
-          trace = subst (λ (x : BookState). IsTraceFrom x whole.desk.journal t.rest whole) (begins ∙ (λ i. (own i).0)) t.trace;
+          trace =
+              subst (λ (x : BookState). IsTraceFrom x whole.desk.journal t.rest whole)
+              ((λ i. book.new_book whole.version whole.id whole.config (none i) (begun i)) ∙ (λ i. (own i).0)) t.trace;
           before = ap (left_by whole) absent;
         }
 
-    turn_by : (steps : List (Step Message)) → slice_get lists k ≡ Some steps → (left : List Entry) → IsAt c whole left steps → Turn c lists k whole ev
+    turn_by : (steps : Steps) → slice_get lists k ≡ Some steps → (left : List Entry) → IsAt c whole left steps → Turn c lists k whole ev
     turn_by steps at left (There b here t) = turn_there steps at b here left t
     turn_by steps at left (Away absent none left_is t) = turn_away steps at absent none t
 
     pub turn_of : Turn c lists k whole ev
     turn_of = let p = u.at k whole mine in turn_by p.0 p.1 p.2 p.3
 
-  module _ (s : Step Message) (rest : List (Step Message)) (can : CanGo c.past.sent s) where
+  module _ (s : Step Message) (rest : Steps) (can : CanGo c.past.sent s) where
     next_there : (b : BookState) → book_at c whole.id ≡ Some b → (left : List Entry) → IsTraceFrom b left (s ∷ rest) whole
         → (ev : ClusterEvent) × IsNextOf c whole ev
-    next_there b here [] t = absurd (no_first s rest (sym t.0))
+    next_there b here [] t = absurd (no_first (sym t.0))
     next_there b here (e ∷ es) t =
         let first = (same_first s (step_of b e) rest t.2 t.3).0 in
         let ev = next_event c whole.id b t.0 e u.history (is_next b here e t.0 t.1) (subst (CanGo c.past.sent) first can) in
-        let own : IsNextEntry c whole.id (slice_get (e ∷ es) 0) ev.0 = ev.1 in
-        let after : IsNextAfter c whole (Some b) ev.0 = subst (λ (o : Option Entry). IsNextEntry c whole.id o ev.0) (sym (entry_behind (e ∷ es) b (s ∷ rest) whole t)) own in
+        let after : IsNextAfter c whole (Some b) ev.0 =
+        subst (λ (o : Option Entry). IsNextEntry c whole.id o ev.0) (sym (entry_behind (e ∷ es) b (s ∷ rest) whole t)) ev.1 in
         (ev.0, subst (λ (o : Option BookState). IsNextAfter c whole o ev.0) (sym here) after)
 
     next_by : (left : List Entry) → IsAt c whole left (s ∷ rest) → (ev : ClusterEvent) × IsNextOf c whole ev
     next_by left (There b here t) = next_there b here left t
-    next_by left (Away absent none left_is t) = (event.Enter whole.id, subst (λ (o : Option BookState). IsNextAfter c whole o (event.Enter whole.id)) (sym absent) refl)
+    next_by left (Away absent none left_is t) =
+        (event.Enter whole.id, subst (λ (o : Option BookState). IsNextAfter c whole o (event.Enter whole.id)) (sym absent) refl)
 
     -- where the first step can go, there is an event
     pub next_is : slice_get lists k ≡ Some (s ∷ rest) → (ev : ClusterEvent) × IsNextOf c whole ev
@@ -184,7 +184,7 @@ module _ (books : List BookState) (c : ClusterState) (lists : List (List (Step M
         right = u.right;
         versions = λ i b here. u.versions i b here ∙ sym turn.version;
         same = λ i b here. u.same i b here ∙ sym turn.config;
-        at = placed_set books k whole mine later lists t.rest (t.rest, get-same lists k (t.step ∷ t.rest) t.rest t.at, t.left, There t.book turn.book t.trace) elsewhere;
+        at = placed_set books k whole mine later lists t.at (There t.book turn.book t.trace) elsewhere;
         all = λ id b here. has_book books k whole mine id (λ away. u.all id b (sym (turn.others id away) ∙ here));
         nobody = turn.crashed ∙ u.nobody;
         few = few_set books k whole mine lists t.rest u.few;
@@ -201,23 +201,22 @@ module _ (books : List BookState) (c : ClusterState) (lists : List (List (Step M
     }
 
 -- a first step that can go is an event of the cluster
-pub step_goes : (books : List BookState) (c : ClusterState) (lists : List (List (Step Message))) → IsUnderWay books c lists
-    → (k : ℕ) (s : Step Message) (rest : List (Step Message)) → slice_get lists k ≡ Some (s ∷ rest) → CanGo c.past.sent s
-    → (ev : ClusterEvent) × Goes books c lists k s rest ev
-step_goes books c lists u k s rest at can =
+pub step_goes : {books : List BookState} {c : ClusterState} {lists : List Steps} → IsUnderWay books c lists → (k : ℕ) (s : Step Message) (rest : Steps)
+    → slice_get lists k ≡ Some (s ∷ rest) → CanGo c.past.sent s → (ev : ClusterEvent) × Goes books c lists k s rest ev
+step_goes {books} {c} {lists} u k s rest at can =
     let b = u.few k (s ∷ rest) at in
-    let ev = next_is books c lists u k b.0 b.1 s rest can at in
-    let t = turn_of books c lists u k b.0 b.1 ev.0 ev.1 in
+    let ev = next_is u k b.1 s rest can at in
+    let t = turn_of u k b.1 ev.0 ev.1 in
     let parts = same_first t.step s t.rest rest (same_some (t.step ∷ t.rest) (s ∷ rest) (sym t.at ∙ at)) in (
       ev.0,
       subst (λ (x : Step Message). Goes books c lists k x rest ev.0) parts.0
-          (subst (λ (x : List (Step Message)). Goes books c lists k t.step x ev.0) parts.1 (turn_goes books c lists u k b.0 b.1 ev.0 t)),
+          (subst (λ (x : Steps). Goes books c lists k t.step x ev.0) parts.1 (turn_goes u k b.1 ev.0 t)),
     )
 
 -- ---- less is left
 
 -- after the turn, one step less of this book
-pub left_later : (c later : ClusterState) (lists : List (List (Step Message))) (k : ℕ) (whole : BookState) (ev : ClusterEvent)
+pub left_later : (c later : ClusterState) (lists : List Steps) (k : ℕ) (whole : BookState) (ev : ClusterEvent)
     (t : Turn c lists k whole ev) → IsTurn c whole.id t.book t.step.gives later → left_of later whole < left_of c whole
 left_later c later lists k whole ev t turn =
     let now : left_of later whole ≡ length t.left = left_there t.left t.book t.rest whole later t.trace turn.book in

@@ -1,14 +1,15 @@
 -- Rounds over the books: what is next, and which cannot go on.
-use Rattle.std.proofs.Common.{◌≡◌, ◌<◌, ◌≤◌, ◌+◌, ℕ, Bool, true, false, cond, List, [], ◌∷◌, length, Option, Some, None, Result, Ok, Err, refl, sym, ap, ◌∙◌, subst, slice_get, arith, inl, inr}
-use Rattle.std.specs.Prelude.{IfOk, nat_eq}
+use Rattle.std.proofs.Common.{◌≡◌, ◌<◌, ◌≤◌, ◌+◌, ℕ, Bool, true, false, cond, List, [], ◌∷◌, get_or, refl, sym, ap, ◌∙◌, subst, arith, inl, inr}
+use Rattle.std.specs.Prelude.{IfOk, nat_eq, length, Result, Ok, Err, slice_get, Option, Some, None}
 use Rattle.std.specs.List.{list_any}
 use Rattle.std.proofs.lemmas.Bool.{eqb-true, cases_lt}
-use Rattle.std.proofs.lemmas.Option.{slice_get_within}
+use Rattle.std.proofs.lemmas.Option.{slice_get_within, slice_get_read}
 use Rattle.q_book.specs.State.{BookState}
 use Rattle.q_history.specs.declared.event.ClusterEvent.{ClusterEvent}
 use Rattle.q_history.specs.Headline.{ClusterState}
 use Rattle.q_history.proofs.Lists.{same_some}
-use Rattle.q_gather.specs.Gathering.{Finds, IsNextOf, IsNextAmong, AreIdle, IsNextWithin}
+use Rattle.q_gather.specs.declared.rounds.Rounds.{Rounds}
+use Rattle.q_gather.specs.Gathering.{Finds, IsNextOf, IsNextAmong, AreIdle, AreWaiting, IsNextWithin}
 
 -- the node of the book cannot go on
 abbrev pub IsIdle : ClusterState → BookState → Type 0
@@ -27,9 +28,10 @@ module _ (c : ClusterState) (books : List BookState) where
   idle_none places none k b ev among at next = none_among places k none among
 
   -- after those that wait were waked, where more was sent
-  pub idle_woken : (old new : List ℕ) (then now : ℕ) → ((k : ℕ) → list_any (nat_eq k) new ≡ true → (now ≡ then) × (list_any (nat_eq k) old ≡ true))
-      → now ≡ length c.past.sent → (length c.past.sent ≡ then → AreIdle c books old) → AreIdle c books new
-  idle_woken old new then now kept is waits k b ev among at next =
+  pub idle_woken : (old new : Rounds) {now : ℕ}
+      → ((k : ℕ) → list_any (nat_eq k) new.waiting.keys ≡ true → (now ≡ old.sent) × (list_any (nat_eq k) old.waiting.keys ≡ true))
+      → now ≡ length c.past.sent → AreWaiting c books old → AreIdle c books new.waiting.keys
+  idle_woken old new kept is waits k b ev among at next =
       let own = kept k among in
       waits (sym is ∙ own.0) k b ev own.1 at next
 
@@ -40,7 +42,10 @@ module _ (c : ClusterState) (books : List BookState) where
       let same : place ≡ k = omega (arith, low, high) in
       idle k b ev (subst (λ (n : ℕ). list_any (nat_eq n) places ≡ true) same among) at next
 
-  module _ (place : ℕ) (own : BookState) (here : slice_get books place ≡ Some own) where
+  module _ (place : ℕ) (own : BookState) (less : place < length books) (read : own ≡ get_or books place own) where
+    here : slice_get books place ≡ Some own
+    here = slice_get_read books (length books) place own refl less read
+
     idle_by : (old : List ℕ) → IsIdle c own → AreIdle c books old → (k : ℕ) (b : BookState) (ev : ClusterEvent) (t : Bool) → nat_eq place k ≡ t
         → cond t true (list_any (nat_eq k) old) ≡ true → slice_get books k ≡ Some b → IsNextOf c b ev → ⊥
     idle_by old idle known k b ev true is among at next =
@@ -49,23 +54,24 @@ module _ (c : ClusterState) (books : List BookState) where
     idle_by old idle known k b ev false is among at next = known k b ev among at next
 
     -- one more that cannot
-    pub idle_more : (old new : List ℕ) → IsIdle c own → ((q : ℕ) → list_any (nat_eq q) new ≡ cond (nat_eq place q) true (list_any (nat_eq q) old))
-        → AreIdle c books old → AreIdle c books new
-    idle_more old new idle more known k b ev among at next = idle_by old idle known k b ev (nat_eq place k) refl (sym (more k) ∙ among) at next
+    pub idle_more : {o : Option ClusterEvent} (old new : List ℕ) → o ≡ None → Finds (IsNextOf c own) o
+        → ((q : ℕ) → list_any (nat_eq q) new ≡ cond (nat_eq place q) true (list_any (nat_eq q) old)) → AreIdle c books old → AreIdle c books new
+    idle_more old new none found more known k b ev among at next =
+        idle_by old (subst (Finds (IsNextOf c own)) none found) known k b ev (nat_eq place k) refl (sym (more k) ∙ among) at next
 
     -- ---- what is next
 
     -- nothing, of the book at this place
-    pub none_at : IsIdle c own → IsNextWithin c books place (place + 1) None
+    none_at : IsIdle c own → IsNextWithin c books place (place + 1) None
     none_at idle k b ev low high at next =
         let same : place ≡ k = omega (arith, low, high) in
         let one : own ≡ b = same_some own b (sym here ∙ ap (slice_get books) same ∙ at) in
         idle ev (subst (λ (x : BookState). IsNextOf c x ev) (sym one) next)
 
     -- what is found of it
-    pub found_at : (o : Option ClusterEvent) → Finds (IsNextOf c own) o → IsNextWithin c books place (place + 1) o
-    found_at None none = none_at none
-    found_at (Some ev) is = record { place = place; book = own; at = here; next = is }
+    pub found_at : {o p : Option ClusterEvent} → o ≡ p → Finds (IsNextOf c own) o → IsNextWithin c books place (place + 1) p
+    found_at {p = None} same found = none_at (subst (Finds (IsNextOf c own)) same found)
+    found_at {p = Some ev} same found = record { place = place; book = own; at = here; next = subst (Finds (IsNextOf c own)) same found }
 
   -- nothing, of one more
   pub none_more : (first place : ℕ) → IsNextWithin c books first place None → IsNextWithin c books place (place + 1) None
@@ -83,17 +89,15 @@ module _ (c : ClusterState) (books : List BookState) where
   none_until first place end past none k b ev low high at next = none k b ev low (omega (arith, past, high)) at next
 
   -- of all, in a round
-  pub round : (first end : ℕ) → end ≡ length books → IsNextWithin c books first end None → (o : Option ClusterEvent) → IsNextWithin c books 0 first o
+  round : (first : ℕ) → IsNextWithin c books first (length books) None → (o : Option ClusterEvent) → IsNextWithin c books 0 first o
       → Finds (IsNextAmong c books) o
-  round first end all behind None before = λ ev n. elim (cases_lt n.place first) [
+  round first behind None before = λ ev n. elim (cases_lt n.place first) [
     | inl less ↦ before n.place n.book ev (omega arith) less n.at n.next
-    | inr past ↦
-        let within : n.place < length books = slice_get_within books n.place n.book n.at in
-        behind n.place n.book ev past (omega (arith, within, all)) n.at n.next
+    | inr past ↦ behind n.place n.book ev past (slice_get_within books n.place n.book n.at) n.at n.next
   ]
-  round first end all behind (Some ev) before = before
+  round first behind (Some ev) before = before
 
-  pub round_ok : {E : Type 0} (first end : ℕ) → end ≡ length books → IsNextWithin c books first end None → (r : Result (Option ClusterEvent) E)
-      → IfOk r (IsNextWithin c books 0 first) → IfOk r (Finds (IsNextAmong c books))
-  round_ok first end all behind (Ok o) before = round first end all behind o before
-  round_ok first end all behind (Err e) before = tt
+  pub round_ok : {E : Type 0} {o : Option ClusterEvent} (first : ℕ) → o ≡ None → IsNextWithin c books first (length books) o
+      → (r : Result (Option ClusterEvent) E) → IfOk r (IsNextWithin c books 0 first) → IfOk r (Finds (IsNextAmong c books))
+  round_ok first none behind (Ok p) before = round first (subst (IsNextWithin c books first (length books)) none behind) p before
+  round_ok first none behind (Err e) before = tt

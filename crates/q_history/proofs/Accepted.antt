@@ -13,7 +13,8 @@ use Rattle.reasons.specs.declared.Reason.{Reason}
 use Rattle.reasons.specs.declared.Reason.TheVariants as reasons
 use Rattle.sc_world.specs.State.{Past, WorldState}
 use Rattle.sc_world.specs.Ledgers.{recorded}
-use Rattle.sc_world.specs.Worlds.{Outcome, of_left, of_begun, of_delivered, told as tells, after, took as took_by, acts, by_node, by_live, live_at, leaves, stores, collects, delivers, node_of, stepped}
+use Rattle.sc_world.specs.Worlds.{Outcome, of_left, of_begun, of_delivered, told as tells, after, took as took_by, acts}
+use Rattle.sc_world.specs.Worlds.{by_node, by_live, live_at, leaves, stores, collects, delivers, node_of, stepped}
 use Rattle.sc_world.proofs.Inverts.{no_refusal, stores-ok, collects-ok, leaves-ok, delivers-ok}
 use Rattle.sc_world.proofs.Links.{IsLinked}
 use Rattle.sc_world.proofs.Handlers.{heard}

@@ -1,5 +1,5 @@
 -- Each accepted event keeps that each node's book is the replay of its journal, and that all messages fit the version.
-use Rattle.std.proofs.Common.{◌≡◌, ℕ, List, Some, None, refl, sym, subst}
+use Rattle.std.proofs.Common.{◌≡◌, ℕ, List, ◌++◌, Some, None, refl, sym, subst}
 use Rattle.std.specs.List.{All}
 use Rattle.std.proofs.lemmas.List.Elements.{All-append}
 use Rattle.std.specs.FinMap as fin
@@ -38,6 +38,10 @@ module _ (c : ClusterState) (kept : IsKept c) (books : AreBooks c) where
   put_book : (p : Past) (jobs : List Job) (id : ℕ) (b : BookState) → Fit c.version p.sent → IsReplay b → AreBooks (With c p jobs id b)
   put_book p jobs id b fit new = record { messages = fit; replays = each_put c.books id b (λ q x. IsReplay x) new books.replays }
 
+  -- more messages that fit
+  grown : (more : List Message) → Fit c.version more → Fit c.version (c.past.sent ++ more)
+  grown more fit = All-append (Fits c.version) c.past.sent more books.messages fit
+
   -- the book of a node took the call of an entry: the values that it sends have lengths of the version, too
   called_books : (d : ClusterState) → IsCalled c d → AreBooks d
   called_books d k =
@@ -45,18 +49,17 @@ module _ (c : ClusterState) (kept : IsKept c) (books : AreBooks c) where
       let was = books.replays k.id k.book at in
       let a = accepted c d k in
       let fit = accepted_fit k.book k.entry (did c d k) (tells c d k) k.later a (replay_values k.book was) in
+      let sent = grown (sends k.book k.entry) (subst (λ (v : Version). Fit v (sends k.book k.entry)) (kept.headed k.id k.book at).version fit.1) in
       subst AreBooks k.is
-      (put_book (past c d k) (with_job c.jobs (handed k.book k.entry)) k.id k.later
-      (subst (Fit c.version) (sym (called_sent c d k)) (All-append (Fits c.version) c.past.sent (sends k.book k.entry) books.messages (subst (λ (v : Version). Fit v (sends k.book k.entry)) (kept.headed k.id k.book at).version fit.1)))
+      (put_book (past c d k) (with_job c.jobs (handed k.book k.entry)) k.id k.later (subst (Fit c.version) (sym (called_sent c d k)) sent)
       (subst IsReplay a.same (replay_next k.book k.later k.entry was k.follows)))
 
   pub made_books : (d : ClusterState) → IsMade c d → AreBooks d
   made_books d (enters id none is) =
       let e = book.entered c.version c.past.config id in
-      let fit = All-append (Fits c.version) c.past.sent e.1 books.messages (entered_told (value_lengths c.version) c.past.config id) in
       subst AreBooks is
-      (put_book (recorded c.past (world_event.Enter id) id e.1 None None) c.jobs id e.0 fit
-      (record { first = e.0.node; begun = refl; replayed = refl }))
+      (put_book (recorded c.past (world_event.Enter id) id e.1 None None) c.jobs id e.0
+      (grown e.1 (entered_told (value_lengths c.version) c.past.config id)) (record { first = e.0.node; begun = refl; replayed = refl }))
   made_books d (crashes id b live is) = subst AreBooks is (record { replays = books.replays; messages = books.messages })
   made_books d (rests id b live is) = subst AreBooks is (put_book c.past c.jobs id b books.messages (books.replays id b (at_live c id b live)))
   made_books d (calls k) = called_books d k

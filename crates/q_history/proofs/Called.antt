@@ -27,7 +27,8 @@ use Rattle.q_history.specs.declared.event.ClusterEvent.TheVariants as event
 use Rattle.q_history.specs.declared.event.ClusterStep.{ClusterStep}
 use Rattle.q_history.specs.Headline.{ClusterState}
 use Rattle.q_history.specs.Calls.{Answers, Follows}
-use Rattle.q_history.specs.Clusters.{Said, put, lift, live_at, by_book, at as at_node, with_job, replies, entered, crashed, delivers, delivered_as, posts, finished}
+use Rattle.q_history.specs.Clusters.{Said, put, lift, live_at, by_book, at as at_node, with_job, replies, entered, crashed}
+use Rattle.q_history.specs.Clusters.{delivers, delivered_as, posts, finished}
 use Rattle.q_history.proofs.Accepted.{WasSent, event_for, outcome, Acted, did_act, ledger, ledger_sent}
 
 -- ---- the book of a live node
@@ -46,20 +47,27 @@ by_book-ok c id f y None live h = absurd (no_refusal _ y h)
 pub at-ok : (c : ClusterState) (id : ℕ) (f : BookState → Said) (y : ClusterStep × ClusterState) → at_node c id f ≡ Ok y → IsAt c id f y
 at-ok c id f y h = by_book-ok c id f y (live_at c id) refl h
 
-lift-ok : {A : Type 0} (next : A → BookState → ClusterStep × ClusterState) (r : Result (A × BookState) Reason) (y : ClusterStep × ClusterState)
+-- what a book answers to a call, and what its cluster makes of the answer
+abbrev pub CallOf : Type 0 → Type 0
+CallOf A = BookState → Result (A × BookState) Reason
+
+abbrev pub NextOf : Type 0 → Type 0
+NextOf A = A → BookState → ClusterStep × ClusterState
+
+lift-ok : {A : Type 0} (next : NextOf A) (r : Result (A × BookState) Reason) (y : ClusterStep × ClusterState)
     → lift next r ≡ Ok y → (a : A × BookState) × (r ≡ Ok a) × (next a.0 a.1 ≡ y)
 lift-ok next (Ok a) y h = (a, refl, same_answer _ y h)
 lift-ok next (Err e) y h = absurd (no_refusal _ y h)
 
 -- the book of a live node accepted a call, and this came of it
-pub record IsCall {A : Type 0} (c : ClusterState) (id : ℕ) (next : A → BookState → ClusterStep × ClusterState) (call : BookState → Result (A × BookState) Reason) (d : ClusterState) : Type 0 where
+pub record IsCall {A : Type 0} (c : ClusterState) (id : ℕ) (next : NextOf A) (call : CallOf A) (d : ClusterState) : Type 0 where
   pub book : BookState
   pub live : live_at c id ≡ Some book
   pub answer : A × BookState
   pub called : call book ≡ Ok answer
   pub is : (next answer.0 answer.1).1 ≡ d
 
-pub call-ok : {A : Type 0} (c : ClusterState) (id : ℕ) (next : A → BookState → ClusterStep × ClusterState) (call : BookState → Result (A × BookState) Reason) (y : ClusterStep × ClusterState)
+pub call-ok : {A : Type 0} (c : ClusterState) (id : ℕ) (next : NextOf A) (call : CallOf A) (y : ClusterStep × ClusterState)
     → at_node c id (λ b. lift next (call b)) ≡ Ok y → IsCall c id next call y.1
 call-ok c id next call y h =
     let a = at-ok c id (λ b. lift next (call b)) y h in
@@ -141,10 +149,12 @@ sent_nothing sent (reply.Asked a) = tt
 sent_nothing sent (reply.Stored value a) = tt
 sent_nothing sent (reply.HandedOut o) = tt
 
--- what it makes of a cluster
+-- what it makes of the past, and of the cluster
+abbrev pub past_replied : ClusterState → ℕ → Reply → BookState → Past
+past_replied c id a b = ledger c.past id (event_for id c.past.sent (reply_deed a) (sent_nothing c.past.sent a)) (outcome (reply_told a) b.node)
+
 abbrev pub Replied : ClusterState → ℕ → Reply → BookState → ClusterState
-Replied c id a b =
-    With c (ledger c.past id (event_for id c.past.sent (reply_deed a) (sent_nothing c.past.sent a)) (outcome (reply_told a) b.node)) (with_job c.jobs (reply_job a)) id b
+Replied c id a b = With c (past_replied c id a b) (with_job c.jobs (reply_job a)) id b
 
 pub replied_is : (c : ClusterState) (id : ℕ) (a : Reply) (b : BookState) → Replied c id a b ≡ (replies c id a b).1
 replied_is c id (reply.Left outs) b = refl
@@ -155,22 +165,12 @@ replied_is c id (reply.HandedOut o) b = refl
 
 module _ (c : ClusterState) where
   -- from the call of a book to an entry
-  made : {A : Type 0} {next : A → BookState → ClusterStep × ClusterState} {call : BookState → Result (A × BookState) Reason} {d : ClusterState} (id : ℕ)
-      (k : IsCall c id next call d) (e : Entry) (f : replays.Follows k.book e k.answer.1) (w : WasSent c.past.sent (deed k.book e k.answer.1 f))
-      → AreDue c id (told k.book e k.answer.1 f)
+  made : {A : Type 0} {next : NextOf A} {call : CallOf A} {d : ClusterState} (id : ℕ) (k : IsCall c id next call d) (e : Entry)
+      (f : replays.Follows k.book e k.answer.1) (w : WasSent c.past.sent (deed k.book e k.answer.1 f)) → AreDue c id (told k.book e k.answer.1 f)
       → (let r = outcome (told k.book e k.answer.1 f) k.answer.1.node in
       With c (ledger c.past id (event_for id c.past.sent (deed k.book e k.answer.1 f) w) r) (with_job c.jobs (handed k.book e)) id k.answer.1 ≡ d) → IsMade c d
-  made id k e f w due is = calls (record {
-    id = id;
-    book = k.book;
-    live = k.live;
-    entry = e;
-    later = k.answer.1;
-    follows = f;
-    wants = w;
-    due = due;
-    is = is;
-  })
+  made id k e f w due is =
+      calls (record { id = id; book = k.book; live = k.live; entry = e; later = k.answer.1; follows = f; wants = w; due = due; is = is })
 
   entered-ok : (id : ℕ) (o : Option BookState) (y : ClusterStep × ClusterState) → fin.get c.books id ≡ o → entered c id o ≡ Ok y → IsMade c y.1
   entered-ok id (Some b) y is h = absurd (no_refusal _ y h)
@@ -200,14 +200,15 @@ module _ (c : ClusterState) where
       let a = x.answer.0 in
       let hands : handed x.book (entry.Call k) ≡ reply_job a = ap (seen reply_job None) x.called in
       made id x (entry.Call k) (a, x.called, noted) (sent_nothing c.past.sent a) (nothing_due id a)
-      (ap (λ (o : Option Job). With c (ledger c.past id (event_for id c.past.sent (reply_deed a) (sent_nothing c.past.sent a)) (outcome (reply_told a) x.answer.1.node)) (with_job c.jobs o) id x.answer.1) hands
+      (ap (λ (o : Option Job). With c (past_replied c id a x.answer.1) (with_job c.jobs o) id x.answer.1) hands
       ∙ replied_is c id a x.answer.1 ∙ x.is)
 
   call_is : (id : ℕ) (d : ClusterState) (k : Call) (x : IsCall c id (replies c id) (λ b. called b k) d) (a : Reply) → x.answer.0 ≡ a → IsMade c d
   call_is id d k x (reply.HandedOut None) is =
       let none = x.called ∙ ap (λ (a : Reply). let r : Result (Reply × BookState) Reason = Ok (a, x.answer.1) in r) is in
       rests id x.book x.live
-      (ap (λ (b : BookState). With c c.past c.jobs id b) (none-called x.book k x.answer.1 none) ∙ ap (λ (a : Reply). (replies c id a x.answer.1).1) (sym is) ∙ x.is)
+      (ap (λ (b : BookState). With c c.past c.jobs id b) (none-called x.book k x.answer.1 none)
+      ∙ ap (λ (a : Reply). (replies c id a x.answer.1).1) (sym is) ∙ x.is)
   call_is id d k x (reply.HandedOut (Some j)) is = noted_is id d k x (subst IsNoted (sym is) tt)
   call_is id d k x (reply.Left outs) is = noted_is id d k x (subst IsNoted (sym is) tt)
   call_is id d k x (reply.Registered program) is = noted_is id d k x (subst IsNoted (sym is) tt)

@@ -37,7 +37,7 @@ use Rattle.q_history.proofs.Ops.{IsOnward, onward_itself, insert_same}
 use Rattle.q_history.proofs.World.{node_of, get-nodes, world_live, at_live}
 use Rattle.q_history.proofs.Accepted.{begun_op_by, outcome, Acted, ledger, act_step, act_onward, still_onward}
 use Rattle.q_history.proofs.Called.{past_in, With, IsDue, IsCalled, tells, acts, past, accepted, node_acted, IsMade, enters, crashes, rests, calls}
-use Rattle.q_history.proofs.Kept.{HasView, Owes, IsKnown, IsKept, IsStep, stays_itself, known_on, head_in, head_with, desk_changed, put_stays, put, put_desk, which_job}
+use Rattle.q_history.proofs.Kept.{HasView, Owes, IsKnown, IsKept, IsStep, stays_itself, head_in, head_with, desk_changed, put_known, put, put_desk, which_job}
 
 module _ (c : ClusterState) (kept : IsKept c) where
   abbrev w : WorldState
@@ -65,17 +65,15 @@ module _ (c : ClusterState) (kept : IsKept c) where
   -- ---- a node enters, or crashes
 
   -- a founder is there, so a node that enters is none
-  no_founder : (id : ℕ) (b : Bool) → set.contains (set.from_list {R = nat_cmp} c.past.founders) id ≡ b → fin.get c.books id ≡ None → (let o : Option (List ℕ) = None in o) ≡ cond b (Some c.past.founders) None
+  no_founder : (id : ℕ) (b : Bool) → set.contains (set.from_list {R = nat_cmp} c.past.founders) id ≡ b → fin.get c.books id ≡ None
+      → (let o : Option (List ℕ) = None in o) ≡ cond b (Some c.past.founders) None
   no_founder id true is none = let k = kept.founders id is in absurd (no_some k.0 (sym none ∙ k.1))
   no_founder id false is none = refl
 
   entered_head : (id : ℕ) → fin.get c.books id ≡ None → IsHeaded c id (book.entered c.version c.past.config id).0
-  entered_head id none = record {
-    version = refl;
-    id = refl;
-    config = refl;
-    founders = no_founder id (set.contains (set.from_list {R = nat_cmp} c.past.founders) id) refl none;
-  }
+  entered_head id none =
+      let listed = no_founder id (set.contains (set.from_list {R = nat_cmp} c.past.founders) id) refl none in
+      record { version = refl; id = refl; config = refl; founders = listed }
 
   enter_kept : (id : ℕ) → fin.get c.books id ≡ None
       → (let e = book.entered c.version c.past.config id in IsStep c (With c (recorded c.past (world_event.Enter id) id e.1 None None) c.jobs id e.0))
@@ -84,16 +82,16 @@ module _ (c : ClusterState) (kept : IsKept c) where
       let e : WorldEvent = world_event.Enter id in
       let b : BookState = (book.entered c.version c.past.config id).0 in
       let absent : fin.get (nodes_of c.books) id ≡ None = get-nodes c.books id ∙ ap (option_map node_of) none in
-      put_desk c kept (recorded c.past e id r.outs None None) id b (lawful_next e id r (ap (world.enters w id) absent)) (still_onward w r.node r id e refl) (entered_head id none)
+      put_desk c kept (recorded c.past e id r.outs None None) id b (λ x at. absurd (no_some x (sym none ∙ at)))
+      (lawful_next e id r (ap (world.enters w id) absent)) (still_onward w r.node r id e refl) (entered_head id none)
       (record { tied = λ i q at. absurd (no_some q at); right = λ i q view ran at is. absurd (no_some q at) })
-      (λ x at. absurd (no_some x (sym none ∙ at)))
 
   crash_kept : (id : ℕ) (b : BookState) → live_at c id ≡ Some b → IsStep c (record c { past = stopped c.past id })
   crash_kept id b is =
       let d : ClusterState = record c { past = stopped c.past id } in
       record {
         kept = record {
-          world = step_lawful w (world_event.Crash id) (world.silent w) (world_of (nodes_of c.books) (stopped c.past id)) kept.world (ap (world.crashes w id) (live_in id b is));
+          world = step_lawful w (world_event.Crash id) (world.silent w) (world_in d) kept.world (ap (world.crashes w id) (live_in id b is));
           headed = λ q x at. head_in c d q x refl refl refl (kept.headed q x at);
           founders = kept.founders;
           desks = kept.desks;
@@ -108,8 +106,8 @@ module _ (c : ClusterState) (kept : IsKept c) where
   -- its book is put in as it was
   rest_kept : (id : ℕ) (b : BookState) → fin.get c.books id ≡ Some b → IsStep c (With c c.past c.jobs id b)
   rest_kept id b at =
-      put_desk c kept c.past id b (same_world id b at) (onward_itself c.past.ops) (kept.headed id b at) (kept.desks id b at)
-      (λ x here. subst (λ (z : BookState). Keeps x.desk z.desk) (same_some x b (sym here ∙ at)) (keeps_itself x.desk))
+      put_desk c kept c.past id b (keeps_here id b b at (keeps_itself b.desk)) (same_world id b at) (onward_itself c.past.ops)
+      (kept.headed id b at) (kept.desks id b at)
 
   -- ---- the book of a node takes the call of an entry
 
@@ -205,11 +203,13 @@ module _ (c : ClusterState) (kept : IsKept c) where
 
     called_kept : IsStep c d
     called_kept =
+        let a = accepted c d k in
         subst (IsStep c) k.is
-        (put c kept p k.id k.later (with_job c.jobs o) did.lawful did.onward head
-        (desk_changed c.past.ops p.ops did.onward k.id k.book.desk k.later.desk k.book.id told o (kept.desks k.id k.book at) (accepted c d k).keeps owes (accepted c d k).change) keeps
+        (put c kept p k.id k.later keeps did.lawful did.onward head
+        (desk_changed c.past.ops p.ops did.onward k.id k.book.desk k.later.desk k.book.id told o (kept.desks k.id k.book at) a.keeps owes a.change)
+        (with_job c.jobs o)
         (λ i j here. elim (which_job c.jobs o i j here) [
-          | inl old ↦ known_on c.books (fin.insert c.books k.id k.later) j (put_stays c kept p k.id k.later keeps) (kept.jobs i j old)
+          | inl old ↦ put_known c kept p k.id k.later keeps j (kept.jobs i j old)
           | inr new ↦ new_known j new
         ]))
 

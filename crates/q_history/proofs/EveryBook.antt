@@ -20,7 +20,7 @@ use Rattle.q_history.specs.Calls.{Reaches, IsHistory}
 use Rattle.q_history.specs.Books.{BooksAreReplays}
 use Rattle.q_history.proofs.Founders.{founder_book, IsFounder, every_founder}
 use Rattle.q_history.proofs.Kept.{IsAmong, IsKept}
-use Rattle.q_history.proofs.EveryHistory.{step_kept, run_kept, start_kept}
+use Rattle.q_history.proofs.EveryHistory.{step_kept, start_kept, every_kept}
 use Rattle.q_history.proofs.Called.{event_is}
 use Rattle.q_history.proofs.Booked.{AreBooks, Fit, made_books}
 
@@ -30,10 +30,12 @@ run_books (e ∷ es) c d kept books r =
     run_books es r.1 d (step_kept c r.1 e r.0 kept r.2).kept (made_books c kept books r.1 (event_is c e r.0 r.1 r.2)) r.3
 
 module _ (version : Version) (config : Config) (ids : List ℕ) where
+  -- a founder's node, where its id may be one
+  abbrev node_if : ℕ → Bool → Result NodeState Reason
+  node_if id b = cond b (Ok (founder config ids id)) (Err reasons.BadFounders)
+
   first_founder : (id : ℕ) → are_founders ids ≡ true → IsAmong ids id → IsFirst (founder_book version config ids id) (founder config ids id) (Some ids)
-  first_founder id are listed =
-      ap (λ (b : Bool). let r : Result NodeState Reason = cond (b && set.contains (set.from_list {R = nat_cmp} ids) id) (Ok (founder config ids id)) (Err reasons.BadFounders) in r) are
-      ∙ ap (λ (b : Bool). let r : Result NodeState Reason = cond b (Ok (founder config ids id)) (Err reasons.BadFounders) in r) listed
+  first_founder id are listed = ap (λ (b : Bool). node_if id (b && set.contains (set.from_list {R = nat_cmp} ids) id)) are ∙ ap (node_if id) listed
 
   founder_replay : (id : ℕ) (b : BookState) → are_founders ids ≡ true → IsFounder version config ids id b → IsReplay b
   founder_replay id b are f = subst IsReplay f.is (record { first = founder config ids id; begun = first_founder id are f.listed; replayed = refl })
@@ -52,20 +54,17 @@ module _ (version : Version) (config : Config) (ids : List ℕ) where
 
   pub every_are : (es : List ClusterEvent) (c : ClusterState) → started version config ids ≡ Ok (start version config ids)
       → Reaches (start version config ids) es c → AreBooks c
-  every_are es c begun r = run_books es (start version config ids) c (start_kept version config ids) (start_books (founders_are (are_founders ids) refl begun)) r
+  every_are es c begun r =
+      run_books es (start version config ids) c (start_kept version config ids) (start_books (founders_are (are_founders ids) refl begun)) r
 
   pub every_book : (es : List ClusterEvent) (c : ClusterState) → started version config ids ≡ Ok (start version config ids)
       → Reaches (start version config ids) es c → BooksAreReplays c
-  every_book es c begun r id b at =
-      ((run_kept es (start version config ids) c (start_kept version config ids) r).kept.headed id b at, (every_are es c begun r).replays id b at)
+  every_book es c begun r id b at = ((every_kept version config ids es c r).kept.headed id b at, (every_are es c begun r).replays id b at)
 
-pub history_are : (c : ClusterState) → IsHistory c → AreBooks c
-history_are c h = every_are c.version c.past.config c.past.founders h.0 c h.2 h.1
+  pub every_message : (es : List ClusterEvent) (c : ClusterState) → started version config ids ≡ Ok (start version config ids)
+      → Reaches (start version config ids) es c → Fit version c.past.sent
+  every_message es c begun r =
+      subst (λ (v : Version). Fit v c.past.sent) (every_kept version config ids es c r).version (every_are es c begun r).messages
 
 pub history_books : (c : ClusterState) → IsHistory c → BooksAreReplays c
 history_books c h = every_book c.version c.past.config c.past.founders h.0 c h.2 h.1
-
-pub every_message : (version : Version) (config : Config) (ids : List ℕ) (es : List ClusterEvent) (c : ClusterState)
-    → started version config ids ≡ Ok (start version config ids) → Reaches (start version config ids) es c → Fit version c.past.sent
-every_message version config ids es c begun r =
-    subst (λ (v : Version). Fit v c.past.sent) (run_kept es (start version config ids) c (start_kept version config ids) r).version (every_are version config ids es c begun r).messages

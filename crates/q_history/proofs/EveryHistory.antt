@@ -48,6 +48,38 @@ run_kept (e ∷ es) c d kept r =
       founders = b.founders ∙ a.founders;
     }
 
+-- ---- what is said of answers
+
+pub returned_held : (k : OperationKind) (end : Option ℕ) (view : Option ViewMap) (v : ViewMap) → returned_by k end view ≡ Some v → view ≡ Some v
+returned_held (kind.Store e) end view v h = absurd (no_some v h)
+returned_held kind.Collect None view v h = absurd (no_some v h)
+returned_held kind.Collect (Some place) view v h = h
+
+has_view : (o : Op) (p : Phase) (view : ViewMap) → HasView o p → view_of p ≡ Some view → returned o ≡ Some view
+has_view o Collecting view h is = absurd (no_some view is)
+has_view o (Ready v) view h is = h ∙ is
+has_view o (Running v) view h is = h ∙ is
+has_view o (Answered v ran) view h is = h ∙ is
+
+pub kept_returned : (c : ClusterState) → IsKept c → ViewsAreReturned c
+kept_returned c kept node k b q view at here is =
+    let t = (kept.desks node b at).tied k q here in
+    let returns = has_view t.op q.phase view t.has is in
+    record {
+      collect = t.op;
+      among = t.among;
+      by = t.by;
+      tagged = t.tagged;
+      returned = returns;
+      holds = λ s e among stores before meets.
+          (lawful_regular (world_in c) kept.world).holds s t.op e view among t.among stores
+          (returned_held (kind_of t.op.session) t.op.end (stored t.op.session) view returns) before meets;
+    }
+
+pub kept_true : (c : ClusterState) → IsKept c → AnswersAreTrue c
+kept_true c kept node k b q view ran at here is =
+    record { answered = (kept.desks node b at).right k q view ran here is; returned = kept_returned c kept node k b q view at here (ap view_of is) }
+
 -- ---- founders
 
 module _ (version : Version) (config : Config) (ids : List ℕ) where
@@ -78,57 +110,21 @@ module _ (version : Version) (config : Config) (ids : List ℕ) where
     jobs = λ k j at. absurd (no_some j at);
   }
 
--- ---- what is said of the world
+  -- ---- what is said of all that events make of founders
 
-pub every_world : (version : Version) (config : Config) (ids : List ℕ) (es : List ClusterEvent) (c : ClusterState)
-    → Reaches (start version config ids) es c → world.IsHistory (world_in c)
-every_world version config ids es c r = (run_kept es (start version config ids) c (start_kept version config ids) r).kept.world.history
+  pub every_kept : (es : List ClusterEvent) (d : ClusterState) → Reaches c es d → IsStep c d
+  every_kept es d r = run_kept es c d start_kept r
 
--- ---- what is said of answers
+  pub every_world : (es : List ClusterEvent) (d : ClusterState) → Reaches c es d → world.IsHistory (world_in d)
+  every_world es d r = (every_kept es d r).kept.world.history
 
-returned_held : (k : OperationKind) (end : Option ℕ) (view : Option ViewMap) (v : ViewMap) → returned_by k end view ≡ Some v → view ≡ Some v
-returned_held (kind.Store e) end view v h = absurd (no_some v h)
-returned_held kind.Collect None view v h = absurd (no_some v h)
-returned_held kind.Collect (Some place) view v h = h
+  pub every_true : (es : List ClusterEvent) (d : ClusterState) → Reaches c es d → AnswersAreTrue d
+  every_true es d r = kept_true d (every_kept es d r).kept
 
-has_view : (o : Op) (p : Phase) (view : ViewMap) → HasView o p → view_of p ≡ Some view → returned o ≡ Some view
-has_view o Collecting view h is = absurd (no_some view is)
-has_view o (Ready v) view h is = h ∙ is
-has_view o (Running v) view h is = h ∙ is
-has_view o (Answered v ran) view h is = h ∙ is
+  pub every_returned : (es : List ClusterEvent) (d : ClusterState) → Reaches c es d → ViewsAreReturned d
+  every_returned es d r = kept_returned d (every_kept es d r).kept
 
-pub kept_returned : (c : ClusterState) → IsKept c → ViewsAreReturned c
-kept_returned c kept node k b q view at here is =
-    let t = (kept.desks node b at).tied k q here in
-    let returns = has_view t.op q.phase view t.has is in
-    record {
-      collect = t.op;
-      among = t.among;
-      by = t.by;
-      tagged = t.tagged;
-      returned = returns;
-      holds = λ s e among stores before meets.
-          (lawful_regular (world_in c) kept.world).holds s t.op e view among t.among stores
-          (returned_held (kind_of t.op.session) t.op.end (stored t.op.session) view returns) before meets;
-    }
-
-pub kept_true : (c : ClusterState) → IsKept c → AnswersAreTrue c
-kept_true c kept node k b q view ran at here is = record {
-  answered = (kept.desks node b at).right k q view ran here is;
-  returned = kept_returned c kept node k b q view at here (ap view_of is);
-}
-
-pub every_true : (version : Version) (config : Config) (ids : List ℕ) (es : List ClusterEvent) (c : ClusterState)
-    → Reaches (start version config ids) es c → AnswersAreTrue c
-every_true version config ids es c r = kept_true c (run_kept es (start version config ids) c (start_kept version config ids) r).kept
-
-pub every_returned : (version : Version) (config : Config) (ids : List ℕ) (es : List ClusterEvent) (c : ClusterState)
-    → Reaches (start version config ids) es c → ViewsAreReturned c
-every_returned version config ids es c r = kept_returned c (run_kept es (start version config ids) c (start_kept version config ids) r).kept
-
-pub every_stays : (version : Version) (config : Config) (ids : List ℕ) (es fs : List ClusterEvent) (c d : ClusterState)
-    → Reaches (start version config ids) es c → Reaches c fs d → AnswersStay c d
-every_stays version config ids es fs c d r s node k x q view ran at here is =
-    let kept = (run_kept es (start version config ids) c (start_kept version config ids) r).kept in
-    let y = (run_kept fs c d kept s).stays node x at in
-    (y.0, y.1, y.2.answers k q view ran here is)
+  pub every_stays : (es fs : List ClusterEvent) (d e : ClusterState) → Reaches c es d → Reaches d fs e → AnswersStay d e
+  every_stays es fs d e r s node k x q view ran at here is =
+      let y = (run_kept fs d e (every_kept es d r).kept s).stays node x at in
+      (y.0, y.1, y.2.answers k q view ran here is)

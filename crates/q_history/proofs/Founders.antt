@@ -1,5 +1,5 @@
 -- The books of founders, before any event.
-use Rattle.std.proofs.Common.{◌≡◌, ℕ, Bool, true, false, cond, ◌==◌, ◌||◌, List, [], ◌∷◌, Some, refl, sym, ap, ◌∙◌, ◌⊎◌, inl, inr}
+use Rattle.std.proofs.Common.{◌≡◌, ℕ, Bool, true, false, ◌==◌, ◌||◌, List, [], ◌∷◌, Some, refl, sym, ap, ◌∙◌, ◌⊎◌, inl, inr}
 use Rattle.std.proofs.lemmas.Bool.{eq-eqb}
 use Rattle.std.specs.Ordering.{nat_cmp}
 use Rattle.std.specs.FinMap as fin
@@ -9,14 +9,14 @@ use Rattle.sc_msg.specs.declared.version.Version.{Version}
 use Rattle.sc_node.specs.State.{NodeState}
 use Rattle.sc_node.specs.Nodes.{founder}
 use Rattle.sc_world.specs.Worlds.{nodes_with}
-use Rattle.sc_world.proofs.Finite.{get-insert, contains-insert}
+use Rattle.sc_world.proofs.Finite.{contains-insert}
 use Rattle.q_book.specs.State.{BookState}
 use Rattle.q_book.specs.Books.{new_book}
 use Rattle.q_history.specs.Headline.{BookMap}
 use Rattle.q_history.specs.World.{nodes_of}
 use Rattle.q_history.specs.Clusters.{books_with}
 use Rattle.q_history.proofs.Lists.{no_some}
-use Rattle.q_history.proofs.Ops.{insert_has, each_put}
+use Rattle.q_history.proofs.Ops.{insert_get, insert_has, each_put}
 use Rattle.q_history.proofs.World.{nodes-insert}
 use Rattle.q_history.proofs.Kept.{IsAmong}
 
@@ -61,7 +61,7 @@ module _ (version : Version) (config : Config) (ids : List ℕ) where
 
   comes_next : (p : ℕ) (qs : List ℕ) (books : BookMap) (id : ℕ) (b : Bool) → (id == p) ≡ b → (b || set.contains (set.from_list {R = nat_cmp} qs) id) ≡ true
       → Comes (fin.insert books p (founder_book p)) qs id
-  comes_next p qs books id true is h = inl (founder_book p, get-insert books p (founder_book p) id ∙ ap (λ (b : Bool). cond b (Some (founder_book p)) (fin.get books id)) is)
+  comes_next p qs books id true is h = inl (founder_book p, insert_get books p (founder_book p) id true is)
   comes_next p qs books id false is h = inr h
 
   -- each founder is there
@@ -69,7 +69,8 @@ module _ (version : Version) (config : Config) (ids : List ℕ) where
       → (b : BookState) × (fin.get (books_with version config ids books qs) id ≡ Some b)
   founder_there [] books id (inl h) = h
   founder_there [] books id (inr h) = let none : false ≡ true = sym (set.contains-empty nat_cmp id) ∙ h in absurd (cc)
-  founder_there (p ∷ qs) books id (inl h) = founder_there qs (fin.insert books p (founder_book p)) id (inl (insert_has books p (founder_book p) id h.0 (id == p) refl h.1))
+  founder_there (p ∷ qs) books id (inl h) =
+      founder_there qs (fin.insert books p (founder_book p)) id (inl (insert_has books p (founder_book p) id h.0 (id == p) refl h.1))
   founder_there (p ∷ qs) books id (inr h) =
       founder_there qs (fin.insert books p (founder_book p)) id (comes_next p qs books id (id == p) refl (sym (contains-insert (set.from_list qs) p id) ∙ h))
 

@@ -1,5 +1,5 @@
 -- What is true of every cluster that events lead to, and what one event owes.
-use Rattle.std.proofs.Common.{◌≡◌, ℕ, Bool, true, false, cond, ◌==◌, List, Option, Some, None, refl, sym, ap, ◌∙◌, subst, ◌⊎◌, inl, inr, slice_get}
+use Rattle.std.proofs.Common.{◌≡◌, ℕ, Bool, true, false, ◌==◌, List, Option, Some, None, refl, sym, ap, ◌∙◌, subst, ◌⊎◌, inl, inr, slice_get}
 use Rattle.std.proofs.lemmas.Bool.{eqb-true}
 use Rattle.std.specs.Ordering.{nat_cmp}
 use Rattle.std.specs.FinMap as fin
@@ -10,7 +10,6 @@ use Rattle.sc_world.specs.declared.op.Op.{Op}
 use Rattle.sc_world.specs.State.{Past, world_of}
 use Rattle.sc_world.specs.Records.{Among}
 use Rattle.sc_world.specs.Operations.{returned}
-use Rattle.sc_world.proofs.Finite.{get-insert}
 use Rattle.sc_world.proofs.EveryHistory.{IsLawful}
 use Rattle.sc_world.proofs.Steps.{and_left, and_right}
 use Rattle.q_session.specs.Right.{IsRight}
@@ -32,7 +31,7 @@ use Rattle.q_history.specs.Heads.{founders_for, IsHeaded}
 use Rattle.q_history.specs.Calls.{Answers}
 use Rattle.q_history.specs.Clusters.{with_job}
 use Rattle.q_history.proofs.Lists.{same_some, get_snoc}
-use Rattle.q_history.proofs.Ops.{IsOnward, insert_has, each_put}
+use Rattle.q_history.proofs.Ops.{IsOnward, insert_get, insert_has, each_put}
 use Rattle.q_history.proofs.World.{world_put}
 use Rattle.q_history.proofs.Called.{past_in, With}
 
@@ -101,12 +100,9 @@ known_on old new j stays k =
 -- a book is headed alike in each cluster of the same founders
 pub head_in : (c d : ClusterState) (id : ℕ) (b : BookState) → d.version ≡ c.version → d.past.config ≡ c.past.config
     → d.past.founders ≡ c.past.founders → IsHeaded c id b → IsHeaded d id b
-head_in c d id b version config founders h = record {
-  version = h.version ∙ sym version;
-  id = h.id;
-  config = h.config ∙ sym config;
-  founders = h.founders ∙ ap (founders_for id) (sym founders);
-}
+head_in c d id b version config founders h =
+    let listed = h.founders ∙ ap (founders_for id) (sym founders) in
+    record { version = h.version ∙ sym version; id = h.id; config = h.config ∙ sym config; founders = listed }
 
 -- what a call makes of a book keeps its head
 pub head_with : (c : ClusterState) (id : ℕ) (b : BookState) (n : NodeState) (d : DeskState) → IsHeaded c id b → IsHeaded c id (record b { node = n; desk = d })
@@ -141,10 +137,11 @@ module _ (ops later : List Op) (onward : IsOnward ops later) (id : ℕ) where
       record { op = k.op; among = k.among; by = k.by ∙ t.by; tagged = k.tagged ∙ t.tagged; has = view_on t.op k.op q.phase k.returned t.has }
 
   -- a query in another phase, with the view that it had
-  rephased_tied : (q : Query) (view : ViewMap) (from to : Phase) → q.phase ≡ from → ((x : Op) → HasView x from → returned x ≡ Some view)
-      → ((x : Op) → returned x ≡ Some view → HasView x to) → IsTied ops id q → IsTied later id (record q { phase = to })
-  rephased_tied q view from to is had has t =
-      tied_on (record q { phase = to }) (record { op = t.op; among = t.among; by = t.by; tagged = t.tagged; has = has t.op (had t.op (subst (HasView t.op) is t.has)) })
+  rephased_tied : (q : Query) (from to p : Phase) → q.phase ≡ from → ((x : Op) → HasView x from → HasView x to) → p ≡ to → IsTied ops id q
+      → IsTied later id (record q { phase = p })
+  rephased_tied q from to p is has same t =
+      subst (λ (x : Phase). IsTied later id (record q { phase = x })) (sym same) (tied_on (record q { phase = to })
+      (record { op = t.op; among = t.among; by = t.by; tagged = t.tagged; has = has t.op (subst (HasView t.op) is t.has) }))
 
   pub desk_on : (d : DeskState) → IsDeskOf ops id d → IsDeskOf later id d
   desk_on d k = record { tied = λ i q at. tied_on q (k.tied i q at); right = k.right }
@@ -162,9 +159,9 @@ module _ (ops later : List Op) (onward : IsOnward ops later) (id : ℕ) where
     moved_tied n q p at (readied view r to none) = subst (λ (x : Phase). IsTied later id (record q { phase = x })) (sym to) (owes.returned q view r)
     moved_tied n q p at (handed j r of to some) =
         let one : r.query ≡ q = same_some r.query q (sym r.at ∙ ap (slice_get d.queries) of ∙ at) in
-        rephased_tied q j.view (Ready j.view) p (sym (ap (λ (x : Query). x.phase) one) ∙ r.phase) (λ x h. h) (λ x h. subst (HasView x) (sym to) h) (k.tied n q at)
+        rephased_tied q (Ready j.view) (Running j.view) p (sym (ap (λ (x : Query). x.phase) one) ∙ r.phase) (λ x h. h) to (k.tied n q at)
     moved_tied n q p at (recorded j view ran told runs fits to none) =
-        rephased_tied q view (Running view) p runs (λ x h. h) (λ x h. subst (HasView x) (sym to) h) (k.tied n q at)
+        rephased_tied q (Running view) (Answered view ran) p runs (λ x h. h) to (k.tied n q at)
 
     new_tied : (q : Query) → IsNew d node t o q → IsTied later id q
     new_tied q (fresh b) = owes.begun q b
@@ -199,41 +196,41 @@ module _ (ops later : List Op) (onward : IsOnward ops later) (id : ℕ) where
       ];
     }
 
--- one book is put in, and the others are as they were
-module _ (c : ClusterState) (kept : IsKept c) (p : Past) (id : ℕ) (b : BookState) where
-  stays_by : (q : ℕ) (x : BookState) (here : Bool) → (q == id) ≡ here → ((y : BookState) → fin.get c.books id ≡ Some y → Keeps y.desk b.desk)
-      → fin.get c.books q ≡ Some x → (y : BookState) × (fin.get (fin.insert c.books id b) q ≡ Some y) × Keeps x.desk y.desk
-  stays_by q x true is keeps at =
-      (b, get-insert c.books id b q ∙ ap (λ (h : Bool). cond h (Some b) (fin.get c.books q)) is, keeps x (ap (fin.get c.books) (sym (eqb-true q id is)) ∙ at))
-  stays_by q x false is keeps at =
-      (x, get-insert c.books id b q ∙ ap (λ (h : Bool). cond h (Some b) (fin.get c.books q)) is ∙ at, keeps_itself x.desk)
+-- one book is put in, with what another kept, and the others are as they were
+module _ (c : ClusterState) (kept : IsKept c) (p : Past) (id : ℕ) (b : BookState)
+    (keeps : (y : BookState) → fin.get c.books id ≡ Some y → Keeps y.desk b.desk) where
+  stays_by : (q : ℕ) (x : BookState) (here : Bool) → (q == id) ≡ here → fin.get c.books q ≡ Some x
+      → (y : BookState) × (fin.get (fin.insert c.books id b) q ≡ Some y) × Keeps x.desk y.desk
+  stays_by q x true is at = (b, insert_get c.books id b q true is, keeps x (ap (fin.get c.books) (sym (eqb-true q id is)) ∙ at))
+  stays_by q x false is at = (x, insert_get c.books id b q false is ∙ at, keeps_itself x.desk)
 
-  pub put_stays : ((y : BookState) → fin.get c.books id ≡ Some y → Keeps y.desk b.desk) → Stays c.books (fin.insert c.books id b)
-  put_stays keeps q x at = stays_by q x (q == id) refl keeps at
+  put_stays : Stays c.books (fin.insert c.books id b)
+  put_stays q x at = stays_by q x (q == id) refl at
 
-  pub put : (jobs : List Job) → IsLawful (world_of (fin.insert (nodes_of c.books) id b.node) (past_in c p)) → IsOnward c.past.ops p.ops → IsHeaded c id b
-      → IsDeskOf p.ops id b.desk → ((y : BookState) → fin.get c.books id ≡ Some y → Keeps y.desk b.desk)
-      → ((k : ℕ) (j : Job) → slice_get jobs k ≡ Some j → IsKnown (fin.insert c.books id b) j) → IsStep c (With c p jobs id b)
-  put jobs lawful onward head new keeps known = record {
-    kept = record {
-      world = subst IsLawful (world_put c (past_in c p) jobs id b) lawful;
-      headed = each_put c.books id b (IsHeaded (With c p jobs id b)) (head_in c (With c p jobs id b) id b refl refl refl head)
-          (λ q x at. head_in c (With c p jobs id b) q x refl refl refl (kept.headed q x at));
-      founders = λ q is. let k = kept.founders q is in insert_has c.books id b q k.0 (q == id) refl k.1;
-      desks = each_put c.books id b (λ q x. IsDeskOf p.ops q x.desk) new (λ q x at. desk_on c.past.ops p.ops onward q x.desk (kept.desks q x at));
-      jobs = known;
-    };
-    stays = put_stays keeps;
-    version = refl;
-    config = refl;
-    founders = refl;
-  }
+  pub put_known : (j : Job) → IsKnown c.books j → IsKnown (fin.insert c.books id b) j
+  put_known j k = known_on c.books (fin.insert c.books id b) j put_stays k
 
-  -- where no job is handed out
-  pub put_desk : IsLawful (world_of (fin.insert (nodes_of c.books) id b.node) (past_in c p)) → IsOnward c.past.ops p.ops → IsHeaded c id b
-      → IsDeskOf p.ops id b.desk → ((y : BookState) → fin.get c.books id ≡ Some y → Keeps y.desk b.desk) → IsStep c (With c p c.jobs id b)
-  put_desk lawful onward head new keeps =
-      put c.jobs lawful onward head new keeps (λ k j at. known_on c.books (fin.insert c.books id b) j (put_stays keeps) (kept.jobs k j at))
+  module _ (lawful : IsLawful (world_of (fin.insert (nodes_of c.books) id b.node) (past_in c p))) (onward : IsOnward c.past.ops p.ops)
+      (head : IsHeaded c id b) (new : IsDeskOf p.ops id b.desk) where
+    pub put : (jobs : List Job) → ((k : ℕ) (j : Job) → slice_get jobs k ≡ Some j → IsKnown (fin.insert c.books id b) j) → IsStep c (With c p jobs id b)
+    put jobs known = record {
+      kept = record {
+        world = subst IsLawful (world_put c (past_in c p) jobs id b) lawful;
+        headed = each_put c.books id b (IsHeaded (With c p jobs id b)) (head_in c (With c p jobs id b) id b refl refl refl head)
+            (λ q x at. head_in c (With c p jobs id b) q x refl refl refl (kept.headed q x at));
+        founders = λ q is. let k = kept.founders q is in insert_has c.books id b q k.0 (q == id) refl k.1;
+        desks = each_put c.books id b (λ q x. IsDeskOf p.ops q x.desk) new (λ q x at. desk_on c.past.ops p.ops onward q x.desk (kept.desks q x at));
+        jobs = known;
+      };
+      stays = put_stays;
+      version = refl;
+      config = refl;
+      founders = refl;
+    }
+
+    -- where no job is handed out
+    pub put_desk : IsStep c (With c p c.jobs id b)
+    put_desk = put c.jobs (λ k j at. put_known j (kept.jobs k j at))
 
 -- a job that is handed out is one more
 pub which_job : (jobs : List Job) (o : Option Job) (number : ℕ) (j : Job) → slice_get (with_job jobs o) number ≡ Some j

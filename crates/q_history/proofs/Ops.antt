@@ -42,13 +42,19 @@ none_returned kind.Collect view = refl
 -- an operation that has not ended has returned nothing
 open_returns : (o : Op) (v : ViewMap) → o.end ≡ None → returned o ≡ Some v → ⊥
 open_returns o v running h =
-    let k : None ≡ Some v = sym (ap (λ (x : Option ℕ). returned_by (kind_of o.session) x (stored o.session)) running ∙ none_returned (kind_of o.session) (stored o.session)) ∙ h in
+    let none = ap (λ (x : Option ℕ). returned_by (kind_of o.session) x (stored o.session)) running ∙ none_returned (kind_of o.session) (stored o.session) in
+    let k : None ≡ Some v = sym none ∙ h in
     absurd (cc)
+
+-- what stands in a map in which an entry was put, by whether it stands where that was put
+pub insert_get : {X : Type 0} (m : fin.FinMap nat_cmp X) (k : ℕ) (v : X) (q : ℕ) (here : Bool) → (q == k) ≡ here
+    → fin.get (fin.insert m k v) q ≡ cond here (Some v) (fin.get m q)
+insert_get m k v q here is = get-insert m k v q ∙ ap (λ (b : Bool). cond b (Some v) (fin.get m q)) is
 
 pub insert_has : {X : Type 0} (m : fin.FinMap nat_cmp X) (k : ℕ) (v : X) (q : ℕ) (x : X) (b : Bool) → (q == k) ≡ b → fin.get m q ≡ Some x
     → (y : X) × (fin.get (fin.insert m k v) q ≡ Some y)
-insert_has m k v q x true is at = (v, get-insert m k v q ∙ ap (λ (b : Bool). cond b (Some v) (fin.get m q)) is)
-insert_has m k v q x false is at = (x, get-insert m k v q ∙ ap (λ (b : Bool). cond b (Some v) (fin.get m q)) is ∙ at)
+insert_has m k v q x true is at = (v, insert_get m k v q true is)
+insert_has m k v q x false is at = (x, insert_get m k v q false is ∙ at)
 
 module _ {X : Type 0} (m : fin.FinMap nat_cmp X) (k : ℕ) (v : X) (P : ℕ → X → Type 0) where
   each_by : (q : ℕ) (x : X) (here : Bool) → (q == k) ≡ here → P k v → ((p : ℕ) (y : X) → fin.get m p ≡ Some y → P p y)
@@ -72,14 +78,16 @@ module _ (w : WorldState) (e : WorldEvent) (q : ℕ) (r : Outcome) where
   kept_view : (p : Option Progress) (o : Op) → ((k : Progress) → p ≡ Some k → o.node ≡ q → o.tag ≡ k.tag → o.end ≡ None) → (v : ViewMap)
       → returned o ≡ Some v → returned (advanced q (clock w) p o) ≡ Some v
   kept_view None o running v h = h
-  kept_view (Some p) o running v h = advance_op q (clock w) p o (λ (y : Op). returned y ≡ Some v) (λ by tagged. absurd (open_returns o v (running p refl by tagged) h)) (λ _. h)
+  kept_view (Some p) o running v h =
+      advance_op q (clock w) p o (λ (y : Op). returned y ≡ Some v) (λ by tagged. absurd (open_returns o v (running p refl by tagged) h)) (λ _. h)
 
   later : (o : Op) → Among o w.ops → ((k : Progress) → r.progress ≡ Some k → o.node ≡ q → o.tag ≡ k.tag → o.end ≡ None) → IsLater (after w e q r).ops o
   later o in' running =
       let k = same_start q (clock w) r.progress o in
+      let moved : Op → Op = advanced q (clock w) r.progress in
       record {
-        op = advanced q (clock w) r.progress o;
-        among = among-left (advanced q (clock w) r.progress o) (map (advanced q (clock w) r.progress) w.ops) (op_begun q (clock w) r.begun) (among-image (advanced q (clock w) r.progress) o w.ops in');
+        op = moved o;
+        among = among-left (moved o) (map moved w.ops) (op_begun q (clock w) r.begun) (among-image moved o w.ops in');
         by = k.node;
         tagged = k.tag;
         returned = kept_view r.progress o running;

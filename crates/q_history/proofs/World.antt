@@ -29,7 +29,9 @@ map_cond false x o = refl
 
 find_nodes : (es : List (ℕ × BookState)) (q : ℕ) → find nat_cmp q (map (λ (e : ℕ × BookState). (e.0, e.1.node)) es) ≡ option_map node_of (find nat_cmp q es)
 find_nodes [] q = refl
-find_nodes (e ∷ es) q = ap (λ (o : Option NodeState). cond (is_eq (nat_cmp q e.0)) (Some e.1.node) o) (find_nodes es q) ∙ map_cond (is_eq (nat_cmp q e.0)) e.1 (find nat_cmp q es)
+find_nodes (e ∷ es) q =
+    ap (λ (o : Option NodeState). cond (is_eq (nat_cmp q e.0)) (Some e.1.node) o) (find_nodes es q)
+    ∙ map_cond (is_eq (nat_cmp q e.0)) e.1 (find nat_cmp q es)
 
 -- the node of an id is that of its book
 pub get-nodes : (m : BookMap) (q : ℕ) → fin.get (nodes_of m) q ≡ option_map node_of (fin.get m q)

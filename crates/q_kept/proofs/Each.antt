@@ -14,12 +14,9 @@ use Rattle.q_kept.specs.Letters.{Addressed, Spells, SpellsFirst, message_to}
 use Rattle.q_kept.specs.Questions.{GoesAgain, IsFor, asking_phase, due, due_of, is_due, is_kept, targets, uncounted}
 use Rattle.q_kept.specs.declared.letter.Letter.{Letter}
 use Rattle.q_kept.specs.declared.question.Question.{Question}
+use Rattle.sc_view.proofs.AllLemmas.{all_both}
 
 -- ---- lists
-
-all_append : {X : Type 0} (P : X → Type 0) (xs ys : List X) → AllByRecursion P xs → AllByRecursion P ys → AllByRecursion P (xs ++ ys)
-all_append P [] ys h k = k
-all_append P (x ∷ xs) ys h k = (h.0, all_append P xs ys h.1 k)
 
 all_map : {X Y : Type 0} (P : X → Type 0) (Q : Y → Type 0) (f : X → Y) → ((x : X) → P x → Q (f x)) → (xs : List X) → AllByRecursion P xs
     → AllByRecursion Q (map f xs)
@@ -29,7 +26,7 @@ all_map P Q f g (x ∷ xs) h = (g x h.0, all_map P Q f g xs h.1)
 all_flat_map : {X Y : Type 0} (P : X → Type 0) (Q : Y → Type 0) (f : X → List Y) → ((x : X) → P x → AllByRecursion Q (f x)) → (xs : List X)
     → AllByRecursion P xs → AllByRecursion Q (flat_map f xs)
 all_flat_map P Q f g [] h = tt
-all_flat_map P Q f g (x ∷ xs) h = all_append Q (f x) (flat_map f xs) (g x h.0) (all_flat_map P Q f g xs h.1)
+all_flat_map P Q f g (x ∷ xs) h = all_both Q (f x) (flat_map f xs) (g x h.0) (all_flat_map P Q f g xs h.1)
 
 all_if : {X : Type 0} (P : X → Type 0) (xs : List X) (b : Bool) → (b ≡ true → AllByRecursion P xs) → AllByRecursion P (if b then xs else [])
 all_if P xs true g = g refl

@@ -1,5 +1,6 @@
 -- What was read of an input.
-use Rattle.std.proofs.Common.{◌≡◌, ℕ, ◌+◌, ◌<◌, ◌≤◌, List, [], ◌∷◌, ◌++◌, length, take, Option, Some, None, Result, Ok, Err, refl, sym, ap, ◌∙◌, subst, append_assoc, take_all, arith, length-append}
+use Rattle.std.proofs.Common.{◌≡◌, ℕ, ◌+◌, ◌<◌, ◌≤◌, List, [], ◌∷◌, ◌++◌, length, take, Option, Some, None, Result}
+use Rattle.std.proofs.Common.{Ok, Err, refl, sym, ap, ◌∙◌, subst, append_assoc, take_all, arith, length-append}
 use Rattle.std.specs.Prelude.{IsErrAnd, is_some, Bool, true, false}
 use Rattle.std.specs.Io.KnownBytes.{Consumes, IsAtEnd}
 use Rattle.std.proofs.KnownBytes.{Consumes-trans}
@@ -53,17 +54,12 @@ pub got_none : {A : Type 0} (bytes_of : A → List ℕ) (len : ℕ) (a b : Optio
     → (part : List ℕ) × Consumes a b part × (length part < len) × IsAtEnd b
 got_none bytes_of len a b o is h = subst (Got bytes_of len a b) is h
 
--- a number of four bytes was got, and what comes behind it failed
-pub short_then_failed : {E : Type 0} (P : E → Type 0) (version : Version) (front : List ℕ) (a b c : Option (List ℕ)) (r : Result Incoming E)
-    (o : Option ℕ) (n : ℕ) → IsErrAnd r P → o ≡ Some n → Got (number_bytes 4) 4 a b o → (part : List ℕ) × Consumes b c part
+-- a piece was got, and what comes behind it failed
+pub piece_then_failed : {A E : Type 0} (P : E → Type 0) (bytes_of : A → List ℕ) (len : ℕ) (version : Version) (front : List ℕ) (a b c : Option (List ℕ))
+    (r : Result Incoming E) {o : Option A} {x : A} → IsErrAnd r P → o ≡ Some x → Got bytes_of len a b o → (part : List ℕ) × Consumes b c part
     → GetsNext version front a c r
-short_then_failed P version front a b c r o n h is got failed = next_failed P version front a c r h (then_failed a b c (number_bytes 4 n) (got_some (number_bytes 4) 4 a b o n is got) failed)
-
--- the same of a byte
-pub byte_then_failed : {E : Type 0} (P : E → Type 0) (version : Version) (front : List ℕ) (a b c : Option (List ℕ)) (r : Result Incoming E)
-    (o : Option ℕ) (n : ℕ) → IsErrAnd r P → o ≡ Some n → Got (λ (b : ℕ). b ∷ []) 1 a b o → (part : List ℕ) × Consumes b c part
-    → GetsNext version front a c r
-byte_then_failed P version front a b c r o n h is got failed = next_failed P version front a c r h (then_failed a b c (n ∷ []) (got_some (λ (b : ℕ). b ∷ []) 1 a b o n is got) failed)
+piece_then_failed P bytes_of len version front a b c r {o} {x} h is got failed =
+    next_failed P version front a c r h (then_failed a b c (bytes_of x) (got_some bytes_of len a b o x is got) failed)
 
 -- the next byte, where it has this value
 pub got_kind : (kind byte : ℕ) (a b : Option (List ℕ)) (o : Option ℕ) → o ≡ Some byte → byte ≡ kind → Got (λ (b : ℕ). b ∷ []) 1 a b o → Consumes a b (kind ∷ [])
@@ -78,9 +74,9 @@ got_byte a b (Some x) some h = (x, h)
 got_byte a b None some h = absurd (subst NotTrue some tt)
 
 -- one byte more was passed over
-pub passed_byte : (a b c : Option (List ℕ)) (at : ℕ) (o : Option ℕ) → (done : List ℕ) × (length done ≡ at) × Consumes a b done → (is_some o ≡ true)
+pub passed_byte : (a b c : Option (List ℕ)) {at : ℕ} (o : Option ℕ) → (done : List ℕ) × (length done ≡ at) × Consumes a b done → (is_some o ≡ true)
     → Got (λ (b : ℕ). b ∷ []) 1 b c o → (done : List ℕ) × (length done ≡ at + 1) × Consumes a c done
-passed_byte a b c at o before some h =
+passed_byte a b c o before some h =
     let (byte, last) = got_byte b c o some h in
     let (done, len, consumed) = before in
     (done ++ byte ∷ [], omega (arith, len, length-append done (byte ∷ [])), Consumes-trans a b c done (byte ∷ []) consumed last)

@@ -14,20 +14,16 @@ use Rattle.bq_check.specs.Reasons as check
 use Rattle.bq_check.specs.Faults.{IsFirstFault}
 use Rattle.bq_check.specs.Spelling.{notes_bytes, IsNotes}
 use Rattle.spelling.specs.Numbers.{number_bytes}
-use Rattle.bq_check.specs.declared.form.NotesForm.{NotesForm}
-use Rattle.bq_check.specs.declared.form.NotesForm.TheVariants as form
 use Rattle.bq_check.specs.Certificate.{Certificate}
 use Rattle.bq_check.specs.Certified.{IsCertified}
 use Rattle.sc_msg.specs.declared.message.Message.{Message}
-use Rattle.sc_msg.specs.declared.version.Version.{Version}
-use Rattle.sc_msg.specs.declared.version.Version.TheVariants.{First, Second}
 use Rattle.sc_node.specs.declared.answer.Begun.{Begun}
 use Rattle.forms.specs.Calls.{Steps}
 use Rattle.q_session.specs.declared.ran.Ran.{Ran}
 use Rattle.q_desk.specs.Desks.{answer_of}
 use Rattle.q_book.specs.State.{BookState}
 use Rattle.q_book.specs.Books as book
-use Rattle.q_book.specs.Books.{record_lengths}
+use Rattle.q_book.specs.Books.{notes_form, record_lengths}
 use Rattle.reasons.specs.declared.Reason.TheVariants.{OutOfMemory as memory}
 use Rattle.q_book.specs.declared.answer.Asked.{Asked}
 use Rattle.q_net.specs.declared.request.Request.{Request}
@@ -48,11 +44,6 @@ reply_bytes (reply.Refused why) = why ∷ []
 
 -- ---- registrations
 
--- the form of the notes in requests to a book of that version
-abbrev pub form_of : Version → NotesForm
-form_of First = form.First
-form_of Second = form.Second
-
 -- what comes of the bytes of a text and of notes: the first fault of the text, then of the notes, then of the check,
 -- and only then the book's answer. Notes have the form of the book's version, and are for its records. Each may be that
 -- memory ran out, and then the book is as it was.
@@ -60,13 +51,13 @@ abbrev pub Registers : BookState → List ℕ → List ℕ → Registered → Bo
 Registers b bytes notes (registered.Text f) c = (c ≡ b) × (f ≢ decode_fault.OutOfMemory → decode.IsFault bytes f)
 Registers b bytes notes (registered.Notes f) c =
     (c ≡ b) × ((t : List Insn) × IsText t × (bytes ≡ text.spelling t))
-    × (f ≢ notes_fault.OutOfMemory → (n : List (Option StateKinds)) → IsNotes (form_of b.version) n → notes ≡ notes_bytes (form_of b.version) n → ⊥)
+    × (f ≢ notes_fault.OutOfMemory → (n : List (Option StateKinds)) → IsNotes (notes_form b.version) n → notes ≡ notes_bytes (notes_form b.version) n → ⊥)
 Registers b bytes notes (registered.Check f) c =
     (c ≡ b) × ((t : List Insn) × (n : List (Option StateKinds)) × IsText t × (bytes ≡ text.spelling t)
-    × IsNotes (form_of b.version) n × (notes ≡ notes_bytes (form_of b.version) n) × IsFirstFault (record_lengths b.version) t n f)
+    × IsNotes (notes_form b.version) n × (notes ≡ notes_bytes (notes_form b.version) n) × IsFirstFault (record_lengths b.version) t n f)
 Registers b bytes notes (registered.Book r) c =
     (program : Certificate) × IsCertified program × (program.lengths ≡ record_lengths b.version) × (bytes ≡ text.spelling program.text)
-    × IsNotes (form_of b.version) program.notes × (notes ≡ notes_bytes (form_of b.version) program.notes)
+    × IsNotes (notes_form b.version) program.notes × (notes ≡ notes_bytes (notes_form b.version) program.notes)
     × Steps memory (book.registered b program) b c r
 
 abbrev pub of_register : Result ℕ Reason → Reply

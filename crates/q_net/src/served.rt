@@ -1,20 +1,18 @@
 //! A request to a book.
 
-ghost use Rattle.std.specs.Prelude.{◌≡◌, ◌≤◌, ◌+◌, ◌++◌, List, Option, IfOk, MatchResult, vec_len, vec_capacity};
+ghost use Rattle.std.specs.Prelude.{◌≡◌, ◌≤◌, ◌+◌, ◌++◌, List, vec_len, vec_capacity};
 ghost use Rattle.sc_msg.specs.declared.message.Message.{Message as Sent};
-ghost use Rattle.bq_state.specs.Kinds.{StateKinds};
-ghost use Rattle.bq_check.specs.Spelling.{IsNotes, notes_bytes};
-ghost use Rattle.q_net.specs.Replies.{Registers, Replies, form_of, of_registered, of_answer};
+ghost use Rattle.q_net.specs.Replies.{Registers, Replies, of_registered, of_answer};
 ghost use Rattle.q_desk.specs.Desks.{answer_of};
 ghost use Rattle.q_net.specs.declared.request.Request.TheVariants.{Ask, Store};
 
 use crate::replies::Reply;
 use crate::request::Request;
-use bq_check::{CheckFault, Notes, NotesFault};
+use bq_check::{CheckFault, NotesFault};
 use bq_insn::{DecodeFault, decode};
-use q_book::{Asked, Book, BookFault, record_lengths};
+use q_book::{Asked, Book, BookFault, read_notes, record_lengths};
 use q_table::{Program, ProgramId};
-use sc_msg::{Message, Version};
+use sc_msg::Message;
 use std::alloc::Global;
 
 /// What comes of a registration.
@@ -30,19 +28,6 @@ pub enum Registered {
     Book(Result<ProgramId, BookFault>),
 }
 
-/// The notes that bytes spell in the form of the book's version.
-fn read_notes(alloc: Global, book: &Book, bytes: &[u8]) -> Result<Notes, NotesFault>
-    ensures legal { IfOk result (IsNotes (form_of book.now.version)) }
-    ensures spelled { IfOk result (λ n. bytes.now ≡ notes_bytes (form_of book.now.version) n) }
-    ensures all { (n : List (Option StateKinds)) → IsNotes (form_of book.now.version) n → bytes.now ≡ notes_bytes (form_of book.now.version) n
-        → MatchResult result (λ m. m ≡ n) (λ e. e ≡ NotesFault.OutOfMemory) }
-{
-    match book.version() {
-        Version::First => Notes::read_v1(alloc, bytes),
-        Version::Second => Notes::read(alloc, bytes),
-    }
-}
-
 /// Registers the text with the notes that these bytes spell.
 fn register(alloc: Global, book: &mut Book, text: &[u8], notes: &[u8]) -> Registered
     ensures { Registers book.old text.now notes.now result book.new }
@@ -51,11 +36,12 @@ fn register(alloc: Global, book: &mut Book, text: &[u8], notes: &[u8]) -> Regist
         Ok(text) => text,
         Err(fault) => return Registered::Text(fault),
     };
-    let notes = match read_notes(alloc, book, notes) {
+    let version = book.version();
+    let notes = match read_notes(alloc, version, notes) {
         Ok(notes) => notes,
         Err(fault) => return Registered::Notes(fault),
     };
-    match Program::of_text(alloc, text, notes, record_lengths(book.version())) {
+    match Program::of_text(alloc, text, notes, record_lengths(version)) {
         Ok(program) => Registered::Book(book.register(&program)),
         Err(fault) => Registered::Check(fault),
     }

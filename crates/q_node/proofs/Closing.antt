@@ -1,12 +1,12 @@
 -- How a run closes.
-use Rattle.std.proofs.Common.{◌≡◌, ◌⊎◌, ℕ, List, [], ◌++◌, Option, Result, Ok, Err, inl, inr, refl, sym, ap, ◌∙◌, append-nil, subst}
+use Rattle.std.proofs.Common.{◌≡◌, ℕ, List, [], ◌++◌, Option, Result, Ok, Err, inl, inr, refl, sym, ◌∙◌, append-nil, subst}
 use Rattle.std.specs.Io.KnownBytes.{Appends}
 use Rattle.std.proofs.KnownBytes.{Appends-trans}
 use Rattle.q_replay.specs.Journal.{journal_of}
 use Rattle.q_kept.specs.declared.fault.Unrecorded.{Unrecorded}
 use Rattle.q_node.specs.Journal.{HoldsBeginning, HoldsJournal, IsKept}
-use Rattle.q_node.specs.Runs.{Closes, IsFront, IsJournal, IsWritten, ending_of, failures_after, last_line}
-use Rattle.q_node.specs.Talks.{Talks, talk_count}
+use Rattle.q_node.specs.Runs.{Closes, IsFront, IsJournal, IsWritten, ending_of, last_line}
+use Rattle.q_node.specs.Talks.{Talks}
 use Rattle.q_node.specs.declared.ending.NodeEnding.{NodeEnding}
 use Rattle.q_node.specs.declared.ending.NodeEnding.TheVariants as ending
 use Rattle.q_node.specs.declared.fault.StartFault.{StartFault}
@@ -22,13 +22,13 @@ told node greeting a b c (Err f) front is first last = (front, inl is, Appends-t
 
 pub written_ended : (node : ℕ) (greeting : List ℕ) (a b c : Option (List ℕ)) (events : Result ℕ Unrecorded) (e : NodeEnding)
     → Talks node greeting a talk.Ended b → Closes events b e c → IsWritten node greeting e a c
-written_ended node greeting a b c events e t (inl h) = subst (λ (x : NodeEnding). IsWritten node greeting x a c) (sym h.0) (told node greeting a b c events t.0 t.1 t.2 h.1)
-written_ended node greeting a b c events e t (inr h) = subst (λ (x : NodeEnding). IsWritten node greeting x a c) (sym h.0) (t.0 ++ h.1.0, Appends-trans a b c t.0 h.1.0 t.2 h.1.1)
+written_ended node greeting a b c events e t (inl h) = rw h.0 (told node greeting a b c events t.0 t.1 t.2 h.1)
+written_ended node greeting a b c events e t (inr h) = rw h.0 (t.0 ++ h.1.0, Appends-trans a b c t.0 h.1.0 t.2 h.1.1)
 
 pub written_unstarted : (node : ℕ) (greeting : List ℕ) (b c : Option (List ℕ)) (f : Unrecorded) (e : NodeEnding) → Closes (Err f) b e c
     → IsWritten node greeting e b c
-written_unstarted node greeting b c f e (inl h) = subst (λ (x : NodeEnding). IsWritten node greeting x b c) (sym h.0) ([], inr refl, h.1)
-written_unstarted node greeting b c f e (inr h) = subst (λ (x : NodeEnding). IsWritten node greeting x b c) (sym h.0) h.1
+written_unstarted node greeting b c f e (inl h) = rw h.0 ([], inr refl, h.1)
+written_unstarted node greeting b c f e (inr h) = rw h.0 h.1
 
 -- ---- the journal
 

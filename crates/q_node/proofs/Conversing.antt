@@ -1,6 +1,6 @@
 -- What is said at the console, one thing behind the other.
 use Rattle.std.proofs.Common.{ℕ, List, [], ◌∷◌, ◌++◌, Option, Result, Ok, Err, refl}
-use Rattle.std.specs.List.{AllByRecursion, flat_map}
+use Rattle.std.specs.List.{flat_map}
 use Rattle.std.specs.Io.KnownBytes.{Appends}
 use Rattle.std.proofs.KnownBytes.{Appends-trans}
 use Rattle.spelling.proofs.Codes.{all_push}
@@ -21,7 +21,8 @@ pub greeted : (node : ℕ) (greeting : List ℕ) (a b c : Option (List ℕ)) →
     → (front : List ℕ) × IsFront node greeting front × Appends a c front
 greeted node greeting a b c first h =
     let (all, said, written) = h in
-    ((greeting ++ 10 ∷ []) ++ flat_map said_line all, record { all = all; said = said; spelled = refl }, Appends-trans a b c (greeting ++ 10 ∷ []) (flat_map said_line all) first written)
+    let line = greeting ++ 10 ∷ [] in
+    (line ++ flat_map said_line all, record { all = all; said = said; spelled = refl }, Appends-trans a b c line (flat_map said_line all) first written)
 
 -- the same where a write may fail
 pub greets : {E : Type 0} (node : ℕ) (greeting : List ℕ) (a b c : Option (List ℕ)) (r : Result (Unit {0}) E) → Appends a b (greeting ++ 10 ∷ [])

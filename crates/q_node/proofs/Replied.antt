@@ -7,7 +7,7 @@ use Rattle.q_desk.specs.declared.journal.Entry.{Entry}
 use Rattle.q_desk.specs.declared.journal.Call.TheVariants as call
 use Rattle.q_desk.specs.declared.journal.Entry.TheVariants as entry
 use Rattle.q_book.specs.State.{BookState}
-use Rattle.q_book.specs.Books.{asked, registered, stored}
+use Rattle.q_book.specs.Books.{asked, stored}
 use Rattle.reasons.specs.declared.Reason.TheVariants.{OutOfMemory as memory}
 use Rattle.q_book.specs.Replays.{Follows}
 use Rattle.q_book.specs.declared.answer.Asked.{Asked}
@@ -29,7 +29,8 @@ module _ (same : (b : BookState) → Grows b b) (grow : (b c : BookState) (e : E
   registers_grow b c text notes (registration.Text f) h = grows_same b c h.0
   registers_grow b c text notes (registration.Notes f) h = grows_same b c h.0
   registers_grow b c text notes (registration.Check f) h = grows_same b c h.0
-  registers_grow b c text notes (registration.Book (Ok id)) h = grow b c (entry.Call (call.Register h.0)) (reply.Registered id, ap (mapped reply.Registered) h.6, tt)
+  registers_grow b c text notes (registration.Book (Ok id)) h =
+      grow b c (entry.Call (call.Register h.0)) (reply.Registered id, ap (mapped reply.Registered) h.6, tt)
   registers_grow b c text notes (registration.Book (Err e)) h = grows_same b c h.6.0
 
   store_grows : (b c : BookState) (value : List ℕ) (r : Result Begun Reason) → Steps memory (stored b value) b c r → Grows b c

@@ -42,15 +42,16 @@ settles_at x y letters new e = subst (λ (o : OwnState). Settles o letters new) 
 -- of what is not sent and the seat, which are as they were
 pub settles_from : {x new : OwnState} {letters : Option (List Letter)} {unsent : Unsent} {seat : AskerModel} → Settles x letters new → x.unsent ≡ unsent
     → x.asker ≡ seat → Settles (record x { unsent = unsent; asker = seat }) letters new
-settles_from {x} {new} {letters} settled same seats = subst (λ (o : OwnState). Settles o letters new) (λ i. record x { unsent = same i; asker = seats i }) settled
+settles_from {x} {new} {letters} settled same seats =
+    subst (λ (o : OwnState). Settles o letters new) (λ i. record x { unsent = same i; asker = seats i }) settled
 
 pub hears_at : (bytes : List ℕ) (x y : OwnState) (has_ended : Bool) (letters : Option (List Letter)) (new : OwnState) → x ≡ y
     → HearsAndSettles bytes x has_ended letters new → HearsAndSettles bytes y has_ended letters new
 hears_at bytes x y has_ended letters new e = subst (λ (o : OwnState). HearsAndSettles bytes o has_ended letters new) e
 
-pub replies_at : (r : Request) (said : Reply) (x y : OwnState) (letters : Option (List Letter)) (new : OwnState) → x ≡ y
+pub replies_at : {x y : OwnState} (r : Request) (said : Reply) (letters : Option (List Letter)) (new : OwnState) → x ≡ y
     → SettlesAfter (RepliedSo r said x) x letters new → SettlesAfter (RepliedSo r said y) y letters new
-replies_at r said x y letters new e = subst (λ (o : OwnState). SettlesAfter (RepliedSo r said o) o letters new) e
+replies_at r said letters new e = subst (λ (o : OwnState). SettlesAfter (RepliedSo r said o) o letters new) e
 
 pub leaves_at : (x y : OwnState) (told : Said) (letters : Option (List Letter)) (new : OwnState) → x ≡ y → LeavesAndSettles x told letters new
     → LeavesAndSettles y told letters new
@@ -61,7 +62,8 @@ leaves_at x y told letters new e = subst (λ (o : OwnState). LeavesAndSettles o 
 pub counts : (x : OwnState) (book : BookState) (waiting : List Message) (lost : LossCounts) (unsent more : Unsent) (asker : AskerModel) → book ≡ x.book
     → waiting ≡ x.waiting → lost ≡ x.lost → unsent ≡ both_unsent x.unsent more → asker ≡ x.asker
     → record x { book = book; waiting = waiting; lost = lost; unsent = unsent; asker = asker } ≡ record x { unsent = both_unsent x.unsent more }
-counts x book waiting lost unsent more asker books waits losses counted seat = λ i. record x { book = books i; waiting = waits i; lost = losses i; unsent = counted i; asker = seat i }
+counts x book waiting lost unsent more asker books waits losses counted seat =
+    λ i. record x { book = books i; waiting = waits i; lost = losses i; unsent = counted i; asker = seat i }
 
 pub counts_at : (x y new : OwnState) (more : Unsent) → x ≡ y → new ≡ record x { unsent = both_unsent x.unsent more }
     → new ≡ record y { unsent = both_unsent y.unsent more }

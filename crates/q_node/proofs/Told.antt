@@ -11,7 +11,8 @@ use Rattle.q_held.specs.LiveNodes.{Leaves}
 use Rattle.q_kept.specs.State.{RecorderState}
 use Rattle.q_kept.specs.declared.fault.Unrecorded.{Unrecorded}
 use Rattle.q_kept.specs.declared.letter.Letter.{Letter}
-use Rattle.q_doors.specs.Books.{HasEndedIn, IsBookOf}
+use Rattle.q_doors.specs.Books.{HasEndedIn}
+use Rattle.q_book.specs.Replays.{IsBookOf}
 use Rattle.q_node.specs.Console.{IsSaidToLeave}
 use Rattle.q_node.specs.declared.console.Said.{Said}
 use Rattle.q_node.specs.declared.console.Said.TheVariants as said
@@ -21,7 +22,8 @@ use Rattle.q_node.specs.Calls.{Finishes, HasEndedWritten, LeavesAndSettles, is_t
 -- ---- a leave
 
 why_by : (b : Bool)
-    → ((if b then reasons.FileFailed else reasons.OutOfMemory) ≡ reasons.FileFailed) ⊎ ((if b then reasons.FileFailed else reasons.OutOfMemory) ≡ reasons.OutOfMemory)
+    → ((if b then reasons.FileFailed else reasons.OutOfMemory) ≡ reasons.FileFailed)
+    ⊎ ((if b then reasons.FileFailed else reasons.OutOfMemory) ≡ reasons.OutOfMemory)
 why_by true = inl refl
 why_by false = inr refl
 

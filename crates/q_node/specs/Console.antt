@@ -12,7 +12,7 @@ use Rattle.q_told.specs.declared.refusal.RefusalPlace.TheVariants.{Untold}
 use Rattle.q_book.specs.State.{BookState}
 use Rattle.q_held.specs.LiveNodes.{Leaves}
 use Rattle.q_told.specs.Line.{line_of}
-use Rattle.q_doors.specs.Books.{IsBookOf}
+use Rattle.q_book.specs.Replays.{IsBookOf}
 use Rattle.q_node.specs.declared.status.Status.{Status}
 use Rattle.q_node.specs.declared.console.Command.{Command}
 use Rattle.q_node.specs.declared.console.Command.TheVariants as command

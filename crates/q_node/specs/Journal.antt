@@ -5,7 +5,7 @@ use Rattle.q_book.specs.State.{BookState}
 use Rattle.q_replay.specs.Journal.{journal_of}
 use Rattle.q_kept.specs.Recording.{AppendsPart}
 use Rattle.q_kept.specs.declared.fault.Unrecorded.{Unrecorded}
-use Rattle.q_doors.specs.Books.{IsBookOf}
+use Rattle.q_book.specs.Replays.{IsBookOf}
 
 -- the file holds the whole journal of a book of the node, which has so many events
 pub record HoldsJournal (node : ℕ) (first file : Option (List ℕ)) (events : ℕ) : Type 0 where

@@ -5,6 +5,7 @@ use Rattle.std.specs.List.{AllByRecursion, flat_map}
 use Rattle.std.specs.Io.KnownBytes.{Appends}
 use Rattle.q_told.specs.declared.refusal.RefusalPlace.TheVariants.{Untold}
 use Rattle.q_told.specs.Line.{line_of}
+use Rattle.q_told.specs.Printing.{journal_line}
 use Rattle.q_outside.specs.Counts.{one_more}
 use Rattle.q_kept.specs.Faults as recorder
 use Rattle.q_kept.specs.declared.fault.Unrecorded.{Unrecorded}
@@ -24,10 +25,6 @@ pub record IsFront (node : ℕ) (greeting text : List ℕ) : Type 0 where
   pub all : List Said
   pub said : AllByRecursion (IsSaid node) all
   pub spelled : text ≡ (greeting ++ 10 ∷ []) ++ flat_map said_line all
-
--- the last line: how many events the journal has
-abbrev pub journal_line : ℕ → List ℕ
-journal_line events = codes "journal " ++ (decimal events ++ codes " events\n")
 
 abbrev pub IsWritten : ℕ → List ℕ → NodeEnding → Option (List ℕ) → Option (List ℕ) → Type 0
 -- the node ran to its end

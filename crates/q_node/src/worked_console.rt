@@ -9,12 +9,13 @@ ghost use Rattle.q_kept.specs.declared.fault.Unrecorded.TheVariants as unrecorde
 ghost use Rattle.q_kept.specs.Sample.{leave};
 ghost use Rattle.q_told.specs.declared.refusal.RefusalPlace.TheVariants as place;
 ghost use Rattle.q_book.specs.State.{BookState};
-ghost use Rattle.q_doors.specs.Books.{IsBookOf};
+ghost use Rattle.q_book.specs.Replays.{IsBookOf};
 ghost use Rattle.q_node.specs.Console as console;
 ghost use Rattle.q_node.specs.Console.{IsSaidTo, IsSaidToLeave, command_of, said_line, status_line};
 ghost use Rattle.q_node.specs.Faults.{IsUnbegun, place_of, reason};
 ghost use Rattle.q_node.specs.Journal.{HoldsJournal, IsKept};
-ghost use Rattle.q_node.specs.Runs.{EndsRefused, IsJournal, IsWritten, journal_line, status_of};
+ghost use Rattle.q_node.specs.Runs.{EndsRefused, IsJournal, IsWritten, status_of};
+ghost use Rattle.q_told.specs.Printing.{journal_line};
 ghost use Rattle.q_node.specs.declared.console.Command.TheVariants as command;
 ghost use Rattle.q_node.specs.declared.console.Said.{Said as Told};
 ghost use Rattle.q_node.specs.declared.console.Said.TheVariants as said;

@@ -1,7 +1,7 @@
 -- The places of operations, by their nodes and their tags.
-use Rattle.std.proofs.Common.{◌≡◌, ℕ, ◌+◌, ◌<◌, ◌≤◌, Bool, true, false, cond, List, length, Option, Some, None, refl, sym, ap, ◌∙◌, subst, slice_get, arith, inl, inr}
-use Rattle.std.specs.Prelude.{◌&&◌, nat_eq}
-use Rattle.std.proofs.lemmas.Bool.{eqb-true, eq-eqb, cases_lt, both_ways}
+use Rattle.std.proofs.Common.{◌≡◌, ℕ, ◌+◌, ◌<◌, ◌≤◌, Bool, true, false, cond, List, length, Option, Some, None, refl, sym, ap, ◌∙◌, subst, arith, inl, inr}
+use Rattle.std.specs.Prelude.{◌&&◌, nat_eq, slice_get}
+use Rattle.std.proofs.lemmas.Bool.{and_parts, eqb-true, eq-eqb, cases_lt, both_ways}
 use Rattle.std.proofs.lemmas.Option.{slice_get_within}
 use Rattle.sc_world.specs.Records.{Among, AreDistinct}
 use Rattle.sc_world.specs.declared.op.Op.{Op}
@@ -15,10 +15,6 @@ Key = ℕ × ℕ
 abbrev pub same_key : Key → Key → Bool
 same_key a b = nat_eq a.0 b.0 && nat_eq a.1 b.1
 
-both_true : (a b : Bool) → (a && b) ≡ true → (a ≡ true) × (b ≡ true)
-both_true true b h = (refl, h)
-both_true false b h = absurd (both_ways false refl h)
-
 key_again : (k : Key) → same_key k k ≡ true
 key_again k = rw (eq-eqb k.0 k.0 refl, eq-eqb k.1 k.1 refl)
 
@@ -26,12 +22,12 @@ key_again k = rw (eq-eqb k.0 k.0 refl, eq-eqb k.1 k.1 refl)
 abbrev pub AreFiledBelow : List Op → ℕ → (Key → Option ℕ) → Type 0
 AreFiledBelow ops i find = (k : ℕ) (o : Op) → k < i → slice_get ops k ≡ Some o → find (o.node, o.tag) ≡ Some k
 
-module _ (ops : List Op) (i : ℕ) (op : Op) (old new : Key → Option ℕ) (distinct : AreDistinct ops) (at : slice_get ops i ≡ Some op) (below : AreFiledBelow ops i old)
-    (put : (q : Key) → new q ≡ cond (same_key (op.node, op.tag) q) (Some i) (old q)) where
+module _ (ops : List Op) (i : ℕ) (op : Op) (old new : Key → Option ℕ) (distinct : AreDistinct ops) (at : slice_get ops i ≡ Some op)
+    (below : AreFiledBelow ops i old) (put : (q : Key) → new q ≡ cond (same_key (op.node, op.tag) q) (Some i) (old q)) where
   filed_one : (k : ℕ) (o : Op) → k < i + 1 → slice_get ops k ≡ Some o → (b : Bool) → same_key (op.node, op.tag) (o.node, o.tag) ≡ b
       → new (o.node, o.tag) ≡ Some k
   filed_one k o less there true same =
-      let parts = both_true (nat_eq op.node o.node) (nat_eq op.tag o.tag) same in
+      let parts = and_parts (nat_eq op.node o.node) (nat_eq op.tag o.tag) same in
       let place : i ≡ k = distinct i k op o at there (eqb-true op.node o.node parts.0) (eqb-true op.tag o.tag parts.1) in
       put (o.node, o.tag) ∙ ap (λ b. cond b (Some i) (old (o.node, o.tag))) same ∙ ap Some place
   filed_one k o less there false other =
@@ -54,31 +50,26 @@ all_filed ops i find past below k o at =
 
 -- ---- what is found
 
--- where an operation of this node and tag stands
-at_place : (ops : List Op) (find : Key → Option ℕ) (node tag : ℕ) (o : Op) → AreFiled ops find → Among o ops → o.node ≡ node → o.tag ≡ tag
-    → (k : ℕ) × (slice_get ops k ≡ Some o) × (find (node, tag) ≡ Some k)
-at_place ops find node tag o filed among by tagged =
-    let there = place_of ops o among in
-    let found = filed there.0 o there.1 in
-    (there.0, there.1, subst (λ (n : ℕ). find (n, tag) ≡ Some there.0) by (subst (λ (t : ℕ). find (o.node, t) ≡ Some there.0) tagged found))
+module _ (ops : List Op) (find : Key → Option ℕ) (node tag : ℕ) (filed : AreFiled ops find) where
+  -- where an operation of this node and tag stands
+  at_place : (o : Op) → Among o ops → o.node ≡ node → o.tag ≡ tag → (k : ℕ) × (slice_get ops k ≡ Some o) × (find (node, tag) ≡ Some k)
+  at_place o among by tagged =
+      let there = place_of ops o among in
+      let found = filed there.0 o there.1 in
+      (there.0, there.1, subst (λ (n : ℕ). find (n, tag) ≡ Some there.0) by (subst (λ (t : ℕ). find (o.node, t) ≡ Some there.0) tagged found))
 
-pub not_filed : (ops : List Op) (find : Key → Option ℕ) (node tag : ℕ) → AreFiled ops find → None ≡ find (node, tag) → (o : Op) → Among o ops
-    → o.node ≡ node → o.tag ≡ tag → ⊥
-not_filed ops find node tag filed none o among by tagged =
-    let there = at_place ops find node tag o filed among by tagged in
-    no_some there.0 (none ∙ there.2)
+  pub not_filed : None ≡ find (node, tag) → (o : Op) → Among o ops → o.node ≡ node → o.tag ≡ tag → ⊥
+  not_filed none o among by tagged = let there = at_place o among by tagged in no_some there.0 (none ∙ there.2)
 
-pub past_all : (ops : List Op) (find : Key → Option ℕ) (node tag place : ℕ) → AreFiled ops find → Some place ≡ find (node, tag)
-    → None ≡ slice_get ops place → (o : Op) → Among o ops → o.node ≡ node → o.tag ≡ tag → ⊥
-past_all ops find node tag place filed is none o among by tagged =
-    let there = at_place ops find node tag o filed among by tagged in
-    let same : place ≡ there.0 = same_some place there.0 (is ∙ there.2) in
-    no_some o (none ∙ ap (slice_get ops) same ∙ there.1)
+  module _ {place : ℕ} (is : Some place ≡ find (node, tag)) where
+    stands_there : (o : Op) → Among o ops → o.node ≡ node → o.tag ≡ tag → slice_get ops place ≡ Some o
+    stands_there o among by tagged =
+        let there = at_place o among by tagged in
+        ap (slice_get ops) (same_some place there.0 (is ∙ there.2)) ∙ there.1
 
--- the operation at the place is each of this node and tag
-pub is_that : (ops : List Op) (find : Key → Option ℕ) (node tag place : ℕ) (op : Op) → AreFiled ops find → Some place ≡ find (node, tag)
-    → Some op ≡ slice_get ops place → (o : Op) → Among o ops → o.node ≡ node → o.tag ≡ tag → o ≡ op
-is_that ops find node tag place op filed is at o among by tagged =
-    let there = at_place ops find node tag o filed among by tagged in
-    let same : place ≡ there.0 = same_some place there.0 (is ∙ there.2) in
-    same_some o op (sym there.1 ∙ ap (slice_get ops) (sym same) ∙ sym at)
+    pub past_all : slice_get ops place ≡ None → (o : Op) → Among o ops → o.node ≡ node → o.tag ≡ tag → ⊥
+    past_all none o among by tagged = no_some o (sym none ∙ stands_there o among by tagged)
+
+    -- the operation at the place is each of this node and tag
+    pub is_that : {op : Op} → slice_get ops place ≡ Some op → (o : Op) → Among o ops → o.node ≡ node → o.tag ≡ tag → o ≡ op
+    is_that {op} at o among by tagged = same_some o op (sym (stands_there o among by tagged) ∙ at)

@@ -1,5 +1,6 @@
 -- What is found in the gathered cluster of the call of a line, and what is not.
-use Rattle.std.proofs.Common.{◌≡◌, ℕ, Bool, true, false, List, Some, Vec, Global, inl, inr, sym, ap, ◌∙◌, slice_get}
+use Rattle.std.proofs.Common.{◌≡◌, ◌<◌, ℕ, Bool, true, false, List, length, get_or, Some, Vec, Global, inl, inr, refl, sym, ap, ◌∙◌, slice_get}
+use Rattle.std.proofs.lemmas.Option.{slice_get_read}
 use Rattle.std.specs.Prelude.{MatchBool, IfOk, Result, Ok, Err}
 use Rattle.bq_check.specs.Certificate.{Certificate}
 use Rattle.bq_insn.specs.Slots.{spelling}
@@ -55,26 +56,36 @@ store_lost c node tag value none h = none h.0 h.1
 
 -- ---- queries
 
-pub query_is : (c : ClusterState) (node query program start : ℕ) (b : BookState) (q : Query) → Some b ≡ book_at c node → Some q ≡ slice_get b.desk.queries query
-    → q.program ≡ program → q.start ≡ start → IsQueryOf c node query program start q
-query_is c node query program start b q at there names begins = record { book = b; at = sym at; numbered = sym there; names = names; begins = begins }
+-- the query stands under this number in the book of the node
+pub record StandsAt (c : ClusterState) (node query : ℕ) (q : Query) : Type 0 where
+  pub book : BookState
+  pub at : Some book ≡ book_at c node
+  pub numbered : slice_get book.desk.queries query ≡ Some q
 
--- the query that stands there is the one that is looked for
-that_query : (c : ClusterState) (node query program start : ℕ) (b : BookState) (x q : Query) → Some b ≡ book_at c node
-    → Some x ≡ slice_get b.desk.queries query → IsQueryOf c node query program start q → x ≡ q
-that_query c node query program start b x q at there h =
-    let same : b ≡ h.book = same_some b h.book (at ∙ h.at) in
-    same_some x q (there ∙ ap (λ (y : BookState). slice_get y.desk.queries query) same ∙ h.numbered)
+-- a query that was read from the queries of the book
+pub stands_at : (c : ClusterState) (node query : ℕ) {b : BookState} {queries : List Query} {q : Query} → Some b ≡ book_at c node
+    → queries ≡ b.desk.queries → query < length queries → q ≡ get_or queries query q → StandsAt c node query q
+stands_at c node query {b} {queries} {q} at same inside read = record {
+  book = b;
+  at = at;
+  numbered = ap (λ (qs : List Query). slice_get qs query) (sym same) ∙ slice_get_read queries _ query q refl inside read;
+}
 
-pub other_program : (c : ClusterState) (node query program start : ℕ) (b : BookState) (x : Query) → Some b ≡ book_at c node
-    → Some x ≡ slice_get b.desk.queries query → (x.program ≡ program → ⊥) → (q : Query) → IsQueryOf c node query program start q → ⊥
-other_program c node query program start b x at there other q h =
-    other (ap (λ (y : Query). y.program) (that_query c node query program start b x q at there h) ∙ h.names)
+module _ {c : ClusterState} {node query : ℕ} {x : Query} (s : StandsAt c node query x) {program start : ℕ} where
+  pub query_is : x.program ≡ program → x.start ≡ start → IsQueryOf c node query program start x
+  query_is names begins = record { book = s.book; at = sym s.at; numbered = s.numbered; names = names; begins = begins }
 
-pub other_start : (c : ClusterState) (node query program start : ℕ) (b : BookState) (x : Query) → Some b ≡ book_at c node
-    → Some x ≡ slice_get b.desk.queries query → (x.start ≡ start → ⊥) → (q : Query) → IsQueryOf c node query program start q → ⊥
-other_start c node query program start b x at there other q h =
-    other (ap (λ (y : Query). y.start) (that_query c node query program start b x q at there h) ∙ h.begins)
+  -- the query that stands there is the one that is looked for
+  that_query : (q : Query) → IsQueryOf c node query program start q → x ≡ q
+  that_query q h =
+      let same : s.book ≡ h.book = same_some s.book h.book (s.at ∙ h.at) in
+      same_some x q (sym s.numbered ∙ ap (λ (y : BookState). slice_get y.desk.queries query) same ∙ h.numbered)
+
+  pub other_program : (x.program ≡ program → ⊥) → (q : Query) → IsQueryOf c node query program start q → ⊥
+  other_program other q h = other (ap (λ (y : Query). y.program) (that_query q h) ∙ h.names)
+
+  pub other_start : (x.start ≡ start → ⊥) → (q : Query) → IsQueryOf c node query program start q → ⊥
+  other_start other q h = other (ap (λ (y : Query). y.start) (that_query q h) ∙ h.begins)
 
 pub query_lost : (c : ClusterState) (node program start query : ℕ) → ((q : Query) → IsQueryOf c node query (program_id program) start q → ⊥)
     → Has c (line.Ask node program start) (outcome.Asked query) → ⊥

@@ -2,7 +2,6 @@
 use Rattle.std.proofs.Common.{◌≡◌, ◌≢◌, ℕ, List, [], ◌∷◌, ◌++◌, Bool, true, false, cond, sym, ap, Result, Ok, Err}
 use Rattle.forms.specs.Calls.{Tests, tested, and_then}
 use Rattle.forms.proofs.Calls.{no_refusal, same_fault}
-use Rattle.reasons.specs.declared.Reason.{Reason}
 use Rattle.reasons.specs.declared.Reason.TheVariants as reasons
 use Rattle.sc_node.specs.Nodes as node
 use Rattle.sc_node.specs.State.{NodeState}
@@ -27,6 +26,10 @@ not_tested : {A E : Type 0} (e : E) (ts : Tests E) (r : Result A E) → HaveNot 
 not_tested e [] r others rest h = rest h
 not_tested e (t ∷ ts) r others rest h = by_test e t.1 (tested ts r) t.0 others.0 (not_tested e ts r others.1 rest) h
 
+-- an accepted answer is none
+accepted : {A E : Type 0} (e : E) {x : A} → (let r : Result A E = Ok x in r) ≡ Err e → ⊥
+accepted e h = no_refusal e _ (sym h)
+
 -- nor do parts that do not
 not_then : {S A B E : Type 0} (e : E) (r : Result (A × S) E) (rest : A → S → Result B E) → (r ≡ Err e → ⊥) → ((a : A) (s : S) → rest a s ≡ Err e → ⊥)
     → and_then r rest ≡ Err e → ⊥
@@ -37,9 +40,10 @@ pub store_finds_a_node : (b : BookState) (value : List ℕ) → book.stored b va
 store_finds_a_node b value h =
     not_tested reasons.NoSuchNode (book.storing b value) _ ((λ e. absurd cc), ((λ e. absurd cc), ((λ e. absurd cc), ((λ e. absurd cc), tt))))
     (not_then reasons.NoSuchNode (desk.noted b.desk (entry.Call (call.Store value))) (book.stores_node b value)
-    (not_tested reasons.NoSuchNode (desk.room b.desk) _ ((λ e. absurd cc), tt) (λ e. no_refusal reasons.NoSuchNode _ (sym e)))
-    (λ u d. not_then reasons.NoSuchNode (node.store_begun b.node value) _ (not_begun b.node value) (λ a n e. no_refusal reasons.NoSuchNode _ (sym e)))) h
+    (not_tested reasons.NoSuchNode (desk.room b.desk) _ ((λ e. absurd cc), tt) (accepted reasons.NoSuchNode))
+    (λ u d. not_then reasons.NoSuchNode (node.store_begun b.node value) _ (not_begun b.node value) (λ a n. accepted reasons.NoSuchNode))) h
   where
     not_begun : (n : NodeState) (value : List ℕ) → node.store_begun n value ≡ Err reasons.NoSuchNode → ⊥
     not_begun n value =
-        not_tested reasons.NoSuchNode (node.opening n ++ node.fitting (node.stored_view n value)) _ ((λ e. absurd cc), ((λ e. absurd cc), ((λ e. absurd cc), ((λ e. absurd cc), ((λ e. absurd cc), tt))))) (λ e. no_refusal reasons.NoSuchNode _ (sym e))
+        not_tested reasons.NoSuchNode (node.opening n ++ node.fitting (node.stored_view n value)) _
+        ((λ e. absurd cc), ((λ e. absurd cc), ((λ e. absurd cc), ((λ e. absurd cc), ((λ e. absurd cc), tt))))) (accepted reasons.NoSuchNode)

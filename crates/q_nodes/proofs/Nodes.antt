@@ -1,10 +1,11 @@
 -- The books of nodes, one after the other.
-use Rattle.std.proofs.Common.{◌≡◌, ℕ, ◌+◌, ◌<◌, ◌≤◌, List, length, Some, refl, sym, ◌∙◌, subst, ap, arith, inl, inr, slice_get}
+use Rattle.std.proofs.Common.{◌≡◌, ℕ, ◌+◌, ◌<◌, ◌≤◌, List, length, Some, refl, sym, ◌∙◌, subst, arith, inl, inr, slice_get}
 use Rattle.std.proofs.lemmas.Bool.{cases_lt}
 use Rattle.std.proofs.lemmas.Option.{slice_get_within}
 use Rattle.q_book.specs.State.{BookState}
 use Rattle.q_history.proofs.Lists.{same_some}
-use Rattle.q_nodes.specs.Books.{AreBooksOf, IsBookOf}
+use Rattle.q_nodes.specs.Books.{AreBooksOf}
+use Rattle.q_book.specs.Replays.{IsBookOf}
 
 -- so many of the books are those of the first nodes
 abbrev pub AreBooksBelow : List BookState → ℕ → Type 0

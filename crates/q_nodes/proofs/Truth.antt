@@ -26,7 +26,8 @@ use Rattle.q_nodes.specs.declared.report.Report.TheVariants.{Asked}
 use Rattle.q_nodes.specs.declared.report.Tally.{Tally}
 use Rattle.q_nodes.specs.declared.ending.ClusterEnding.TheVariants as ending
 use Rattle.q_nodes.specs.declared.script.ClusterScript.{ClusterScript}
-use Rattle.q_nodes.proofs.Turns.{turn_at, turn_length}
+use Rattle.q_nodes.proofs.Turns.{turn_at}
+use Rattle.std.proofs.lemmas.Slice.Zip.{AllZip-long}
 
 -- ---- the cluster
 
@@ -45,7 +46,9 @@ answered_by (Answered view r) ran e = (view, ap (Answered view) (same_some r ran
 
 -- each recorded answer of every history is true
 abbrev pub EveryAnswer : Type 0
-EveryAnswer = (version : Version) (config : Config) (founders : List ℕ) (events : List ClusterEvent) (c : ClusterState) → Reaches (start version config founders) events c → headline.AnswersAreTrue c
+EveryAnswer =
+    (version : Version) (config : Config) (founders : List ℕ) (events : List ClusterEvent) (c : ClusterState)
+    → Reaches (start version config founders) events c → headline.AnswersAreTrue c
 
 true_answer : EveryAnswer → (c : ClusterState) (node query program start : ℕ) (q : Query) (ran : Ran) → IsHistory c
     → IsQueryOf c node query program start q → Some ran ≡ answer_in q.phase → IsTrueAnswer c node query program start ran
@@ -82,9 +85,10 @@ all_true law script tally before after written =
       cluster = told.cluster;
       is_cluster = told.is_cluster;
       reports = told.reports;
-      many = turn_length (IsTold script.nodes told.cluster) script.lines.items told.reports told.told;
+      many = AllZip-long (IsTold script.nodes told.cluster) script.lines.items told.reports told.told;
       written = subst (Appends before after) told.says appends;
       each = λ k node program start by query ran at_line at_report.
           told_answer law script.nodes told.cluster node program start by query ran told.is_cluster.history
-          (turn_at (IsTold script.nodes told.cluster) script.lines.items told.reports k (line.Ask node program start) (Asked by query (Some ran)) told.told at_line at_report);
+          (turn_at (IsTold script.nodes told.cluster) script.lines.items told.reports k (line.Ask node program start) (Asked by query (Some ran))
+          told.told at_line at_report);
     }

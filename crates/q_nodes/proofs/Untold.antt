@@ -22,7 +22,7 @@ use Rattle.q_nodes.specs.Runs.{IsFoundedBy, IsTelling, IsUngathered, TellsAll, T
 use Rattle.q_nodes.specs.declared.report.Report.TheVariants.{Asked}
 use Rattle.q_nodes.specs.declared.report.Tally.{Tally}
 use Rattle.q_nodes.specs.declared.script.ClusterScript.{ClusterScript}
-use Rattle.q_nodes.proofs.Finding.{other_program}
+use Rattle.q_nodes.proofs.Finding.{StandsAt, other_program}
 
 -- ---- an answer
 
@@ -34,8 +34,9 @@ pub another_program : (nodes : ℕ) (c : ClusterState) (b : BookState) (q : Quer
     → IsTold nodes c (line.Ask 2 3 7) (Asked 2 0 answer) → ⊥
 another_program nodes c b q answer at queries seven told =
     let (there, same, found) = told in
-    let first : Some q ≡ slice_get b.desk.queries 0 = sym (ap (λ (qs : List Query). slice_get qs 0) queries) in
-    other_program c 2 0 3 7 b q (sym at) first (not_three q seven) found.0 found.1
+    let first : slice_get b.desk.queries 0 ≡ Some q = ap (λ (qs : List Query). slice_get qs 0) queries in
+    let stands : StandsAt c 2 0 q = record { book = b; at = sym at; numbered = first } in
+    other_program stands (not_three q seven) found.0 found.1
 
 -- ---- books of two versions
 

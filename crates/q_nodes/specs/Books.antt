@@ -4,12 +4,11 @@ use Rattle.std.specs.Prelude.{◌≡◌, ◌≢◌, ℕ, ◌+◌, ◌-◌, List,
 use Rattle.bq_check.specs.Certificate.{Certificate}
 use Rattle.sc_node.specs.declared.answer.Begun.{Begun}
 use Rattle.q_session.specs.declared.ran.Ran.{Ran}
-use Rattle.q_desk.specs.Answers.{AnswersAreRight}
 use Rattle.q_desk.specs.Desks.{answer_of}
 use Rattle.reasons.specs.declared.Reason.{Reason}
 use Rattle.q_book.specs.State.{BookState}
 use Rattle.q_book.specs.Books.{asked, registered, stored}
-use Rattle.q_book.specs.Replays.{IsReplay}
+use Rattle.q_book.specs.Replays.{IsBookOf}
 use Rattle.reasons.specs.declared.Reason.TheVariants.{OutOfMemory as memory}
 use Rattle.q_book.specs.declared.answer.Asked.{Asked}
 use Rattle.q_nodes.specs.declared.lock.NodeCall.{NodeCall}
@@ -17,16 +16,6 @@ use Rattle.q_nodes.specs.declared.lock.NodeCall.TheVariants as call
 use Rattle.q_nodes.specs.declared.outcome.Outcome.{Outcome}
 use Rattle.q_nodes.specs.declared.outcome.Outcome.TheVariants as outcome
 use Rattle.q_nodes.specs.Faults.{of_fault}
-
--- a book of this node, which is the replay of its journal, and whose recorded answers are right
-pub record IsBookOf (node : ℕ) (b : BookState) : Type 0 where
-  pub id : b.id ≡ node
-  pub replay : IsReplay b
-  pub right : AnswersAreRight b.desk
-
--- a book of another node, which is the replay of its journal
-abbrev pub IsOther : ℕ → BookState → Type 0
-IsOther node b = IsReplay b × (b.id ≡ node → ⊥)
 
 -- the books of so many nodes, whose ids are 1 to their number, in their order
 pub record AreBooksOf (nodes : ℕ) (books : List BookState) : Type 0 where

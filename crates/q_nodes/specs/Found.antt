@@ -1,11 +1,12 @@
 -- What is looked for in the gathered cluster, and what is found of it.
 use Rattle.std.specs.Prelude.{◌≡◌, ℕ, List, Option, Some, None, slice_get}
+use Rattle.std.specs.List.{AllZip}
 use Rattle.sc_world.specs.declared.op.Op.{Op}
 use Rattle.sc_world.specs.Records.{Among}
 use Rattle.q_book.specs.State.{BookState}
 use Rattle.q_history.specs.Headline.{ClusterState}
 use Rattle.q_script.specs.declared.call_line.CallLine.{CallLine}
-use Rattle.q_nodes.specs.Lines.{Has, InTurn, IsTold, Lacks}
+use Rattle.q_nodes.specs.Lines.{Has, IsTold, Lacks}
 use Rattle.q_nodes.specs.Runs.{IsClusterOf, IsUngathered}
 use Rattle.q_nodes.specs.declared.outcome.Outcome.{Outcome}
 use Rattle.q_nodes.specs.declared.report.Report.{Report}
@@ -31,11 +32,11 @@ Finds nodes c l o None = Has c l o → ⊥
 
 -- what is found of the calls of lines
 abbrev pub FindsAll : ℕ → ClusterState → List CallLine → Option (List Report) → Type 0
-FindsAll nodes c ls (Some rs) = InTurn (IsTold nodes c) ls rs
+FindsAll nodes c ls (Some rs) = AllZip (IsTold nodes c) ls rs
 FindsAll nodes c ls None = Lacks nodes c ls
 
 -- what the lines tell of the script's cluster, into which these books gather; or why there is none
 abbrev pub IsSought : ClusterScript → List BookState → Sought → Type 0
 IsSought script books (Told reports) =
-    (c : ClusterState) × IsClusterOf script books c × InTurn (IsTold script.nodes c) script.lines.items reports.items
+    (c : ClusterState) × IsClusterOf script books c × AllZip (IsTold script.nodes c) script.lines.items reports.items
 IsSought script books (Ungathered f) = IsUngathered script books f

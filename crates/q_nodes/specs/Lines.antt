@@ -23,6 +23,7 @@ use Rattle.q_told.specs.Printing.{told_lines}
 use Rattle.q_told.specs.Programs.{IsProgram, IsRefusal}
 use Rattle.q_table.specs.Programs.{program_id}
 use Rattle.q_told.specs.declared.refusal.Refusal.{Refusal}
+use Rattle.q_told.specs.Line.{unanswered_line}
 use Rattle.q_nodes.specs.Books.{BeginsQuery, BeginsStore, Registers, own_book, recorded}
 use Rattle.q_nodes.specs.Faults.{no_such_node, text}
 use Rattle.q_nodes.specs.declared.fault.ClusterRunFault.{ClusterRunFault}
@@ -32,12 +33,6 @@ use Rattle.q_nodes.specs.declared.outcome.Outcome.TheVariants as outcome
 use Rattle.q_nodes.specs.declared.report.Report.{Report}
 use Rattle.q_nodes.specs.declared.report.Report.TheVariants.{Refused, Registered, Stored, Asked}
 use Rattle.q_nodes.specs.declared.report.Tally.{Tally}
-
--- P holds of the elements of two lists, in turn
-abbrev pub InTurn : {A B : Type 0} → (A → B → Type 0) → List A → List B → Type 0
-InTurn P [] [] = Unit {0}
-InTurn P (x ∷ xs) (y ∷ ys) = P x y × InTurn P xs ys
-InTurn P xs ys = ⊥
 
 -- the nodes are 1 to their number
 abbrev pub IsNode : ℕ → ℕ → Type 0
@@ -131,9 +126,6 @@ IsToldApart nodes books l (Asked node query answer) =
 
 abbrev pub refused_line : ClusterRunFault → List ℕ
 refused_line f = text f ++ 10 ∷ []
-
-abbrev pub unanswered_line : List ℕ
-unanswered_line = codes "unanswered\n"
 
 abbrev pub answer_line : ℕ → ℕ → Ran → List ℕ
 answer_line node query ran = told_lines (told.Finished (record { node = node; query = query; ran = ran }))

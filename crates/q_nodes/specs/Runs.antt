@@ -1,5 +1,6 @@
 -- What a run of a script writes, by how it ends.
 use Rattle.std.specs.Prelude.{◌≡◌, ◌⊎◌, ℕ, zero, suc, ◌+◌, ◌≤◌, ◌&&◌, Bool, not, if◌then◌else◌, List, [], ◌∷◌, ◌++◌, Option, Some, None, Result, Ok, Err, IsUtf8}
+use Rattle.std.specs.List.{AllZip}
 use Rattle.std.specs.Io.KnownBytes.{Appends}
 use Rattle.reasons.specs.declared.Reason.TheVariants.{OutOfMemory}
 use Rattle.q_book.specs.State.{BookState}
@@ -8,12 +9,14 @@ use Rattle.q_gather.specs.Gather.{AreRefused, GathersBooks}
 use Rattle.q_gather.specs.declared.fault.GatherFault.{GatherFault}
 use Rattle.q_history.specs.Calls.{IsHistory}
 use Rattle.q_history.specs.Headline.{ClusterState}
+use Rattle.q_told.specs.Line.{TakesPart}
 use Rattle.q_told.specs.Refusal.{refusal_of}
 use Rattle.q_told.specs.declared.refusal.Refusal.TheVariants as refusal
 use Rattle.q_outside.specs.Counts.{one_more}
-use Rattle.q_nodes.specs.Books.{AreBooksOf, IsOther}
+use Rattle.q_nodes.specs.Books.{AreBooksOf}
+use Rattle.q_book.specs.Replays.{IsOther}
 use Rattle.q_nodes.specs.Faults.{bad_founders, of_gather, reason}
-use Rattle.q_nodes.specs.Lines.{InTurn, IsNode, IsTold, IsToldApart, Lacks, is_clean, refused_line, tally_of, texts_of}
+use Rattle.q_nodes.specs.Lines.{IsNode, IsTold, IsToldApart, Lacks, is_clean, refused_line, tally_of, texts_of}
 use Rattle.q_nodes.specs.Scripts.{IsClusterScript, IsRefused}
 use Rattle.q_nodes.specs.declared.fault.ClusterRunFault.{ClusterRunFault}
 use Rattle.q_nodes.specs.declared.fault.ClusterRunFault.TheVariants.{BadCount, TransportFailed, Script}
@@ -48,7 +51,7 @@ pub record TellsAll (script : ClusterScript) (books : List BookState) (tally : T
   pub cluster : ClusterState
   pub is_cluster : IsClusterOf script books cluster
   pub reports : List Report
-  pub told : InTurn (IsTold script.nodes cluster) script.lines.items reports
+  pub told : AllZip (IsTold script.nodes cluster) script.lines.items reports
   pub says : text ≡ texts_of reports
   pub counts : tally ≡ tally_of reports
 
@@ -64,7 +67,7 @@ IsUngathered script books f =
 pub record TellsApart (script : ClusterScript) (books : List BookState) (f : ClusterRunFault) (text : List ℕ) : Type 0 where
   pub why : IsUngathered script books f
   pub reports : List Report
-  pub told : InTurn (IsToldApart script.nodes books) script.lines.items reports
+  pub told : AllZip (IsToldApart script.nodes books) script.lines.items reports
   pub says : text ≡ texts_of reports
 
 -- What is to be printed: what the lines tell of the cluster of these books; or of nodes whose books make none, where
@@ -101,15 +104,11 @@ failures_after e before = before
 abbrev pub Prints : (List ℕ → Type 0) → Option (List ℕ) → Option (List ℕ) → Type 0
 Prints P before after = (text : List ℕ) × P text × Appends before after text
 
--- the writer failed behind some bytes that it took, and lost none that it held
-abbrev pub IsUnwritten : Option (List ℕ) → Option (List ℕ) → Type 0
-IsUnwritten before after = (part : List ℕ) × Appends before after part
-
 -- this refusal is all that is written; or the writer failed
 abbrev pub IsRefusedAlone : ClusterRunFault → Writing
 IsRefusedAlone f (ending.Gathered tally) before after = ⊥
 IsRefusedAlone f (ending.Refused g) before after = (g ≡ f) × Appends before after (refused_line f)
-IsRefusedAlone f ending.Unwritten before after = IsUnwritten before after
+IsRefusedAlone f ending.Unwritten before after = TakesPart before after
 
 -- the lock of a node kept the book of another: none does, but no contract of a lock says so
 pub record IsAstray (nodes : ℕ) : Type 0 where
@@ -146,7 +145,7 @@ abbrev pub IsWritten : ClusterScript → Writing
 IsWritten script (ending.Gathered tally) before after = Prints (TellsGathered script tally) before after
 IsWritten script (ending.Refused f) before after =
     (IsUntold script.nodes f × Appends before after (refused_line f)) ⊎ Prints (TellsRefusal script f) before after
-IsWritten script ending.Unwritten before after = IsUnwritten before after
+IsWritten script ending.Unwritten before after = TakesPart before after
 
 -- the same of the script that a text spells, or that there is no socket for a node; or the text is refused
 abbrev pub IsWrittenOf : List ℕ → Writing

@@ -1,8 +1,9 @@
 //! What lines tell of nodes whose books make no cluster of the script.
 
 ghost use Rattle.std.specs.Prelude.{◌≡◌, length, IfOk, Some};
+ghost use Rattle.std.specs.List.{AllZip};
 ghost use Rattle.q_nodes.specs.Books.{AreBooksOf, own_book, recorded};
-ghost use Rattle.q_nodes.specs.Lines.{ComesTo, InTurn, IsNode, IsToldApart};
+ghost use Rattle.q_nodes.specs.Lines.{ComesTo, IsNode, IsToldApart};
 
 use crate::outcome::Outcome;
 use crate::report::Report;
@@ -60,8 +61,8 @@ pub(crate) fn tell_apart(
     outcomes: &[Outcome],
 ) -> Result<Vec<Report>, AllocError>
     requires books { AreBooksOf nodes books.now }
-    requires came { InTurn (ComesTo nodes) lines.now outcomes.now }
-    ensures { IfOk result (λ reports. InTurn (IsToldApart nodes books.now) lines.now reports.items) }
+    requires came { AllZip (ComesTo nodes) lines.now outcomes.now }
+    ensures { IfOk result (λ reports. AllZip (IsToldApart nodes books.now) lines.now reports.items) }
 {
     let mut reports = Vec::new(alloc);
     for (place, line) in lines.iter().enumerate() {

@@ -1,8 +1,9 @@
 //! The calls of a script's lines, made while the nodes run in threads.
 
 ghost use Rattle.std.specs.Prelude.{◌≡◌, ◌≤◌, All, IfErr, IfOk, length};
+ghost use Rattle.std.specs.List.{AllZip};
 ghost use Rattle.q_board.specs.BoardId.{board_id};
-ghost use Rattle.q_nodes.specs.Lines.{ComesTo, InTurn};
+ghost use Rattle.q_nodes.specs.Lines.{ComesTo};
 ghost use Rattle.q_nodes.specs.Runs.{ids_to};
 ghost use Rattle.q_nodes.specs.Halts.{IsHalt};
 
@@ -152,7 +153,7 @@ fn time_lines<R: Wait + Clock, T: Transport + Drop>(
     lines: &[CallLine],
     flight: &mut Flight<'_, T>,
 ) -> Result<Made, Halt>
-    ensures came { IfOk result (λ made. InTurn (ComesTo nodes) lines.now made.outcomes.items) }
+    ensures came { IfOk result (λ made. AllZip (ComesTo nodes) lines.now made.outcomes.items) }
     ensures halt { IfErr result (IsHalt nodes) }
 {
     let start = Instant::now(rt).ok();
@@ -180,14 +181,14 @@ fn run_threads<R: Wait + Threads + Clock + Sync, T: Transport + Send + Drop>(
     wires: Vec<Wire<T>>,
     end: Option<T>,
 ) -> Result<Made, Halt>
-    ensures came { IfOk result (λ made. InTurn (ComesTo nodes) lines.now made.outcomes.items) }
+    ensures came { IfOk result (λ made. AllZip (ComesTo nodes) lines.now made.outcomes.items) }
     ensures halt { IfErr result (IsHalt nodes) }
 {
     thread::scope(
         thread::scope_env(),
         rt,
         move |scope| -> Result<Made, Halt>
-            ensures came { IfOk result (λ made. InTurn (ComesTo nodes) lines.entry.now made.outcomes.items) }
+            ensures came { IfOk result (λ made. AllZip (ComesTo nodes) lines.entry.now made.outcomes.items) }
             ensures halt { IfErr result (IsHalt nodes) }
         {
             let mut flight = Flight::new(alloc, in_flight, bell, end);
@@ -224,7 +225,7 @@ fn run_with_runners<R: Wait + Threads + Clock + Sync, T: Transport + Send + Drop
     mut transports: Vec<T>,
 ) -> Result<Made, Halt>
     requires { All (λ s. s.table ≡ board_id board.now) runners.items }
-    ensures came { IfOk result (λ made. InTurn (ComesTo script.now.nodes) script.now.lines.items made.outcomes.items) }
+    ensures came { IfOk result (λ made. AllZip (ComesTo script.now.nodes) script.now.lines.items made.outcomes.items) }
     ensures halt { IfErr result (IsHalt script.now.nodes) }
 {
     let over = AtomicBool::new(false);
@@ -234,7 +235,7 @@ fn run_with_runners<R: Wait + Threads + Clock + Sync, T: Transport + Send + Drop
     let wires = wires(alloc, transports)?;
     let lines = script.lines.as_slice();
     let work = move || -> Result<Made, Halt>
-        ensures came { IfOk result (λ made. InTurn (ComesTo nodes) lines.entry.now made.outcomes.items) }
+        ensures came { IfOk result (λ made. AllZip (ComesTo nodes) lines.entry.now made.outcomes.items) }
         ensures halt { IfErr result (IsHalt nodes) }
     {
         run_threads(
@@ -288,7 +289,7 @@ fn call_founders<R: Wait + Threads + Clock + Sync, T: Transport + Send + Drop>(
     requires many { length askers.items ≡ script.now.nodes }
     requires running { All (λ s. s.table ≡ board_id board.now) runners.items }
     requires few { script.now.nodes ≤ 16 }
-    ensures came { IfOk result (λ calls. InTurn (ComesTo script.now.nodes) script.now.lines.items calls.outcomes.items) }
+    ensures came { IfOk result (λ calls. AllZip (ComesTo script.now.nodes) script.now.lines.items calls.outcomes.items) }
     ensures books { IfOk result (λ calls. length calls.books.items ≡ script.now.nodes) }
     ensures halt { IfErr result (IsHalt script.now.nodes) }
 {
@@ -333,7 +334,7 @@ pub fn make_calls<R: Wait + Threads + Clock + Sync, T: Transport + Send + Drop>(
     in_flight: usize,
     transports: Vec<T>,
 ) -> Result<Calls, Halt>
-    ensures came { IfOk result (λ calls. InTurn (ComesTo script.now.nodes) script.now.lines.items calls.outcomes.items) }
+    ensures came { IfOk result (λ calls. AllZip (ComesTo script.now.nodes) script.now.lines.items calls.outcomes.items) }
     ensures books { IfOk result (λ calls. length calls.books.items ≡ script.now.nodes) }
     ensures few { IfOk result (λ _. script.now.nodes ≤ 16) }
     ensures halt { IfErr result (IsHalt script.now.nodes) }

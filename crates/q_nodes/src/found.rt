@@ -1,6 +1,7 @@
 //! What the calls of lines came to, looked up in the gathered cluster.
 
 ghost use Rattle.std.specs.Prelude.{◌≡◌, ◌&&◌, ℕ, nat_eq, is_some, option_map, if◌then◌else◌, Some, None, IfOk, MatchBool, MatchOption};
+ghost use Rattle.std.specs.List.{AllZip};
 ghost use Rattle.indexmap.specs.IndexMap.{get};
 ghost use Rattle.bq_insn.specs.Slots.{spelling};
 ghost use Rattle.sc_operations.specs.declared.session.OperationKind.TheVariants as kind;
@@ -10,7 +11,7 @@ ghost use Rattle.sc_world.specs.declared.op.Op.{Op as Record};
 ghost use Rattle.q_session.specs.declared.query.Query.{Query as QueryValue};
 ghost use Rattle.q_desk.specs.Desks.{answer_in};
 ghost use Rattle.q_nodes.specs.Found.{AreFiled, Finds, FindsAll};
-ghost use Rattle.q_nodes.specs.Lines.{ComesTo, InTurn, IsProgramOf, IsQueryOf, IsStoreOf};
+ghost use Rattle.q_nodes.specs.Lines.{ComesTo, IsProgramOf, IsQueryOf, IsStoreOf};
 ghost use Rattle.q_nodes.specs.declared.outcome.Outcome.TheVariants as outcome;
 ghost use Rattle.q_nodes.specs.declared.report.Report.TheVariants as report;
 
@@ -222,7 +223,7 @@ pub(crate) fn find_all(
     lines: &[CallLine],
     outcomes: &[Outcome],
 ) -> Result<Option<Vec<Report>>, AllocError>
-    requires { InTurn (ComesTo nodes) lines.now outcomes.now }
+    requires { AllZip (ComesTo nodes) lines.now outcomes.now }
     ensures { IfOk result (λ found. FindsAll nodes cluster.now lines.now (option_map (λ reports. reports.items) found)) }
 {
     let places = OpsByTag::of(alloc, cluster.ops())?;

@@ -75,7 +75,7 @@ pub use ending::{ClusterEnding, print_refusal, print_telling, print_untold};
 pub use fault::ClusterRunFault;
 pub use halt::Halt;
 pub use outcome::Outcome;
-pub use own::{are_of_nodes, is_of};
+pub use own::are_of_nodes;
 pub use report::{Report, Tally, texts};
 pub use run::run_cluster;
 pub use script::{ClusterScript, MOST_NODES, is_node};

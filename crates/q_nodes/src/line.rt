@@ -1,8 +1,9 @@
 //! The calls that the lines of a script name, one after the other.
 
 ghost use Rattle.std.specs.Prelude.{IfErr, IfOk};
+ghost use Rattle.std.specs.List.{AllZip};
 ghost use Rattle.q_nodes.specs.Books.{CallIs};
-ghost use Rattle.q_nodes.specs.Lines.{CallsAt, ComesTo, ComesToProgram, InTurn};
+ghost use Rattle.q_nodes.specs.Lines.{CallsAt, ComesTo, ComesToProgram};
 ghost use Rattle.q_nodes.specs.Halts.{IsHalt};
 
 use crate::fault::ClusterRunFault;
@@ -102,7 +103,7 @@ pub(crate) fn run_lines<R: Wait + Clock, T: Transport + Drop>(
     lines: &[CallLine],
     flight: &mut Flight<'_, T>,
 ) -> Result<Vec<Outcome>, Halt>
-    ensures came { IfOk result (λ outcomes. InTurn (ComesTo nodes) lines.now outcomes.items) }
+    ensures came { IfOk result (λ outcomes. AllZip (ComesTo nodes) lines.now outcomes.items) }
     ensures halt { IfErr result (IsHalt nodes) }
 {
     let mut outcomes = Vec::new(alloc);

@@ -6,11 +6,12 @@
 
 ghost use Rattle.std.specs.Prelude.{MatchOption};
 ghost use Rattle.q_book.specs.State.{BookState};
-ghost use Rattle.q_nodes.specs.Books.{CallIs, IsOther};
+ghost use Rattle.q_nodes.specs.Books.{CallIs};
+ghost use Rattle.q_book.specs.Replays.{IsOther};
 
 use crate::fault::ClusterRunFault;
 use crate::outcome::Outcome;
-use crate::own::is_of;
+use q_book::is_of;
 use q_held::LiveNode;
 use q_table::{Program, ProgramId};
 use std::sync::Mutex;

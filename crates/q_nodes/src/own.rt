@@ -1,19 +1,10 @@
-//! Whose book it is.
+//! Whose books they are.
 
 ghost use Rattle.std.specs.Prelude.{length, MatchBool};
-ghost use Rattle.q_nodes.specs.Books.{AreBooksOf, IsBookOf, IsOther};
+ghost use Rattle.q_nodes.specs.Books.{AreBooksOf};
 ghost use Rattle.q_nodes.specs.Runs.{IsAstray};
 
-use q_book::Book;
-
-/// Whether this is the book of the node. Every book is the replay of its journal, and its recorded answers are right.
-pub fn is_of(book: &Book, node: u64) -> bool
-    ensures { MatchBool result (IsBookOf node book.now) (IsOther node book.now) }
-{
-    let _journal = book.journal();
-    let _desk = book.desk();
-    book.id() == node
-}
+use q_book::{Book, is_of};
 
 /// Whether these are the books of as many nodes, in the order of their ids, which are 1 to their number.
 pub fn are_of_nodes(books: &[Book]) -> bool

@@ -1,7 +1,8 @@
 //! A whole cluster, run by threads.
 
 ghost use Rattle.std.specs.Prelude.{◌≡◌, ◌≤◌, IfErr, IfOk, length, string_bytes};
-ghost use Rattle.q_nodes.specs.Lines.{ComesTo, InTurn};
+ghost use Rattle.std.specs.List.{AllZip};
+ghost use Rattle.q_nodes.specs.Lines.{ComesTo};
 ghost use Rattle.q_nodes.specs.Runs.{IsTellingOfNodes, IsWritten, failures_after};
 ghost use Rattle.q_nodes.specs.Halts.{IsHalt};
 
@@ -62,7 +63,7 @@ fn tell_calls<N: Write>(
     calls: &Calls,
     notes: &mut N,
 ) -> Result<Telling, Halt>
-    requires came { InTurn (ComesTo script.now.nodes) script.now.lines.items calls.now.outcomes.items }
+    requires came { AllZip (ComesTo script.now.nodes) script.now.lines.items calls.now.outcomes.items }
     requires books { length calls.now.books.items ≡ script.now.nodes }
     requires few { script.now.nodes ≤ 16 }
     ensures told { IfOk result (λ t. IsTellingOfNodes script.now t.tally t.refusal (string_bytes t.text)) }

@@ -1,11 +1,12 @@
 //! What the lines of a run tell: looked up in the cluster into which the books of the nodes gather.
 
 ghost use Rattle.std.specs.Prelude.{◌≡◌, List, IfOk, MatchBool, string_bytes};
+ghost use Rattle.std.specs.List.{AllZip};
 ghost use Rattle.q_book.specs.State.{BookState};
 ghost use Rattle.q_gather.specs.Gather.{GathersBooks};
 ghost use Rattle.q_nodes.specs.Books.{AreBooksOf};
 ghost use Rattle.q_nodes.specs.Found.{IsSought};
-ghost use Rattle.q_nodes.specs.Lines.{ComesTo, InTurn, tally_of, texts_of};
+ghost use Rattle.q_nodes.specs.Lines.{ComesTo, tally_of, texts_of};
 ghost use Rattle.q_nodes.specs.Runs.{IsFoundedBy, IsTelling, ids_to};
 
 use crate::apart::tell_apart;
@@ -74,7 +75,7 @@ fn look_up(
     outcomes: &[Outcome],
 ) -> Result<Sought, AllocError>
     requires ids { ids.now ≡ ids_to script.now.nodes }
-    requires came { InTurn (ComesTo script.now.nodes) script.now.lines.items outcomes.now }
+    requires came { AllZip (ComesTo script.now.nodes) script.now.lines.items outcomes.now }
     ensures { (books : List BookState) → GathersBooks books cluster.now → IfOk result (IsSought script.now books) }
 {
     if !is_founded_by(cluster, script, ids) {
@@ -101,7 +102,7 @@ fn seek(
     outcomes: &[Outcome],
 ) -> Result<Sought, AllocError>
     requires ids { ids.now ≡ ids_to script.now.nodes }
-    requires came { InTurn (ComesTo script.now.nodes) script.now.lines.items outcomes.now }
+    requires came { AllZip (ComesTo script.now.nodes) script.now.lines.items outcomes.now }
     ensures { IfOk result (IsSought script.now books.now) }
 {
     match gather_books(alloc, books) {
@@ -141,7 +142,7 @@ pub fn tell(
 ) -> Result<Telling, AllocError>
     requires ids { ids.now ≡ ids_to script.now.nodes }
     requires books { AreBooksOf script.now.nodes books.now }
-    requires came { InTurn (ComesTo script.now.nodes) script.now.lines.items outcomes.now }
+    requires came { AllZip (ComesTo script.now.nodes) script.now.lines.items outcomes.now }
     ensures { IfOk result (λ t. IsTelling script.now books.now t.tally t.refusal (string_bytes t.text)) }
 {
     match seek(alloc, script, ids, books, outcomes)? {

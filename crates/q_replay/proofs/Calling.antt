@@ -1,5 +1,6 @@
 -- What taking an event comes to.
-use Rattle.std.proofs.Common.{◌≡◌, ◌≢◌, ℕ, ◌+◌, ◌≤◌, List, [], ◌∷◌, ◌++◌, length, length-append, add-one, Option, Some, None, refl, sym, ap, ◌∙◌, subst, flat_map, Result, Ok, Err, IsErrAnd, IfErr, arith}
+use Rattle.std.proofs.Common.{◌≡◌, ◌≢◌, ℕ, ◌+◌, ◌≤◌, List, [], ◌∷◌, ◌++◌, length, length-append, add-one, Some, refl, sym, ap, ◌∙◌, subst}
+use Rattle.std.proofs.Common.{flat_map, Result, Ok, Err, IsErrAnd, IfErr, arith}
 use Rattle.std.proofs.lemmas.Bool.{not_from_false}
 use Rattle.forms.proofs.Calls.{tested_pass}
 use Rattle.spelling.specs.Codes.{BeginsNone}
@@ -75,10 +76,11 @@ pub own_post : (b c : BookState) (k : ℕ) (j : Job) (r : Ran) → running_job b
     → (d : BookState) × (book.posted b j r ≡ Ok (tt, d))
 own_post b c k j r runs f =
     let p = (is_posted b f.0 r c f.3).1 in
+    let there = (posted-accepted b f.0 r c f.3).there in
     let o = own_posts b.desk b.id k j r (job_runs b.desk b.id k j runs) p.room in
     let d : BookState = record b { desk = o.0 } in (
       d,
-      tested_pass (book.present b) (book.by_desk (book.with_desk b) (desk.posted b.desk b.id j r)) (not_from_false b.node.gone (posted-accepted b f.0 r c f.3).there, tt)
+      tested_pass (book.present b) (book.by_desk (book.with_desk b) (desk.posted b.desk b.id j r)) (not_from_false b.node.gone there, tt)
           ∙ ap (book.by_desk (book.with_desk b)) o.1,
     )
 
@@ -134,34 +136,32 @@ unrun one b k r e (Err OutOfMemory) is legal none = tt
 
 -- ---- the next event of the bytes
 
--- the events are read in the version of the book
+-- so many events lead to a book, and the next is read in its version
+module _ {bytes : List ℕ} {n : ℕ} {b : BookState} {version : Version} {rest : List ℕ} (l : Leads bytes n b rest) (own : version ≡ b.version) where
+  pub next_leads : {c : BookState} {w : RawEntry} {more : List ℕ} → IsWritten version w → rest ≡ event_bytes version w ++ more → Takes b w c
+      → Leads bytes (n + 1) c more
+  next_leads {c} {w} {more} legal parts t =
+      subst (λ (k : ℕ). Leads bytes k c more) (sym (add-one n))
+      (leads_next bytes n b c w rest more l (subst (λ (x : Version). IsWritten x w) own legal) (parts ∙ ap (λ (x : Version). event_bytes x w ++ more) own) t)
 
-pub next_leads : (bytes : List ℕ) (n : ℕ) (b c : BookState) (version : Version) (w : RawEntry) (rest more : List ℕ) → Leads bytes n b rest → version ≡ b.version
-    → IsWritten version w → rest ≡ event_bytes version w ++ more → Takes b w c → Leads bytes (n + 1) c more
-next_leads bytes n b c version w rest more l own legal parts t =
-    subst (λ (k : ℕ). Leads bytes k c more) (sym (add-one n))
-    (leads_next bytes n b c w rest more l (subst (λ (x : Version). IsWritten x w) own legal) (parts ∙ ap (λ (x : Version). event_bytes x w ++ more) own) t)
+  pub next_form : rest ≢ [] → BeginsNone (event_bytes version) (IsWritten version) rest → IsFault bytes (fault.Form (n + 1))
+  next_form more none =
+      subst (λ (k : ℕ). IsFault bytes (fault.Form k)) (sym (add-one n))
+      (record { book = b; rest = rest; leads = l; more = more; none = subst (λ (x : Version). BeginsNone (event_bytes x) (IsWritten x) rest) own none })
 
-pub next_form : (bytes : List ℕ) (n : ℕ) (b : BookState) (version : Version) (rest : List ℕ) → Leads bytes n b rest → version ≡ b.version → rest ≢ []
-    → BeginsNone (event_bytes version) (IsWritten version) rest → IsFault bytes (fault.Form (n + 1))
-next_form bytes n b version rest l own more none =
-    subst (λ (k : ℕ). IsFault bytes (fault.Form k)) (sym (add-one n))
-    (record { book = b; rest = rest; leads = l; more = more; none = subst (λ (x : Version). BeginsNone (event_bytes x) (IsWritten x) rest) own none })
-
-pub next_mismatch : (bytes : List ℕ) (n : ℕ) (b : BookState) (version : Version) (w : RawEntry) (rest more : List ℕ) → Leads bytes n b rest
-    → version ≡ b.version → IsWritten version w → rest ≡ event_bytes version w ++ more → ((c : BookState) → Takes b w c → ⊥)
-    → IsFault bytes (fault.Mismatch (n + 1))
-next_mismatch bytes n b version w rest more l own legal parts refused =
-    subst (λ (k : ℕ). IsFault bytes (fault.Mismatch k)) (sym (add-one n)) (record {
-      book = b;
-      rest = rest;
-      leads = l;
-      event = w;
-      legal = subst (λ (x : Version). IsWritten x w) own legal;
-      more = more;
-      parts = parts ∙ ap (λ (x : Version). event_bytes x w ++ more) own;
-      refused = refused;
-    })
+  pub next_mismatch : (w : RawEntry) (more : List ℕ) → IsWritten version w → rest ≡ event_bytes version w ++ more
+      → ((c : BookState) → Takes b w c → ⊥) → IsFault bytes (fault.Mismatch (n + 1))
+  next_mismatch w more legal parts refused =
+      subst (λ (k : ℕ). IsFault bytes (fault.Mismatch k)) (sym (add-one n)) (record {
+        book = b;
+        rest = rest;
+        leads = l;
+        event = w;
+        legal = subst (λ (x : Version). IsWritten x w) own legal;
+        more = more;
+        parts = parts ∙ ap (λ (x : Version). event_bytes x w ++ more) own;
+        refused = refused;
+      })
 
 -- each event takes a byte and more
 events_long : (version : Version) (ws : List RawEntry) → length ws ≤ length (flat_map (event_bytes version) ws)
@@ -172,15 +172,11 @@ events_long version (w ∷ ws) =
     let some : length (event_bytes version w ++ others) ≡ length (event_bytes version w) + length others = length-append (event_bytes version w) others in
     omega arith
 
-pub leads_room : (bytes : List ℕ) (n : ℕ) (b : BookState) (rest : List ℕ) → Leads bytes n b rest → n + length rest ≤ length bytes
-leads_room bytes n b rest l =
+pub leads_room : {bytes : List ℕ} {n : ℕ} {b : BookState} {rest : List ℕ} → Leads bytes n b rest → n + length rest ≤ length bytes
+leads_room {bytes} {n} {b} {rest} l =
     let spelled : List ℕ = flat_map (event_bytes l.head.version) l.events in
-    let events = events_long l.head.version l.events in
-    let many = l.many in
-    let all : length bytes ≡ length (head_bytes l.head ++ (spelled ++ rest)) = ap length l.parts in
-    let first : length (head_bytes l.head ++ (spelled ++ rest)) ≡ length (head_bytes l.head) + length (spelled ++ rest) = length-append (head_bytes l.head) (spelled ++ rest) in
-    let second : length (spelled ++ rest) ≡ length spelled + length rest = length-append spelled rest in
-    omega arith
+    let first = length-append (head_bytes l.head) (spelled ++ rest) in
+    omega (arith, events_long l.head.version l.events, l.many, ap length l.parts, first, length-append spelled rest)
 
 -- a fault that is passed on
 pub passed_on : {A B : Type 0} (P : B → Type 0) (f : B) (r : Result A B) → IsErrAnd r (λ x. x ≡ f) → P f → IfErr r P

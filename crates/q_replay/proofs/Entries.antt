@@ -51,7 +51,7 @@ right_one one j ran other a b =
 same_certificate : OneLongest → (version : Version) (c d : Certificate) → IsCertified c × (c.lengths ≡ record_lengths version)
     → IsCertified d × (d.lengths ≡ record_lengths version) → c.text ≡ d.text → c.notes ≡ d.notes → c ≡ d
 same_certificate one version c d a b text notes =
-    let longest : c.longest ≡ d.longest = one c.text c.longest d.longest a.0.longest (subst (λ (t : List Insn). IsLongest t d.longest) (sym text) b.0.longest) in
+    let longest = one c.text c.longest d.longest a.0.longest (subst (λ (t : List Insn). IsLongest t d.longest) (sym text) b.0.longest) in
     let lengths : c.lengths ≡ d.lengths = a.1 ∙ sym b.1 in
     λ i. record { text = text i; notes = notes i; lengths = lengths i; longest = longest i }
 

@@ -15,9 +15,24 @@ use Rattle.sc_msg.proofs.Unique.{one_spelling}
 use Rattle.q_replay.specs.declared.raw_entry.RawEntry.{RawEntry}
 use Rattle.q_replay.specs.declared.raw_entry.RawEntry.TheVariants.{Leave, Register, Ask, Store, Deliver, HandOut, Post}
 use Rattle.q_replay.specs.Head.{Head}
-use Rattle.q_replay.specs.Spelling.{config_bytes, start_bytes, head_bytes, AreShort, AreFounders, IsHead, code, form_of, body_bytes, event_bytes, IsWritten}
+use Rattle.q_replay.specs.Spelling.{config_bytes, start_bytes, head_bytes, AreShort, AreFounders, IsHead, code, body_bytes, event_bytes, IsWritten}
+use Rattle.q_book.specs.Books.{notes_form}
 use Rattle.q_replay.specs.Reading.{ids_bytes, AreIds}
-use Rattle.q_replay.proofs.Sizes.{text_small, body_small}
+use Rattle.q_replay.proofs.Sizes.{text_fits, body_small}
+
+-- a legal value was read in front of the bytes, and these are left
+pub record IsRead {A : Type 0} (bytes_of : A → List ℕ) (Legal : A → Type 0) (bytes : List ℕ) (value : A) (rest : List ℕ) : Type 0 where
+  pub legal : Legal value
+  pub parts : bytes ≡ bytes_of value ++ rest
+
+-- so many bytes were, and these are left
+pub record IsFront (bytes front rest : List ℕ) (n : ℕ) : Type 0 where
+  pub long : length front ≡ n
+  pub parts : bytes ≡ front ++ rest
+
+-- the length of what follows was
+abbrev pub IsLengthRead : List ℕ → ℕ → List ℕ → Type 0
+IsLengthRead bytes n rest = IsRead (number_bytes 4) (λ k. k < 2 ^ 32) bytes n rest
 
 -- ---- how a node began
 
@@ -40,8 +55,9 @@ starts_are_code = record { one = start_front }
 pub configs_are_code : IsPrefixCode config_bytes AreShort
 configs_are_code =
     let short = numbers_are_code 2 in
+    let four = pair _ _ _ _ short (pair _ _ _ _ short (pair _ _ _ _ short short)) in
     let all = along (λ (c : Config). (c.beta_num, (c.beta_den, (c.gamma_num, c.gamma_den))))
-    (λ a b e i. record { beta_num = (e i).0; beta_den = (e i).1.0; gamma_num = (e i).1.1.0; gamma_den = (e i).1.1.1 }) _ _ (pair _ _ _ _ short (pair _ _ _ _ short (pair _ _ _ _ short short))) in
+    (λ a b e i. record { beta_num = (e i).0; beta_den = (e i).1.0; gamma_num = (e i).1.1.0; gamma_den = (e i).1.1.1 }) _ _ four in
     record { one = λ c d x y p q e. all.one c d x y (p.0, (p.1, (p.2, p.3))) (q.0, (q.1, (q.2, q.3))) e }
 
 -- ---- heads, by their parts
@@ -80,7 +96,8 @@ are_parts h p = (tt, (p.id, (p.config, p.founders)))
 
 pub head_front : (h g : Head) (x y : List ℕ) → IsHead h → IsHead g → head_bytes h ++ x ≡ head_bytes g ++ y → (h ≡ g) × (x ≡ y)
 head_front h g x y p q e =
-    let all = along parts_of (λ a b same i. record { version = (same i).0; id = (same i).1.0; config = (same i).1.1.0; founders = (same i).1.1.1 }) part_bytes AreParts
+    let all = along parts_of
+    (λ a b same i. record { version = (same i).0; id = (same i).1.0; config = (same i).1.1.0; founders = (same i).1.1.1 }) part_bytes AreParts
     (pair _ _ _ _ versions_are_code (pair _ _ _ _ (numbers_are_code 8) tails_are_code)) in
     all.one h g x y (are_parts h p) (are_parts g q) e
 
@@ -94,8 +111,8 @@ same_event : (version : Version) (w v : RawEntry) → IsWritten version w → Is
     → body_bytes version w ≡ body_bytes version v → w ≡ v
 same_event version Leave Leave p q c b = refl
 same_event version (Register t ns) (Register u ms) p q c b =
-    let form = form_of version in
-    let n = number_front 4 (length (spelling t)) (length (spelling u)) (spelling t ++ notes_bytes form ns) (spelling u ++ notes_bytes form ms) (omega (arith, text_small t p.0)) (omega (arith, text_small u q.0)) b in
+    let form = notes_form version in
+    let n = number_front 4 _ _ _ _ (text_fits t p.0) (text_fits u q.0) b in
     let s = same_front (spelling t) (spelling u) (notes_bytes form ns) (notes_bytes form ms) (length (spelling t)) refl (sym n.0) n.1 in
     let text = one_text t u p.0.insns q.0.insns s.0 in
     let notes = one_notes form ns ms p.1 q.1 s.1 in
@@ -119,7 +136,7 @@ pub event_front : (version : Version) (w v : RawEntry) (x y : List ℕ) → IsWr
 event_front version w v x y p q e =
     let a = body_bytes version w in
     let d = body_bytes version v in
-    let k = one_byte (code w) (code v) (number_bytes 4 (length a) ++ (a ++ x)) (number_bytes 4 (length d) ++ (d ++ y)) (sym (event_on version w x) ∙ e ∙ event_on version v y) in
-    let n = number_front 4 (length a) (length d) (a ++ x) (d ++ y) (body_small version w p) (body_small version v q) k.1 in
+    let k = one_byte _ _ _ _ (sym (event_on version w x) ∙ e ∙ event_on version v y) in
+    let n = number_front 4 _ _ _ _ (body_small version w p) (body_small version v q) k.1 in
     let b = same_front a d x y (length a) refl (sym n.0) n.1 in
     (same_event version w v p q k.0 b.0, b.1)

@@ -1,5 +1,6 @@
 -- Where events lead, one after the other.
-use Rattle.std.proofs.Common.{◌≡◌, ℕ, suc, ◌⊎◌, inl, inr, List, [], ◌∷◌, ◌++◌, length, map, Option, Some, None, refl, sym, ap, ◌∙◌, subst, append_assoc, append-nil, flat_map, Result, Ok, Err, arith}
+use Rattle.std.proofs.Common.{◌≡◌, ℕ, suc, ◌⊎◌, inl, inr, List, [], ◌∷◌, ◌++◌, length, map, Option, Some, None, refl, sym, ap, ◌∙◌, subst}
+use Rattle.std.proofs.Common.{append_assoc, append-nil, flat_map, Result, Ok, Err, arith}
 use Rattle.std.proofs.lemmas.List.{flat_map_more, length_push}
 use Rattle.std.proofs.lemmas.List.Folds.{flat_map-map}
 use Rattle.std.specs.List.{AllByRecursion}
@@ -18,7 +19,7 @@ use Rattle.q_replay.specs.Spelling.{head_bytes, event_bytes, IsHead, IsWritten}
 use Rattle.q_replay.specs.declared.raw_entry.RawEntry.{RawEntry}
 use Rattle.q_replay.specs.Journal.{written_of, head_of, entries_bytes, journal_of, IsEntry, IsJournalled}
 use Rattle.q_replay.specs.Replayed.{begun, Begins, Takes, TakesAll, Leads}
-use Rattle.q_replay.proofs.Lists.{same_answer, no_refusal, all_push}
+use Rattle.q_replay.proofs.Lists.{no_cons, same_answer, no_refusal, all_push}
 use Rattle.q_book.proofs.Replays.{replays_later}
 use Rattle.q_book.proofs.Values.{same_version}
 use Rattle.q_replay.proofs.Entries.{OneLongest, takes_one, takes-version, answering}
@@ -28,7 +29,18 @@ abbrev pub OneHead : Type 0
 OneHead = (h g : Head) (rest more : List ℕ) → IsHead h → IsHead g → head_bytes h ++ rest ≡ head_bytes g ++ more → (h ≡ g) × (rest ≡ more)
 
 abbrev pub OneEvent : Type 0
-OneEvent = (version : Version) (w v : RawEntry) (rest more : List ℕ) → IsWritten version w → IsWritten version v → event_bytes version w ++ rest ≡ event_bytes version v ++ more → (w ≡ v) × (rest ≡ more)
+OneEvent =
+    (version : Version) (w v : RawEntry) (rest more : List ℕ) → IsWritten version w → IsWritten version v
+    → event_bytes version w ++ rest ≡ event_bytes version v ++ more → (w ≡ v) × (rest ≡ more)
+
+-- the bytes of events
+abbrev events_bytes : Version → List RawEntry → List ℕ
+events_bytes version ws = flat_map (event_bytes version) ws
+
+-- the first of them stands in front
+first_on : (version : Version) (w : RawEntry) (ws : List RawEntry) (rest : List ℕ)
+    → events_bytes version (w ∷ ws) ++ rest ≡ event_bytes version w ++ (events_bytes version ws ++ rest)
+first_on version w ws rest = append_assoc (event_bytes version w) (events_bytes version ws) rest
 
 -- ---- the book before any event
 
@@ -100,9 +112,9 @@ pub record IsOngoing (b : BookState) (rest : List ℕ) : Type 0 where
   pub next : BookState
   pub takes : Takes b event next
 
-ongoing : (version : Version) (b : BookState) (w : RawEntry) (c : BookState) (rest more : List ℕ) → b.version ≡ version → IsWritten version w
-    → rest ≡ event_bytes version w ++ more → Takes b w c → IsOngoing b rest
-ongoing version b w c rest more same legal parts t = record {
+ongoing : {version : Version} {b : BookState} {w : RawEntry} {c : BookState} {rest : List ℕ} (more : List ℕ) → b.version ≡ version
+    → IsWritten version w → rest ≡ event_bytes version w ++ more → Takes b w c → IsOngoing b rest
+ongoing {version} {b} {w} {c} more same legal parts t = record {
   event = w;
   legal = subst (λ (x : Version). IsWritten x w) (sym same) legal;
   more = more;
@@ -146,36 +158,35 @@ settle us vs b c rest more (inr (inr o)) stop halt = absurd (halt o)
 module _ (one_longest : OneLongest) (one_head : OneHead) (one_event : OneEvent) where
   walk : (version : Version) (us vs : List RawEntry) (first b c : BookState) (rest more : List ℕ) → first.version ≡ version
       → AllByRecursion (IsWritten version) us → AllByRecursion (IsWritten version) vs → TakesAll first us b → TakesAll first vs c
-      → flat_map (event_bytes version) us ++ rest ≡ flat_map (event_bytes version) vs ++ more → Compared us vs b c rest more
+      → events_bytes version us ++ rest ≡ events_bytes version vs ++ more → Compared us vs b c rest more
   walk version [] [] first b c rest more own p q s t h = inl (record { book = s ∙ sym t; left = h; many = refl })
   walk version [] (v ∷ vs) first b c rest more own p q s t h =
-      inr (inl (ongoing version b v t.0 rest (flat_map (event_bytes version) vs ++ more) (ap (λ (x : BookState). x.version) s ∙ own) q.0
-      (h ∙ append_assoc (event_bytes version v) (flat_map (event_bytes version) vs) more) (subst (λ (x : BookState). Takes x v t.0) (sym s) t.1)))
+      inr (inl (ongoing (events_bytes version vs ++ more) (ap (λ (x : BookState). x.version) s ∙ own) q.0 (h ∙ first_on version v vs more)
+      (subst (λ (x : BookState). Takes x v t.0) (sym s) t.1)))
   walk version (u ∷ us) [] first b c rest more own p q s t h =
-      inr (inr (ongoing version c u s.0 more (flat_map (event_bytes version) us ++ rest) (ap (λ (x : BookState). x.version) t ∙ own) p.0
-      (sym h ∙ append_assoc (event_bytes version u) (flat_map (event_bytes version) us) rest) (subst (λ (x : BookState). Takes x u s.0) (sym t) s.1)))
+      inr (inr (ongoing (events_bytes version us ++ rest) (ap (λ (x : BookState). x.version) t ∙ own) p.0 (sym h ∙ first_on version u us rest)
+      (subst (λ (x : BookState). Takes x u s.0) (sym t) s.1)))
   walk version (u ∷ us) (v ∷ vs) first b c rest more own p q s t h =
-      let e = one_event version u v (flat_map (event_bytes version) us ++ rest) (flat_map (event_bytes version) vs ++ more) p.0 q.0
-      (sym (append_assoc (event_bytes version u) (flat_map (event_bytes version) us) rest) ∙ h ∙ append_assoc (event_bytes version v) (flat_map (event_bytes version) vs) more) in
+      let e = one_event version u v (events_bytes version us ++ rest) (events_bytes version vs ++ more) p.0 q.0
+      (sym (first_on version u us rest) ∙ h ∙ first_on version v vs more) in
       let same : s.0 ≡ t.0 = takes_one one_longest first v s.0 t.0 (subst (λ (x : RawEntry). Takes first x s.0) e.0 s.1) t.1 in
       longer u v us vs b c rest more
       (walk version us vs s.0 b c rest more (takes-version first u s.0 s.1 ∙ own) p.1 q.1 s.2 (subst (λ (x : BookState). TakesAll x vs c) (sym same) t.2) e.1)
 
-  pub leads_one : (bytes : List ℕ) (n m : ℕ) (b c : BookState) (rest more : List ℕ) → Leads bytes n b rest → Leads bytes m c more → Stops b rest
+  pub leads_one : {bytes : List ℕ} {n m : ℕ} {b c : BookState} {rest more : List ℕ} → Leads bytes n b rest → Leads bytes m c more → Stops b rest
       → Stops c more → IsOne n m b c rest more
-  leads_one bytes n m b c rest more l k stop halt =
+  leads_one {bytes} {n} {m} {b} {c} {rest} {more} l k stop halt =
       let version : Version = l.head.version in
-      let heads = one_head l.head k.head (flat_map (event_bytes version) l.events ++ rest) (flat_map (event_bytes k.head.version) k.events ++ more) l.legal k.legal (sym l.parts ∙ k.parts) in
+      let heads = one_head l.head k.head _ _ l.legal k.legal (sym l.parts ∙ k.parts) in
       let head : k.head ≡ l.head = sym heads.0 in
       let firsts : l.first ≡ k.first = begins_one l.head l.first k.first l.begins (subst (λ (h : Head). Begins h k.first) head k.begins) in
       let own : l.first.version ≡ version = sym (ap (λ (x : BookState). x.version) (begun-ok l.head l.head.founders l.first l.begins.book).is) in
-      let s = settle l.events k.events b c rest more
-      (walk version l.events k.events l.first b c rest more own l.written (subst (λ (h : Head). AllByRecursion (IsWritten h.version) k.events) head k.written) l.takes
-      (subst (λ (x : BookState). TakesAll x k.events c) (sym firsts) k.takes) (heads.1 ∙ ap (λ (h : Head). flat_map (event_bytes h.version) k.events ++ more) head)) stop halt in
+      let written = subst (λ (h : Head). AllByRecursion (IsWritten h.version) k.events) head k.written in
+      let takes = subst (λ (x : BookState). TakesAll x k.events c) (sym firsts) k.takes in
+      let same = heads.1 ∙ ap (λ (h : Head). events_bytes h.version k.events ++ more) head in
+      let compared = walk version l.events k.events l.first b c rest more own l.written written l.takes takes same in
+      let s = settle l.events k.events b c rest more compared stop halt in
       record { count = l.many ∙ s.many ∙ sym k.many; book = s.book; left = s.left }
-
-no_cons : (x : ℕ) (xs : List ℕ) → [] ≡ x ∷ xs → ⊥
-no_cons x xs h = absurd (cc)
 
 pub no_event : (version : Version) (w : RawEntry) (more : List ℕ) → [] ≡ event_bytes version w ++ more → ⊥
 no_event version w more h = no_cons _ _ h
@@ -204,16 +215,16 @@ takes_all version (e ∷ es) s b own r right a = (
   takes_all version es r.0 b (same_version s e r.0 r.1 ∙ own) r.2 right a.1,
 )
 
-all_written : (version : Version) (es : List Entry) → AllByRecursion (IsEntry version) es → AllByRecursion (IsWritten version) (map written_of es)
+pub all_written : (version : Version) (es : List Entry) → AllByRecursion (IsEntry version) es → AllByRecursion (IsWritten version) (map written_of es)
 all_written version [] a = tt
 all_written version (e ∷ es) a = (a.0.0, all_written version es a.1)
 
-map_many : (es : List Entry) → length es ≡ length (map written_of es)
+pub map_many : (es : List Entry) → length es ≡ length (map written_of es)
 map_many [] = refl
 map_many (e ∷ es) = ap suc (map_many es)
 
-written_bytes : (version : Version) (es : List Entry) → entries_bytes version es ≡ flat_map (event_bytes version) (map written_of es) ++ []
-written_bytes version es = sym (append-nil (flat_map (event_bytes version) (map written_of es)) ∙ flat_map-map (event_bytes version) written_of es)
+written_bytes : (version : Version) (es : List Entry) → entries_bytes version es ≡ events_bytes version (map written_of es) ++ []
+written_bytes version es = sym (append-nil (events_bytes version (map written_of es)) ∙ flat_map-map (event_bytes version) written_of es)
 
 pub journalled_leads : (b : BookState) → IsJournalled b → Leads (journal_of b) (length b.desk.journal) b []
 journalled_leads b j = record {
@@ -262,13 +273,13 @@ leads_journalled bytes n b l right =
     let later = replays_later t.entries first b t.replays in
     let journal : b.desk.journal ≡ t.entries = later.adds in
     let head : l.head ≡ head_of b = ap head_of later.same in
-    let spelled : flat_map (event_bytes version) l.events ++ [] ≡ entries_bytes version b.desk.journal =
-    ap (λ (ws : List RawEntry). flat_map (event_bytes version) ws ++ []) (sym t.written) ∙ sym (written_bytes version t.entries) ∙ ap (entries_bytes version) (sym journal) in
+    let spelled = ap (λ (ws : List RawEntry). events_bytes version ws ++ []) (sym t.written) ∙ sym (written_bytes version t.entries) in
     let begins : IsFirst b f.node l.head.founders =
     first_for first b l.head.founders f.node (ap (λ (x : BookState). x.config) later.same) (ap (λ (x : BookState). x.id) later.same) f.first in
     let replayed : Replays (new_book b.version b.id b.config b.founders f.node) t.entries b =
     subst (λ (h : Head). Replays (new_book h.version h.id h.config h.founders f.node) t.entries b) head t.replays in (
-      l.parts ∙ ap (λ (x : List ℕ). head_bytes l.head ++ x) spelled ∙ ap (λ (h : Head). head_bytes h ++ entries_bytes h.version b.desk.journal) head,
+      l.parts ∙ ap (λ (x : List ℕ). head_bytes l.head ++ x) (spelled ∙ ap (entries_bytes version) (sym journal))
+          ∙ ap (λ (h : Head). head_bytes h ++ entries_bytes h.version b.desk.journal) head,
       record {
         head = subst IsHead head l.legal;
         config = subst (λ (h : Head). IsConfig h.config) head l.begins.config;

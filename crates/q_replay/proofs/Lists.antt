@@ -4,6 +4,9 @@ pub use Rattle.spelling.proofs.Codes.{all_push}
 pub use Rattle.q_desk.proofs.Lists.{get-same}
 pub use Rattle.q_desk.proofs.Accepted.{same_some, no_some, same_answer, no_refusal}
 
+pub no_cons : (x : ℕ) (xs : List ℕ) → [] ≡ x ∷ xs → ⊥
+no_cons x xs h = absurd (cc)
+
 pub some_long : (xs : List ℕ) → xs ≢ [] → 1 ≤ length xs
 some_long [] h = absurd (h refl)
 some_long (x ∷ xs) h = omega arith

@@ -13,9 +13,10 @@ use Rattle.q_desk.specs.Desks.{running_view, job_on, job_at, running_job}
 use Rattle.reasons.specs.declared.Reason.{Reason}
 use Rattle.reasons.specs.declared.Reason.TheVariants as reasons
 use Rattle.std.specs.Cmp.{second_so}
+use Rattle.std.proofs.lemmas.Bool.{and_from}
 use Rattle.forms.proofs.Calls.{tested_pass}
 use Rattle.q_desk.proofs.Accepted.{answered, IsPosted}
-use Rattle.q_desk.proofs.Own.{job_by, and_both, same_bytes, same_number, own_fits}
+use Rattle.q_desk.proofs.Own.{job_by, some_program, same_bytes, same_number, own_fits}
 use Rattle.q_table.specs.Programs.{is_same_text}
 use Rattle.bq_insn.specs.Slots.{spelling}
 use Rattle.q_replay.proofs.Lists.{same_some, no_some, get-same}
@@ -35,11 +36,13 @@ module _ (d : DeskState) (node k : ℕ) where
   pub runs_job : (q : Query) (view : ViewMap) (program : Certificate) → slice_get d.queries k ≡ Some q → q.phase ≡ Running view
       → slice_get d.programs q.program ≡ Some program → running_job d node k ≡ Some (job_by node k q view program)
   runs_job q view program at phase named =
-      ap (job_at running_view d node k) at ∙ ap (λ (p : Phase). job_on node k q (running_view p) (slice_get d.programs q.program)) phase ∙ ap (job_on node k q (running_view (Running view))) named
+      ap (job_at running_view d node k) at ∙ ap (λ (p : Phase). job_on node k q (running_view p) (slice_get d.programs q.program)) phase
+      ∙ ap (job_on node k q (running_view (Running view))) named
 
   job_of-runs : (q : Query) (p : Phase) (c : Option Certificate) (j : Job) → slice_get d.queries k ≡ Some q → q.phase ≡ p
       → slice_get d.programs q.program ≡ c → job_on node k q (running_view p) c ≡ Some j → Runs d node k j
-  job_of-runs q (Running view) (Some c) j at is named h = record { query = q; view = view; program = c; at = at; phase = is; named = named; is = same_some _ j h }
+  job_of-runs q (Running view) (Some c) j at is named h =
+      record { query = q; view = view; program = c; at = at; phase = is; named = named; is = same_some _ j h }
   job_of-runs q (Running view) None j at is named h = absurd (no_some j h)
   job_of-runs q Collecting c j at is named h = absurd (no_some j h)
   job_of-runs q (Ready view) c j at is named h = absurd (no_some j h)
@@ -53,10 +56,6 @@ module _ (d : DeskState) (node k : ℕ) where
   job_runs j h = job_at-runs (slice_get d.queries k) j refl h
 
 -- ---- whose answer may be recorded
-
-some_program : (c : Certificate) (o : Option Certificate) → desk.is_same_program c o ≡ true → (p : Certificate) × (o ≡ Some p)
-some_program c (Some p) h = (p, refl)
-some_program c None h = absurd (cc)
 
 -- a query whose answer was recorded ran, and its program is there
 pub record IsRun (d : DeskState) (node : ℕ) (j : Job) (q : Query) (view : ViewMap) : Type 0 where
@@ -72,7 +71,7 @@ posted_runs d node j ran e p =
     record { program = c.0; named = c.1; is = runs_job d node j.query p.query p.view c.0 p.at p.phase c.1 }
 
 same_program : (c : Certificate) → desk.is_same_program c (Some c) ≡ true
-same_program c = and_both (is_same_text c.text c.text) _ (same_bytes (spelling c.text)) (same_number c.longest)
+same_program c = and_from (is_same_text c.text c.text) _ (same_bytes (spelling c.text)) (same_number c.longest)
 
 abbrev Outcome : Type 0
 Outcome = Result (Unit {0} × DeskState) Reason

@@ -44,12 +44,14 @@ replays-checked version (e ∷ es) b c lengths r =
 
 -- the programs of a book's journal were checked for the records of its version
 journal-checked : (b : BookState) → IsReplay b → All (IsChecked b.version) b.desk.journal
-journal-checked b r = All-from_recursion (IsChecked b.version) b.desk.journal (replays-checked b.version b.desk.journal (new_book b.version b.id b.config b.founders r.first) b refl r.replayed)
+journal-checked b r =
+    All-from_recursion (IsChecked b.version) b.desk.journal
+    (replays-checked b.version b.desk.journal (new_book b.version b.id b.config b.founders r.first) b refl r.replayed)
 
 -- an entry of the journal, for a journal of the book's version
-pub checked_at : (b : BookState) (es : List Entry) (k : ℕ) (version : Version) (e : Entry) → IsReplay b → es ≡ b.desk.journal → k < length es
+pub checked_at : {b : BookState} {es : List Entry} (k : ℕ) {version : Version} {e : Entry} → IsReplay b → es ≡ b.desk.journal → k < length es
     → e ≡ get_or es k e → version ≡ b.version → IsChecked version e
-checked_at b es k version e replay journal within at own =
+checked_at {b} {es} k {version} {e} replay journal within at own =
     let all : All (IsChecked b.version) es = subst (All (IsChecked b.version)) (sym journal) (journal-checked b replay) in
     subst (λ (x : Version). IsChecked x e) (sym own) (subst (IsChecked b.version) (sym at) (All-get_or (IsChecked b.version) es k e within all))
 
@@ -57,7 +59,8 @@ checked_at b es k version e replay journal within at own =
 pub behind-checked : (b : BookState) (n : ℕ) (es : List Entry) (version : Version) → IsReplay b → es ≡ drop n b.desk.journal → version ≡ b.version
     → All (IsChecked version) es
 behind-checked b n es version replay behind own =
-    let all : All (IsChecked b.version) es = subst (All (IsChecked b.version)) (sym behind) (All-drop (IsChecked b.version) n b.desk.journal (journal-checked b replay)) in
+    let rest = All-drop (IsChecked b.version) n b.desk.journal (journal-checked b replay) in
+    let all : All (IsChecked b.version) es = subst (All (IsChecked b.version)) (sym behind) rest in
     subst (λ (x : Version). All (IsChecked x) es) (sym own) all
 
 -- ---- what is written
@@ -97,7 +100,9 @@ written_more b es k e old new within at w legal is =
           ∙ ap (λ (x : List ℕ). x ++ event_bytes b.version (written_of e)) w.spelled
           ∙ flat_map_more (λ (x : Entry). event_bytes b.version (written_of x)) (head_bytes (head_of b)) (take k es) e
           ∙ ap (λ (x : List Entry). head_bytes (head_of b) ++ entries_bytes b.version x) (sym more);
-      legal = subst (AllByRecursion (IsEntry b.version)) (sym more) (all_push (IsEntry b.version) (take k es) e w.legal (subst (λ (x : Version). IsEntry x e) w.version legal));
+      legal =
+          subst (AllByRecursion (IsEntry b.version)) (sym more)
+          (all_push (IsEntry b.version) (take k es) e w.legal (subst (λ (x : Version). IsEntry x e) w.version legal));
     }
 
 pub written_all : (b : BookState) (es : List Entry) (k : ℕ) (j : JournalBytes) → IsWrittenTo b es k j → es ≡ b.desk.journal → length es ≤ k → IsConfig b.config

@@ -3,14 +3,12 @@ use Rattle.std.specs.Prelude.{ℕ, ◌<◌, ◌^◌, List, [], ◌∷◌, ◌++�
 use Rattle.std.specs.List.{flat_map, AllByRecursion}
 use Rattle.bq_insn.specs.Slots.{IsText, spelling}
 use Rattle.bq_check.specs.Spelling.{notes_bytes, IsNotes}
-use Rattle.bq_check.specs.declared.form.NotesForm.{NotesForm}
-use Rattle.bq_check.specs.declared.form.NotesForm.TheVariants as forms
 use Rattle.sc_members.specs.Members.{Config}
 use Rattle.sc_msg.specs.declared.version.Version.{Version}
-use Rattle.sc_msg.specs.declared.version.Version.TheVariants.{First, Second}
 use Rattle.spelling.specs.Numbers.{number_bytes}
 use Rattle.sc_msg.specs.Values.{version_byte, IsLength}
 use Rattle.sc_msg.specs.Messages.{message_bytes, IsMessage}
+use Rattle.q_book.specs.Books.{notes_form}
 use Rattle.q_replay.specs.declared.raw_entry.RawEntry.{RawEntry}
 use Rattle.q_replay.specs.declared.raw_entry.RawEntry.TheVariants.{Leave, Register, Ask, Store, Deliver, HandOut, Post}
 use Rattle.q_replay.specs.Head.{Head}
@@ -54,15 +52,10 @@ code (Deliver m) = 5
 code HandOut = 6
 code (Post query acc steps) = 7
 
--- the form of the notes of a program
-abbrev pub form_of : Version → NotesForm
-form_of First = forms.First
-form_of Second = forms.Second
-
 -- a text stands behind its length, and the notes behind it; a value is as long as its body
 abbrev pub body_bytes : Version → RawEntry → List ℕ
 body_bytes version Leave = []
-body_bytes version (Register text notes) = number_bytes 4 (length (spelling text)) ++ (spelling text ++ notes_bytes (form_of version) notes)
+body_bytes version (Register text notes) = number_bytes 4 (length (spelling text)) ++ (spelling text ++ notes_bytes (notes_form version) notes)
 body_bytes version (Ask program start) = number_bytes 4 program ++ number_bytes 8 start
 body_bytes version (Store value) = value
 body_bytes version (Deliver m) = message_bytes version m
@@ -76,7 +69,7 @@ event_bytes version w = code w ∷ number_bytes 4 (length (body_bytes version w)
 -- which events have a spelling: a value has a length of the version, and a message and the notes are spelled in it
 abbrev pub IsWritten : Version → RawEntry → Type 0
 IsWritten version Leave = Unit {0}
-IsWritten version (Register text notes) = IsText text × IsNotes (form_of version) notes
+IsWritten version (Register text notes) = IsText text × IsNotes (notes_form version) notes
 IsWritten version (Ask program start) = (program < 2 ^ 32) × (start < 2 ^ 64)
 IsWritten version (Store value) = IsLength version (length value) × All (λ b. b < 256) value
 IsWritten version (Deliver m) = IsMessage version m

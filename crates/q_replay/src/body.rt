@@ -1,15 +1,12 @@
 //! The bodies of events by their kinds.
 
-ghost use Rattle.std.specs.Prelude.{◌≡◌, ◌⊎◌, List, Option, length, IfOk, IfErr, OnErr, MatchResult};
-ghost use Rattle.bq_state.specs.Kinds.{StateKinds};
-ghost use Rattle.bq_check.specs.Spelling.{notes_bytes, IsNotes};
-ghost use Rattle.q_replay.specs.Spelling.{form_of};
+ghost use Rattle.std.specs.Prelude.{◌≡◌, ◌⊎◌, length, IfOk, IfErr, OnErr};
 ghost use Rattle.q_replay.specs.Reading.{IsBody, IsNoBody};
 
 use crate::raw_entry::RawEntry;
 use crate::read::ReadFault;
 use crate::reader::Reader;
-use bq_check::{Notes, NotesFault};
+use q_book::read_notes;
 use sc_decode::decode_as;
 use sc_msg::Version;
 use sc_view::{Value, ValueFault};
@@ -26,18 +23,6 @@ fn bare(kind: u8, reader: &Reader<'_>) -> Result<RawEntry, ReadFault>
         Ok(RawEntry::Leave)
     } else {
         Ok(RawEntry::HandOut)
-    }
-}
-
-/// The notes that the bytes spell in the form of that version.
-fn read_notes(alloc: Global, version: Version, bytes: &[u8]) -> Result<Notes, NotesFault>
-    ensures legal { IfOk result (IsNotes (form_of version)) }
-    ensures spelled { IfOk result (λ n. bytes.now ≡ notes_bytes (form_of version) n) }
-    ensures all { (n : List (Option StateKinds)) → IsNotes (form_of version) n → bytes.now ≡ notes_bytes (form_of version) n → MatchResult result (λ m. m ≡ n) (λ e. e ≡ NotesFault.OutOfMemory) }
-{
-    match version {
-        Version::First => Notes::read_v1(alloc, bytes),
-        Version::Second => Notes::read(alloc, bytes),
     }
 }
 

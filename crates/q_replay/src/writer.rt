@@ -6,9 +6,10 @@ ghost use Rattle.bq_sound.specs.Passes.{AllFitLengths};
 ghost use Rattle.bq_check.specs.Spelling.{notes_bytes, IsNotes};
 ghost use Rattle.spelling.specs.Numbers.{number_bytes};
 ghost use Rattle.q_book.specs.Replays.{EntryFits};
-ghost use Rattle.q_replay.specs.Spelling.{config_bytes, head_bytes, body_bytes, event_bytes, code, form_of, AreShort, IsHead, IsWritten};
+ghost use Rattle.q_replay.specs.Spelling.{config_bytes, head_bytes, body_bytes, event_bytes, code, AreShort, IsHead, IsWritten};
 ghost use Rattle.q_replay.specs.Reading.{ids_bytes};
-ghost use Rattle.q_replay.specs.Writing.{with_more, record_lengths};
+ghost use Rattle.q_book.specs.Books.{notes_form, record_lengths};
+ghost use Rattle.q_replay.specs.Writing.{with_more};
 ghost use Rattle.q_replay.specs.Journal.{written_of, IsEntry};
 ghost use Rattle.q_replay.specs.Checked.{IsChecked};
 ghost use Rattle.q_replay.specs.declared.raw_entry.RawEntry.TheVariants as written;
@@ -159,8 +160,8 @@ impl Bytes {
 /// The bytes of the notes in the form of that version. The one error is that memory ran out.
 fn spelled_notes(alloc: Global, version: Version, notes: &Notes) -> Result<Vec<u8>, AllocError>
     requires { AllFitLengths (record_lengths version) notes.now }
-    ensures legal { IfOk result (λ _. IsNotes (form_of version) notes.now) }
-    ensures spelled { IfOk result (λ bytes. bytes.items ≡ notes_bytes (form_of version) notes.now) }
+    ensures legal { IfOk result (λ _. IsNotes (notes_form version) notes.now) }
+    ensures spelled { IfOk result (λ bytes. bytes.items ≡ notes_bytes (notes_form version) notes.now) }
 {
     match version {
         Version::First => match notes.bytes_v1(alloc) {

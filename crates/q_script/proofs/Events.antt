@@ -1,6 +1,6 @@
 -- The events of lines: what is no line spells none.
 use Rattle.std.proofs.Common.{◌≡◌, ◌≢◌, ℕ, List, ◌∷◌, ◌++◌, Result, Ok, Err, Bool, true, false, inl, inr, ap, sym, ◌∙◌, subst, lit<, string_bytes}
-use Rattle.std.specs.Prelude.{Vec, IsTrue, ◌↔◌}
+use Rattle.std.specs.Prelude.{Vec, IsErrAnd, IsTrue, ◌↔◌}
 use Rattle.std.specs.declared.alloc.Global.{Global}
 use Rattle.q_script.specs.declared.call_line.CallLine.TheVariants.{Program, Store, Ask}
 use Rattle.q_script.specs.declared.command.Command.{Command}
@@ -39,10 +39,11 @@ part_told part whole s t Form none h = none h
 part_told part whole s t OutOfMemory none h = tt
 
 -- where a part of a line is refused, the line is refused for the same cause
-pub part_fails : {X : Type 0} (part : List ℕ → X → Type 0) (whole : List ℕ → ScriptLine → Type 0) (s t : List ℕ) (fault : LineFault) (r : Result ScriptLine LineFault) (e : LineFault)
-    → r ≡ Err e → e ≡ fault → (((x : X) → part t x → ⊥) → (line : ScriptLine) → whole s line → ⊥) → Judges part t (Err fault) → Judges whole s r
-part_fails part whole s t fault r e is same none h =
-    subst (Judges whole s) (sym (is ∙ ap (λ (x : LineFault). let y : Result ScriptLine LineFault = Err x in y) same)) (part_told part whole s t fault none h)
+pub part_fails : {X : Type 0} (part : List ℕ → X → Type 0) (whole : List ℕ → ScriptLine → Type 0) (s t : List ℕ) (fault : LineFault)
+    (r : Result ScriptLine LineFault) → IsErrAnd r (λ e. e ≡ fault) → (((x : X) → part t x → ⊥) → (line : ScriptLine) → whole s line → ⊥)
+    → Judges part t (Err fault) → Judges whole s r
+part_fails part whole s t fault (Ok line) e none h = absurd e
+part_fails part whole s t fault (Err f) e none h = rw e (part_told part whole s t fault none h)
 
 pub not_ask : (s : List ℕ) → ((p : ℕ × List ℕ) → IsFollowed 32 s p → ⊥) → (line : ScriptLine) → IsAsk s line → ⊥
 not_ask s n (Call (Ask node program start)) h = n (node, h.0) h.1

@@ -1,7 +1,9 @@
 -- The first faulty line of a list of records.
-use Rattle.std.proofs.Common.{◌≡◌, ℕ, ◌+◌, ◌≤◌, ◌<◌, ◌==◌, Bool, true≢false, false, List, [], ◌∷◌, ◌++◌, length, take, drop, get_or, Option, Some, None, ap, sym, ◌∙◌, subst, arith, refl}
+use Rattle.std.proofs.Common.{◌≡◌, ℕ, ◌+◌, ◌≤◌, ◌<◌, ◌==◌, Bool, true≢false, false, take, drop, get_or, ap, sym, ◌∙◌, subst, arith, refl}
+use Rattle.std.specs.Prelude.{Option, Some, None, List, [], ◌∷◌, ◌++◌, length}
 use Rattle.std.specs.FinMap as fin
 use Rattle.std.proofs.lemmas.Bool.{eq-eqb}
+use Rattle.std.proofs.lemmas.Slice.Zip.{AllZip-long}
 use Rattle.bq_range.specs.Interval.{Interval}
 use Rattle.sc_view.specs.declared.view.Stored.{Stored}
 use Rattle.sc_view.specs.Views.{ViewMap, put, most_entries}
@@ -10,7 +12,7 @@ use Rattle.q_script.specs.declared.records.RecordFault.TheVariants.{Full}
 use Rattle.q_script.specs.Lines.{without_last_feed, parts_of}
 use Rattle.q_script.specs.Records.{Record, IsRecord, IsAbove, IsEntry, IsGood, HasFault, IsReading, IsFaultAt, last_id, learned, stored_of, record_lines}
 use Rattle.q_script.proofs.Lines.{pieces_at}
-use Rattle.q_script.proofs.Learning.{len_learned, len_more, zip_length, learned_push, last_push, reading_push}
+use Rattle.q_script.proofs.Learning.{len_learned, len_more, learned_push, last_push, reading_push}
 
 pub lines_there : (source body : List ℕ) → (length source ≡ 0 → ⊥) → body ≡ without_last_feed source → record_lines source ≡ parts_of body
 lines_there [] body n e = absurd (n refl)
@@ -30,7 +32,7 @@ fault_at {l = l} {texts = texts} {done = done} {t = t} i {records = records} fau
   text = t;
   after = drop (i + 1) texts;
   parts = pieces_at texts done i t f less e;
-  number = omega (arith, c, ap fin.len k.learnt, len_learned l records k.reading.good, zip_length IsRecord done records k.reading.spelled);
+  number = omega (arith, c, ap fin.len k.learnt, len_learned l records k.reading.good, AllZip-long IsRecord done records k.reading.spelled);
   records = records;
   read = k.reading;
   has_fault = subst (λ o. HasFault l o (length records) t fault) k.ends h;

@@ -1,10 +1,11 @@
 -- Records read one after another, and the view that has learnt them.
-use Rattle.std.proofs.Common.{◌≡◌, ◌==◌, ℕ, suc, ◌+◌, ◌<◌, Bool, true, false, MatchOption, cond, List, [], ◌∷◌, ◌++◌, length, Option, Some, None, is_some, refl, ap, sym, ◌∙◌, subst, arith}
-use Rattle.std.specs.List.{AllZip}
+use Rattle.std.proofs.Common.{◌≡◌, ◌==◌, ℕ, ◌+◌, ◌<◌, cond, List, [], ◌∷◌, ◌++◌, length, refl, ap, sym, ◌∙◌, subst, arith}
+use Rattle.std.specs.Prelude.{Option, Some, None, is_some}
 use Rattle.std.specs.FinMap as fin
 use Rattle.std.specs.Ordering.{nat_cmp}
-use Rattle.std.proofs.lemmas.Bool.{ne_eqb}
+use Rattle.std.proofs.lemmas.Bool.{ne_eqb, cond_both}
 use Rattle.std.proofs.lemmas.Option.{none-some, same_Some}
+use Rattle.std.proofs.lemmas.Slice.Zip.{all_zipped_more}
 use Rattle.bq_range.specs.Interval.{Interval, IsIn}
 use Rattle.sc_view.specs.declared.view.Stored.{Stored}
 use Rattle.sc_view.specs.Views.{ViewMap, put, newer}
@@ -12,13 +13,8 @@ use Rattle.sc_view.proofs.ViewLemmas.{get-put, len-put}
 use Rattle.q_script.specs.Words.{IsFollowed}
 use Rattle.q_script.specs.Records.{Record, IsValue, IsRecord, IsAbove, IsGood, AreGood, IsReading, last_id, learned, stored_of}
 use Rattle.q_script.proofs.Pairs.{followed_once}
-use Rattle.q_script.proofs.Lines.{zip_push}
 
 -- ---- one line
-
--- a test of a line that found nothing
-pub none_read : {X : Type 0} (No : Type 0) (Yes : X → Type 0) (r : Option X) → r ≡ None → No → MatchOption r No Yes
-none_read No Yes r e h = subst (λ o. MatchOption o No Yes) (sym e) h
 
 pub no_id : (s : List ℕ) → ((p : ℕ × List ℕ) → IsFollowed 32 s p → ⊥) → (r : Record) → IsRecord s r → ⊥
 no_id s n r h = n (r.id, h.0) h.2
@@ -52,7 +48,7 @@ good_push l last (x ∷ rs) r h g = (h.0, good_push l (Some x.id) rs r h.1 g)
 
 pub reading_push : (l : Interval) (lines : List (List ℕ)) (rs : List Record) (text : List ℕ) (r : Record) → IsReading l lines rs → IsRecord text r
     → IsGood l (last_id None rs) r → IsReading l (lines ++ (text ∷ [])) (rs ++ (r ∷ []))
-reading_push l lines rs text r h s g = record { spelled = zip_push IsRecord lines rs text r h.spelled s; good = good_push l None rs r h.good g }
+reading_push l lines rs text r h s g = record { spelled = all_zipped_more IsRecord lines rs text r h.spelled s; good = good_push l None rs r h.good g }
 
 -- ---- how many
 
@@ -64,24 +60,23 @@ above : (last : Option ℕ) (id q : ℕ) → IsAbove last id → id < q → IsAb
 above None id q h k = tt
 above (Some last) id q h k = omega arith
 
-fresh_put : (last : Option ℕ) (v : ViewMap) (id : ℕ) (e : Stored) → Fresh last v → IsAbove last id → Fresh (Some id) (put v id e)
-fresh_put last v id e f a q h =
-    get-put v id e q ∙ ap (λ b. cond b (Some (newer (fin.get v id) e)) (fin.get v q)) (ne_eqb q id (λ k. omega arith)) ∙ f q (above last id q a h)
-
-len_fresh : (last : Option ℕ) (v : ViewMap) (id : ℕ) (e : Stored) → Fresh last v → IsAbove last id → fin.len (put v id e) ≡ fin.len v + 1
-len_fresh last v id e f a = len-put v id e ∙ ap (λ (o : Option Stored). cond (is_some o) (fin.len v) (fin.len v + 1)) (f id a)
-
 -- each record of the view has one of the lengths
 abbrev pub IsWithin : Interval → ViewMap → Type 0
 IsWithin l v = (id : ℕ) (e : Stored) → fin.get v id ≡ Some e → IsIn (16 + length e.value) l
 
-within_put : (l : Interval) (last : Option ℕ) (v : ViewMap) (id : ℕ) (e : Stored) → Fresh last v → IsAbove last id → IsIn (16 + length e.value) l
-    → IsWithin l v → IsWithin l (put v id e)
-within_put l last v id e f a new old q x has = at_either (q == id) q x (sym (get-put v id e q ∙ ap (λ o. cond (q == id) (Some (newer o e)) (fin.get v q)) (f id a)) ∙ has)
-  where
-    at_either : (b : Bool) (q : ℕ) (x : Stored) → cond b (Some e) (fin.get v q) ≡ Some x → IsIn (16 + length x.value) l
-    at_either true q x is = subst (λ (y : Stored). IsIn (16 + length y.value) l) (same_Some e x is) new
-    at_either false q x is = old q x is
+module _ (last : Option ℕ) (v : ViewMap) (id : ℕ) (e : Stored) (f : Fresh last v) (a : IsAbove last id) where
+  fresh_put : Fresh (Some id) (put v id e)
+  fresh_put q h =
+      get-put v id e q ∙ ap (λ b. cond b (Some (newer (fin.get v id) e)) (fin.get v q)) (ne_eqb q id (λ k. omega arith)) ∙ f q (above last id q a h)
+
+  len_fresh : fin.len (put v id e) ≡ fin.len v + 1
+  len_fresh = len-put v id e ∙ ap (λ (o : Option Stored). cond (is_some o) (fin.len v) (fin.len v + 1)) (f id a)
+
+  within_put : (l : Interval) → IsIn (16 + length e.value) l → IsWithin l v → IsWithin l (put v id e)
+  within_put l new old q x has =
+      let is = get-put v id e q ∙ ap (λ o. cond (q == id) (Some (newer o e)) (fin.get v q)) (f id a) in
+      cond_both (q == id) (Some e) (fin.get v q) (λ o. o ≡ Some x → IsIn (16 + length x.value) l)
+      (λ _ same. subst (λ (y : Stored). IsIn (16 + length y.value) l) (same_Some e x same) new) (λ _ there. old q x there) (sym is ∙ has)
 
 -- each good record is one entry more, of one of the lengths
 pub record Learned (l : Interval) (last : Option ℕ) (v : ViewMap) (rs : List Record) : Type 0 where
@@ -97,7 +92,7 @@ learned_all l last v (r ∷ rs) f h =
     record {
       count = omega (arith, more.count, one);
       fresh = more.fresh;
-      within = λ w. more.within (within_put l last v r.id (stored_of r) f h.0.0 h.0.2 w);
+      within = λ w. more.within (within_put last v r.id (stored_of r) f h.0.0 l h.0.2 w);
     }
 
 pub within_empty : (l : Interval) → IsWithin l fin.empty
@@ -115,9 +110,3 @@ len_more l rs r h a =
     let all = learned_all l None fin.empty rs (λ q b. fin.get-empty nat_cmp q) h in
     let one = len_fresh (last_id None rs) (learned fin.empty rs) r.id (stored_of r) all.fresh a in
     omega (arith, all.count, one, fin.len-empty nat_cmp Stored)
-
-pub zip_length : {A B : Type 0} (R : A → B → Type 0) (xs : List A) (ys : List B) → AllZip R xs ys → length xs ≡ length ys
-zip_length R [] [] h = refl
-zip_length R [] (y ∷ ys) h = absurd h
-zip_length R (x ∷ xs) [] h = absurd h
-zip_length R (x ∷ xs) (y ∷ ys) h = ap suc (zip_length R xs ys h.1)

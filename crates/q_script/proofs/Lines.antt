@@ -1,6 +1,6 @@
 -- The lines of a script, read one after another.
-use Rattle.std.proofs.Common.{◌≡◌, ℕ, suc, ◌+◌, ◌<◌, true, false, lit<, map, Option, Some, cond, List, [], ◌∷◌, ◌++◌, length, take, drop, get_or, ap, sym, ◌∙◌, subst, inl, inr, arith, refl}
-use Rattle.std.specs.Prelude.{Result, Ok, Err, IfErr}
+use Rattle.std.proofs.Common.{◌≡◌, ℕ, suc, ◌+◌, ◌<◌, true, false, lit<, map, cond, take, drop, get_or, ap, sym, ◌∙◌, subst, inl, inr, arith, refl}
+use Rattle.std.specs.Prelude.{Result, Ok, Err, IfErr, Option, Some, List, [], ◌∷◌, ◌++◌, length}
 use Rattle.std.specs.Result.{is_ok, is_err, IsErrAnd}
 use Rattle.std.specs.List.{AllZip, onto_first}
 use Rattle.std.specs.Iterator.{Yields}
@@ -11,6 +11,7 @@ use Rattle.std.proofs.lemmas.Iterator.Consumers.{YieldsList-turn, YieldsList-so_
 use Rattle.std.proofs.lemmas.Iterator.Splits.{YieldsList-from_str_split}
 use Rattle.std.proofs.lemmas.Bool.{ne_eqb}
 use Rattle.std.proofs.lemmas.List.{take-append-drop, drop_more}
+use Rattle.std.proofs.lemmas.Slice.Zip.{all_zipped_more}
 use Rattle.std.proofs.lemmas.List.Splits.{slice_split-cons_no, slice_split-cons_yes}
 use Rattle.q_script.specs.Words.{Lacks}
 use Rattle.q_script.specs.Lines.{without_last_feed, parts_of, lines_of, IsFirst}
@@ -53,13 +54,6 @@ pub turn_of : {S A B : Type 0} {steps : S → Option A → S → Type 0} {v : A 
     → (map v xs ≡ take (length xs) all) × (length xs < length all) × (v x ≡ get_or all (length xs) (v x))
 turn_of road xs t y r u x is p = let now = YieldsList-turn road xs t y r u x is p in (YieldsList-so_far road xs t y, now.0, now.1)
 
-pub zip_push : {A B : Type 0} (R : A → B → Type 0) (xs : List A) (ys : List B) (x : A) (y : B) → AllZip R xs ys → R x y
-    → AllZip R (xs ++ x ∷ []) (ys ++ y ∷ [])
-zip_push R [] [] x y h r = (r, tt)
-zip_push R [] (z ∷ ys) x y h r = absurd h
-zip_push R (w ∷ xs) [] x y h r = absurd h
-zip_push R (w ∷ xs) (z ∷ ys) x y h r = (h.0, zip_push R xs ys x y h.1 r)
-
 pub pieces_at : {A : Type 0} (all front : List A) (i : ℕ) (x : A) → front ≡ take i all → i < length all → x ≡ get_or all i x
     → all ≡ front ++ (x ∷ drop (i + 1) all)
 pieces_at all front i x f l e =
@@ -76,16 +70,12 @@ first_from spells b (x ∷ done) (y ∷ v) t rest h n =
 
 -- the least line that is of another form
 pub first_other : {L : Type 0} (spells : List ℕ → L → Type 0) (b : ℕ) (texts done : List (List ℕ)) (items : List L) (t : List ℕ) (i k : ℕ)
-    → done ≡ take i texts → i < length texts → t ≡ get_or texts i t → AllZip spells done items → IsNone spells b t → k ≡ length items → IsFirst (IsNone spells) b texts (b + k + 1)
+    → done ≡ take i texts → i < length texts → t ≡ get_or texts i t → AllZip spells done items → IsNone spells b t
+    → k ≡ length items → IsFirst (IsNone spells) b texts (b + k + 1)
 first_other spells b texts done items t i k f l e h n d =
     let here = first_from spells b done items t (drop (i + 1) texts) h n in
     subst (λ u. IsFirst (IsNone spells) b u (b + k + 1)) (sym (pieces_at texts done i t f l e))
     (subst (IsFirst (IsNone spells) b (done ++ t ∷ drop (i + 1) texts)) (omega (arith, d)) here)
-
-pushed : {X E : Type 0} (items new : List X) (x : X) (r : Result (Unit {0}) E) → new ≡ cond (is_ok r) (items ++ x ∷ []) items → is_err r ≡ false
-    → new ≡ items ++ x ∷ []
-pushed items new x (Ok u) e f = e
-pushed items new x (Err d) e f = absurd cc
 
 pub all_read : {L : Type 0} (spells : List ℕ → L → Type 0) (texts done : List (List ℕ)) (items : List L) → done ≡ texts → AllZip spells done items
     → AllZip spells texts items
@@ -93,5 +83,5 @@ all_read spells texts done items e h = subst (λ u. AllZip spells u items) e h
 
 pub read_more : {E L : Type 0} (spells : List ℕ → L → Type 0) (done : List (List ℕ)) (t : List ℕ) (items new : List L) (x : L) (r : Result (Unit {0}) E)
     → AllZip spells done items → spells t x → new ≡ cond (is_ok r) (items ++ x ∷ []) items → is_err r ≡ false → AllZip spells (done ++ t ∷ []) new
-read_more spells done t items new x r h s p f =
-    subst (AllZip spells (done ++ t ∷ [])) (sym (pushed items new x r p f)) (zip_push spells done items t x h s)
+read_more spells done t items new x (Ok u) h s p f = rw p (all_zipped_more spells done items t x h s)
+read_more spells done t items new x (Err d) h s p f = absurd cc

@@ -1,9 +1,11 @@
 -- The nodes of a file, read line by line, and the whole list.
-use Rattle.std.proofs.Common.{◌≡◌, ◌⊎◌, ℕ, suc, ◌+◌, ◌<◌, ◌≤◌, List, [], ◌∷◌, ◌++◌, length, take, drop, get_or, sym, subst, inl, inr, arith, refl, length-append}
+use Rattle.std.proofs.Common.{◌≡◌, ◌⊎◌, ℕ, suc, ◌+◌, ◌<◌, ◌≤◌, List, [], ◌∷◌, ◌++◌, length, take, drop, get_or, sym, subst, inl, inr, arith, refl}
 use Rattle.std.specs.List.{AllZip}
+use Rattle.std.proofs.lemmas.List.{length-append}
+use Rattle.std.proofs.lemmas.Slice.Zip.{all_zipped_more}
 use Rattle.sc_members.specs.Members.{most_facts}
 use Rattle.q_script.specs.Lines.{parts_of, lines_of, IsFirst}
-use Rattle.q_script.proofs.Lines.{pieces_at, zip_push}
+use Rattle.q_script.proofs.Lines.{pieces_at}
 use Rattle.q_script.specs.declared.node_line.Heading.{Heading}
 use Rattle.q_script.specs.declared.node_line.NodeLine.{NodeLine}
 use Rattle.q_script.specs.declared.fault.ClusterFileFault.{ClusterFileFault}
@@ -19,7 +21,7 @@ no_nodes = record { each = tt; few = omega arith }
 pub one_more : (done : List (List ℕ)) (t : List ℕ) (nodes : List NodeLine) (n : NodeLine) → AreNodes done nodes → SpellsNode t n
     → length nodes < most_facts → AreNodes (done ++ t ∷ []) (nodes ++ n ∷ [])
 one_more done t nodes n h s l = record {
-  each = zip_push SpellsNode done nodes t n h.each s;
+  each = all_zipped_more SpellsNode done nodes t n h.each s;
   few = let e = length-append nodes (n ∷ []) in omega (arith, e);
 }
 

@@ -1,14 +1,10 @@
 -- Numbers with a character between.
-use Rattle.std.proofs.Common.{◌≡◌, ℕ, ◌<◌, List, ◌∷◌, ◌++◌, Option, None, ap, sym, ◌∙◌, subst}
+use Rattle.std.proofs.Common.{◌≡◌, ℕ, ◌<◌, List, ◌∷◌, ◌++◌, ap, ◌∙◌}
 use Rattle.std.specs.Fmt.{decimal}
 use Rattle.std.proofs.lemmas.Fmt.{decimal_injective}
-use Rattle.q_script.specs.Words.{Lacks, Reads, IsNumeral, IsFollowed, IsPair}
+use Rattle.q_script.specs.Words.{Lacks, IsNumeral, IsFollowed, IsPair}
 use Rattle.q_script.proofs.Parts.{IsCut, cut_once, never_cut}
 use Rattle.q_script.proofs.Numbers.{decimal_lacks}
-
--- nothing is read
-pub reads_none : {X : Type 0} (spells : List ℕ → X → Type 0) (text : List ℕ) (r : Option X) → r ≡ None → ((x : X) → spells text x → ⊥) → Reads spells text r
-reads_none spells text r e h = subst (Reads spells text) (sym e) h
 
 pub followed_cut : (c : ℕ) (s : List ℕ) (p : ℕ × List ℕ) → c < 48 → IsFollowed c s p → IsCut c s (decimal p.0) p.1
 followed_cut c s p l h = (decimal_lacks c p.0 l h.0, h.1)

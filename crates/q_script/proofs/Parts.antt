@@ -27,7 +27,8 @@ cut_at : (c : ℕ) (xs ys : List ℕ) → Lacks c xs → cut c (xs ++ (c ∷ ys)
 cut_at c [] ys h = cond-true (eqb c c) _ _ (eq-eqb c c refl)
 cut_at c (d ∷ ds) ys h = cond-false (eqb d c) _ _ (ne_eqb d c h.0) ∙ ap (option_map (λ (p : List ℕ × List ℕ). (d ∷ p.0, p.1))) (cut_at c ds ys h.1)
 
-pub parts_are : (c : ℕ) (s : List ℕ) (r : Option (Bor (List ℕ) × Bor (List ℕ))) → MatchOption r ((i : ℕ) → i < length s → get_or s i 0 ≢ c) (λ x. (s ≡ x.0.now ++ (c ∷ x.1.now)) × ((i : ℕ) → i < length x.0.now → get_or x.0.now i 0 ≢ c))
+pub parts_are : (c : ℕ) (s : List ℕ) (r : Option (Bor (List ℕ) × Bor (List ℕ)))
+    → MatchOption r ((i : ℕ) → i < length s → get_or s i 0 ≢ c) (λ x. (s ≡ x.0.now ++ (c ∷ x.1.now)) × ((i : ℕ) → i < length x.0.now → get_or x.0.now i 0 ≢ c))
     → MatchOption r (Lacks c s) (λ p. Lacks c p.0.now × (s ≡ p.0.now ++ (c ∷ p.1.now)))
 parts_are c s None h = lacks_from c s h
 parts_are c s (Some x) h = (lacks_from c x.0.now h.1, h.0)

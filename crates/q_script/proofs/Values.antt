@@ -1,10 +1,10 @@
 -- The values of a list: numbers, or x and hexadecimal digits.
-use Rattle.std.proofs.Common.{◌≡◌, ◌≢◌, ◌↔◌, inl, inr, ℕ, ◌/◌, ◌%◌, ◌<◌, ◌≤◌, ◌||◌, if◌then◌else◌, nat_le, ◌&&◌, ◌-◌, Bool, true, false, true≢false, IsTrue, List, ◌∷◌, length, slice_index_or, Option, Some, None, is_some, Result, Ok, Err, IfOk, IsErrOf, MatchResult, refl, ap, sym, ◌∙◌, subst, arith}
-use Rattle.std.specs.Bool.{then_some}
-use Rattle.std.specs.Prelude.{Vec}
+use Rattle.std.proofs.Common.{◌≡◌, ◌≢◌, inl, inr, ℕ, ◌/◌, ◌%◌, ◌<◌, ◌≤◌, ◌||◌, ◌&&◌, ◌-◌, Bool, true, false, true≢false, refl, ap, sym, ◌∙◌, subst, arith}
+use Rattle.std.specs.Bool.{then_some, if◌then◌else◌, nat_le, IsTrue}
+use Rattle.std.specs.Prelude.{Vec, ◌↔◌, List, ◌∷◌, length, Option, Some, None, is_some, Result, Ok, Err, IfOk, IsErrOf, MatchResult}
 use Rattle.std.specs.declared.alloc.Global.{Global}
 use Rattle.std.specs.Char.{is_ascii_digit, is_ascii_hexdigit}
-use Rattle.std.specs.List.{AllPass, list_all}
+use Rattle.std.specs.List.{AllPass, list_all, slice_index_or}
 use Rattle.std.proofs.lemmas.Fmt.{digits_decimal}
 use Rattle.spelling.proofs.Decimal.{own}
 use Rattle.hex.specs.Hex.{decode_of, decode_sized, is_hex_digit}
@@ -94,21 +94,23 @@ behind_x s digits (Some value) e h = (h.0, inr (digits, e, h.1), h.2)
 
 -- ---- the value of a line of a script
 
-pub hex_judged : (s digits : List ℕ) (r : Result (Vec ℕ Global) LineFault) → s ≡ 120 ∷ digits → Judges (λ text (v : Vec ℕ Global). AreDigits text v.items) digits r
-    → Judges (λ text (v : Vec ℕ Global). IsValue text v.items) s r
+-- the bytes of a text are as it spells them
+abbrev pub JudgesBytes : (List ℕ → List ℕ → Type 0) → List ℕ → Result (Vec ℕ Global) LineFault → Type 0
+JudgesBytes spells s r = Judges (λ text (v : Vec ℕ Global). spells text v.items) s r
+
+pub hex_judged : (s digits : List ℕ) (r : Result (Vec ℕ Global) LineFault) → s ≡ 120 ∷ digits → JudgesBytes AreDigits digits r → JudgesBytes IsValue s r
 hex_judged s digits (Ok v) e h = inr (digits, e, h)
 hex_judged s digits (Err Form) e h = λ v. no_hex s digits v.items e (h v)
 hex_judged s digits (Err OutOfMemory) e h = tt
 
-pub number_judged : (s : List ℕ) (r : Result (Vec ℕ Global) LineFault) → ((digits : List ℕ) → s ≢ 120 ∷ digits) → Judges (λ text (v : Vec ℕ Global). IsNumber text v.items) s r
-    → Judges (λ text (v : Vec ℕ Global). IsValue text v.items) s r
+pub number_judged : (s : List ℕ) (r : Result (Vec ℕ Global) LineFault) → ((digits : List ℕ) → s ≢ 120 ∷ digits) → JudgesBytes IsNumber s r
+    → JudgesBytes IsValue s r
 number_judged s (Ok v) x h = inl h
 number_judged s (Err Form) x h = λ v is. elim is [ inl number ↦ h v number | inr hex ↦ x hex.0 hex.1 ]
 number_judged s (Err OutOfMemory) x h = tt
 
 -- digits of a program, one byte at least
-pub code_judged : (digits : List ℕ) (r : Result (Vec ℕ Global) LineFault) → 1 ≤ length digits → Judges (λ text (v : Vec ℕ Global). AreDigits text v.items) digits r
-    → Judges (λ text (v : Vec ℕ Global). IsCode text v.items) digits r
+pub code_judged : (digits : List ℕ) (r : Result (Vec ℕ Global) LineFault) → 1 ≤ length digits → JudgesBytes AreDigits digits r → JudgesBytes IsCode digits r
 code_judged digits (Ok v) some h = (h, some)
 code_judged digits (Err Form) some h = λ v is. h v is.0
 code_judged digits (Err OutOfMemory) some h = tt

@@ -1,5 +1,6 @@
 -- An event at which no node comes makes no node live, and takes no message away.
-use Rattle.std.proofs.Common.{◌≡◌, ◌≢◌, ℕ, ◌≤◌, ◌==◌, ◌||◌, Bool, true, false, cond, List, length, ◌++◌, length-append, Option, Some, None, refl, sym, ap, ap₂, ◌∙◌, subst, arith, slice_get, Result, Ok, Err}
+use Rattle.std.proofs.Common.{◌≡◌, ◌≢◌, ℕ, ◌≤◌, ◌==◌, ◌||◌, Bool, true, false, cond, List, length, ◌++◌, length-append, Option, Some, None, refl}
+use Rattle.std.proofs.Common.{sym, ap, ap₂, ◌∙◌, subst, arith, slice_get, Result, Ok, Err}
 use Rattle.std.proofs.lemmas.Bool.{eqb-true}
 use Rattle.std.specs.Option.{IsSome}
 use Rattle.std.specs.Ordering.{nat_cmp}
@@ -33,20 +34,18 @@ pub record Goes (c d : ClusterState) : Type 0 where
 pub goes_itself : (c : ClusterState) → Goes c c
 goes_itself c = record { live = λ n h. h; sent = omega arith }
 
-is_some : {X : Type 0} (o : Option X) (x : X) → o ≡ Some x → IsSome o
-is_some (Some y) x h = refl
-is_some None x h = absurd (cc)
-
 -- the book of a live node is put in anew, and no node stops
 module _ (c : ClusterState) (id : ℕ) (x : BookState) (at : live_at c id ≡ Some x) (b : BookState) where
   live_here : (n : ℕ) (here : Bool) → (n == id) ≡ here → IsSome (live (set.contains c.past.crashed n) (cond here (Some b) (fin.get c.books n)))
       → IsSome (live_at c n)
-  live_here n true is h = is_some (live_at c n) x (ap (live_at c) (eqb-true n id is) ∙ at)
+  live_here n true is h = subst IsSome (sym (ap (live_at c) (eqb-true n id is) ∙ at)) refl
   live_here n false is h = h
 
   put_goes : (p : Past) (jobs : List Job) → p.crashed ≡ c.past.crashed → length c.past.sent ≤ length p.sent → Goes c (put c p jobs id b)
   put_goes p jobs same more = record {
-    live = λ n h. live_here n (n == id) refl (subst IsSome (ap₂ (λ (s : set.FinSet nat_cmp) (o : Option BookState). live (set.contains s n) o) same (get-insert c.books id b n)) h);
+    live = λ n h.
+        let alike = ap₂ (λ (s : set.FinSet nat_cmp) (o : Option BookState). live (set.contains s n) o) same (get-insert c.books id b n) in
+        live_here n (n == id) refl (subst IsSome alike h);
     sent = more;
   }
 
@@ -61,11 +60,14 @@ module _ (c : ClusterState) where
   crash_goes id (Some b) y h = subst (λ (z : ClusterStep × ClusterState). Goes c z.1) (same_answer _ y h) (record { live = stays; sent = omega arith })
     where
       stays : (n : ℕ) → IsSome (live (set.contains (set.insert c.past.crashed id) n) (fin.get c.books n)) → IsSome (live_at c n)
-      stays n l = not_stopped (n == id) (set.contains c.past.crashed n) (fin.get c.books n) (subst (λ (s : Bool). IsSome (live s (fin.get c.books n))) (contains-insert c.past.crashed id n) l)
+      stays n l =
+          let o = fin.get c.books n in
+          not_stopped (n == id) (set.contains c.past.crashed n) o (subst (λ (s : Bool). IsSome (live s o)) (contains-insert c.past.crashed id n) l)
 
   -- the book of a live node accepted a call
-  call_goes : {A : Type 0} (id : ℕ) (next : A → BookState → ClusterStep × ClusterState) (call : BookState → Result (A × BookState) Reason) (y : ClusterStep × ClusterState)
-      → ((x : BookState) → live_at c id ≡ Some x → (a : A) (b : BookState) → Goes c (next a b).1) → at_node c id (λ b. lift next (call b)) ≡ Ok y → Goes c y.1
+  call_goes : {A : Type 0} (id : ℕ) (next : A → BookState → ClusterStep × ClusterState) (call : BookState → Result (A × BookState) Reason)
+      (y : ClusterStep × ClusterState) → ((x : BookState) → live_at c id ≡ Some x → (a : A) (b : BookState) → Goes c (next a b).1)
+      → at_node c id (λ b. lift next (call b)) ≡ Ok y → Goes c y.1
   call_goes id next call y goes h = let k = call-ok c id next call y h in subst (Goes c) k.is (goes k.book k.live k.answer.0 k.answer.1)
 
   -- these messages were sent
@@ -81,7 +83,8 @@ module _ (c : ClusterState) where
 
   deliver_goes : (number id : ℕ) (o : Option Message) (y : ClusterStep × ClusterState) → at_node c id (λ b. delivered_as c number id b o) ≡ Ok y → Goes c y.1
   deliver_goes number id None y h = absurd (no_refusal _ y (at-ok c id (λ b. delivered_as c number id b None) y h).gives)
-  deliver_goes number id (Some m) y h = call_goes id (delivers c number id) (λ b. book.delivered b m) y (λ x at a b. put_goes c id x at b _ _ refl (more a.outs)) h
+  deliver_goes number id (Some m) y h =
+      call_goes id (delivers c number id) (λ b. book.delivered b m) y (λ x at a b. put_goes c id x at b _ _ refl (more a.outs)) h
 
   finish_goes : (ran : Ran) (o : Option Job) (y : ClusterStep × ClusterState) → finished c ran o ≡ Ok y → Goes c y.1
   finish_goes ran None y h = absurd (no_refusal _ y h)

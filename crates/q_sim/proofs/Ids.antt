@@ -1,6 +1,5 @@
 -- Ids that rise, and one more among them.
-use Rattle.std.proofs.Common.{◌≡◌, inl, inr, ℕ, zero, suc, ◌<◌, ◌≤◌, List, [], ◌∷◌, length, refl, sym, ap, ◌∙◌, subst, arith}
-use Rattle.std.specs.Prelude.{slice_index, Ok, Err, Result}
+use Rattle.std.proofs.Common.{◌≡◌, inl, inr, ℕ, zero, suc, ◌<◌, ◌≤◌, List, [], ◌∷◌, length, refl, sym, ap, ◌∙◌, subst, arith, slice_index, Ok, Err, Result}
 use Rattle.std.specs.List.{insert}
 use Rattle.std.specs.Ordering.{nat_cmp}
 use Rattle.std.specs.List.Sorted.{IsBinarySearchResult}
@@ -44,7 +43,8 @@ above_more low id (n ∷ ns) h a =
     elim (cases_order id n) [
       | inl same ↦ subst (AreAbove low) (sym (same_id id n ns same)) a
       | inr (inl less) ↦ subst (AreAbove low) (sym (before id n ns less)) (cons_above low id (n ∷ ns) h a)
-      | inr (inr more) ↦ subst (AreAbove low) (sym (behind id n ns more)) (cons_above low n (with_id id ns) (a 0 (omega arith)) (above_more low id ns h (λ k l. a (suc k) (omega arith))))
+      | inr (inr more) ↦ subst (AreAbove low) (sym (behind id n ns more))
+          (cons_above low n (with_id id ns) (a 0 (omega arith)) (above_more low id ns h (λ k l. a (suc k) (omega arith))))
     ]
 
 -- with one more they rise
@@ -53,8 +53,10 @@ still_rise id [] r = rise_cons id [] (λ k l. absurd (omega arith)) r
 still_rise id (n ∷ ns) r =
     elim (cases_order id n) [
       | inl same ↦ subst Rises (sym (same_id id n ns same)) r
-      | inr (inl less) ↦ subst Rises (sym (before id n ns less)) (rise_cons id (n ∷ ns) (cons_above id n ns less (λ k l. let x = first_above n ns r k l in omega (arith, x, less))) r)
-      | inr (inr more) ↦ subst Rises (sym (behind id n ns more)) (rise_cons n (with_id id ns) (above_more n id ns more (first_above n ns r)) (still_rise id ns (later n ns r)))
+      | inr (inl less) ↦ subst Rises (sym (before id n ns less))
+          (rise_cons id (n ∷ ns) (cons_above id n ns less (λ k l. let x = first_above n ns r k l in omega (arith, x, less))) r)
+      | inr (inr more) ↦ subst Rises (sym (behind id n ns more))
+          (rise_cons n (with_id id ns) (above_more n id ns more (first_above n ns r)) (still_rise id ns (later n ns r)))
     ]
 
 between : (ids : List ℕ) (place id : ℕ) → place ≤ length ids → ((k : ℕ) → k < place → slice_index ids k < id)

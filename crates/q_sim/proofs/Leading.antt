@@ -1,6 +1,6 @@
 -- Each line of a script leads to its next cluster by accepted events, and a line that was refused stays told.
-use Rattle.std.proofs.Common.{◌≡◌, inl, inr, ℕ, zero, suc, Bool, true, false, List, [], ◌∷◌, ◌++◌, Option, Some, None, refl, sym, ap, ◌∙◌, subst, Result, Ok, Err, string_bytes}
-use Rattle.std.specs.Prelude.{if◌then◌else◌}
+use Rattle.std.proofs.Common.{◌≡◌, inl, inr, ℕ, zero, suc, Bool, true, false, List, [], ◌∷◌, ◌++◌, Option, Some, None, refl, sym, ap, ◌∙◌, subst}
+use Rattle.std.specs.Prelude.{if◌then◌else◌, Result, Ok, Err, string_bytes}
 use Rattle.sc_members.specs.Members.{Config}
 use Rattle.sc_msg.specs.declared.version.Version.{Version}
 use Rattle.reasons.specs.declared.Reason.{Reason}
@@ -15,29 +15,22 @@ use Rattle.q_desk.specs.declared.journal.Call.TheVariants as call
 use Rattle.q_history.specs.declared.event.ClusterEvent.TheVariants as event
 use Rattle.q_history.specs.declared.event.ClusterStep.{ClusterStep}
 use Rattle.q_history.specs.Headline.{ClusterState}
-use Rattle.q_history.specs.Calls.{Reaches, Takes}
+use Rattle.q_history.specs.Calls.{Reaches}
 use Rattle.q_history.specs.Clusters.{start}
 use Rattle.q_history.proofs.Histories.{reaches_on}
 use Rattle.q_cluster.specs.Acts.{book_at}
+use Rattle.q_cluster.proofs.Histories.{Leads, event_leads}
 use Rattle.q_told.specs.declared.refusal.RefusedLine.{RefusedLine}
 use Rattle.q_told.specs.declared.refusal.Refusal.{Refusal}
 use Rattle.q_told.specs.declared.refusal.Refusal.TheVariants.{FileFailed, Cluster, OutOfMemory}
-use Rattle.q_sim.specs.Simulates.{SimState, Writing, at_next_line, is_any, no_such_node, refusing, or_refused, with_fault, Acts, Registers, Tries, DeliversAll, SavesAny, Does, Plays}
-
--- some accepted events lead from one cluster to another
-abbrev pub Leads : ClusterState → ClusterState → Type 0
-Leads c d = (es : List ClusterEvent) × Reaches c es d
+use Rattle.q_sim.specs.Simulates.{SimState, Writing, at_next_line, is_any, no_such_node, refusing, or_refused, with_fault}
+use Rattle.q_sim.specs.Simulates.{Acts, Registers, Tries, DeliversAll, SavesAny, Does, Plays}
 
 pub leads_itself : (c : ClusterState) → Leads c c
 leads_itself c = ([], refl)
 
 pub leads_on : (a b c : ClusterState) → Leads a b → Leads b c → Leads a c
 leads_on a b c h k = (h.0 ++ k.0, reaches_on h.0 k.0 a b c h.1 k.1)
-
--- an event that is taken or refused
-takes_leads : (c d : ClusterState) (e : ClusterEvent) (r : Result ClusterStep Reason) → Takes c e d r → Leads c d
-takes_leads c d e (Ok told) h = (e ∷ [], (told, d, h, refl))
-takes_leads c d e (Err f) h = subst (Leads c) (sym h.0) (leads_itself c)
 
 -- ---- one state to another
 
@@ -61,18 +54,20 @@ led_refusing s t r same = subst (IsLed s) (sym same) (record { leads = leads_its
 led_next : (s : SimState) → IsLed s (at_next_line s)
 led_next s = record { leads = leads_itself s.cluster; refused = λ h. h }
 
-led_on : (s t u : SimState) → IsLed s t → IsLed t u → IsLed s u
-led_on s t u h k = record { leads = leads_on s.cluster t.cluster u.cluster h.leads k.leads; refused = λ told. k.refused (h.refused told) }
+led_on : {s t u : SimState} → IsLed s t → IsLed t u → IsLed s u
+led_on {s} {t} {u} h k = record { leads = leads_on s.cluster t.cluster u.cluster h.leads k.leads; refused = λ told. k.refused (h.refused told) }
 
 still_refused : (line : ℕ) (r : Result ClusterStep Reason) (faults : List RefusedLine) → is_any faults ≡ true → is_any (or_refused line r faults) ≡ true
 still_refused line (Ok told) faults h = h
 still_refused line (Err f) faults h = any_with faults line (Cluster f)
 
 pub acts_led : (e : ClusterEvent) (s : SimState) (text : List ℕ) (t : SimState) → Acts e s text t → IsLed s t
-acts_led e s text t h = record { leads = takes_leads s.cluster t.cluster e h.result h.takes; refused = λ told. ap is_any h.faults ∙ still_refused s.line h.result s.faults told }
+acts_led e s text t h =
+    record { leads = event_leads s.cluster e t.cluster h.result h.takes; refused = λ told. ap is_any h.faults ∙ still_refused s.line h.result s.faults told }
 
 tries_led : (s : SimState) (message node : ℕ) (t : SimState) → Tries s message node t → IsLed s t
-tries_led s message node t h = record { leads = takes_leads s.cluster t.cluster (event.Deliver message node) h.result h.takes; refused = λ told. ap is_any h.faults ∙ told }
+tries_led s message node t h =
+    record { leads = event_leads s.cluster (event.Deliver message node) t.cluster h.result h.takes; refused = λ told. ap is_any h.faults ∙ told }
 
 registers_led : (node : ℕ) (code : List ℕ) (s : SimState) (text : List ℕ) (t : SimState) → Registers node code s text t → IsLed s t
 registers_led node code s text t h = elim h [ inl a ↦ acts_led (event.Call node (call.Register a.0)) s text t a.2 | inr r ↦ led_refusing s t r.0 r.2 ]
@@ -82,7 +77,7 @@ delivers_led zero s text t h = led_itself s t h.0
 delivers_led (suc n) s text t h = elim h [
   | inl none ↦ led_itself s t none.1
   | inr (inl wants) ↦ led_refusing s t OutOfMemory wants.1
-  | inr (inr d) ↦ led_on s d.2 t (tries_led s d.0 d.1 d.2 d.4) (delivers_led n d.2 text t d.5)
+  | inr (inr d) ↦ led_on (tries_led s d.0 d.1 d.2 d.4) (delivers_led n d.2 text t d.5)
 ]
 
 saves_led : {F : Type 0} (writes : Writing F) (book : Option BookState) (name : List ℕ) (s : SimState) (before : F) (text : List ℕ) (t : SimState) (after : F)
@@ -106,7 +101,8 @@ does_led writes event s before text t after h = acts_led _ s text t h.0
 pub plays_led : {F : Type 0} (writes : Writing F) (ls : List ScriptLine) (s : SimState) (before : F) (text : List ℕ) (t : SimState) (after : F)
     → Plays writes ls s before text t after → IsLed s t
 plays_led writes [] s before text t after p = led_itself s t p.0
-plays_led writes (l ∷ ls) s before text t after p = led_on s p.0 t (led_on s (at_next_line s) p.0 (led_next s) (does_led writes l (at_next_line s) before p.2 p.0 p.1 p.4)) (plays_led writes ls p.0 p.1 p.3 t after p.5)
+plays_led writes (l ∷ ls) s before text t after p =
+    led_on (led_on (led_next s) (does_led writes l (at_next_line s) before p.2 p.0 p.1 p.4)) (plays_led writes ls p.0 p.1 p.3 t after p.5)
 
 -- founders that are not refused are those of the first cluster
 pub founded-ok : (version : Version) (config : Config) (ids : List ℕ) (are : Bool) (c : ClusterState)

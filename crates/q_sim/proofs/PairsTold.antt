@@ -1,6 +1,5 @@
 -- The lines of a cluster's pairs.
-use Rattle.std.proofs.Common.{◌≡◌, List, ℕ, ◌++◌, refl, subst}
-use Rattle.std.specs.Prelude.{Result, Ok, Err, OnOk}
+use Rattle.std.proofs.Common.{◌≡◌, List, ℕ, ◌++◌, refl, subst, Result, Ok, Err, OnOk}
 use Rattle.sc_world.specs.declared.op.Op.{Op}
 use Rattle.q_told.specs.Printing.{TellsPairs, AddsPairs, pairs_of}
 use Rattle.q_sim.specs.Simulates.{SimState, Tells}

@@ -1,5 +1,5 @@
 -- A job that is finished tells an answer that its cluster recorded.
-use Rattle.std.proofs.Common.{◌≡◌, ℕ, zero, suc, List, [], ◌∷◌, Option, Some, None, refl, sym, ap, ◌∙◌, subst, slice_get, slice_set, Result, Ok, Err}
+use Rattle.std.proofs.Common.{◌≡◌, ℕ, List, Option, Some, None, refl, sym, ap, ◌∙◌, subst, slice_get, Result, Ok, Err}
 use Rattle.std.specs.FinMap as fin
 use Rattle.sc_view.specs.Views.{ViewMap}
 use Rattle.sc_world.proofs.Finite.{get-insert_same}
@@ -11,6 +11,7 @@ use Rattle.q_session.specs.declared.job.Job.{Job}
 use Rattle.q_desk.specs.State.{DeskState}
 use Rattle.q_desk.specs.Desks as desks
 use Rattle.q_desk.proofs.Accepted.{answered as with_answer, posted-ok}
+use Rattle.q_desk.proofs.Lists.{get-same}
 use Rattle.q_book.specs.State.{BookState}
 use Rattle.q_book.specs.Books as book
 use Rattle.reasons.specs.declared.Reason.{Reason}
@@ -35,17 +36,12 @@ pub record IsRecorded (stepped : ClusterStep) (c : ClusterState) : Type 0 where
   pub number : slice_get book.desk.queries query ≡ Some asked
   pub answered : asked.phase ≡ Answered view ran
 
-written : {X : Type 0} (xs : List X) (k : ℕ) (old new : X) → slice_get xs k ≡ Some old → slice_get (slice_set xs k new) k ≡ Some new
-written [] k old new h = absurd (cc)
-written (x ∷ xs) zero old new h = refl
-written (x ∷ xs) (suc k) old new h = written xs k old new h
-
 -- the query is there with its answer
 now_answered : (queries : List Query) (k : ℕ) (old : Query) (view : ViewMap) (ran : Ran) → slice_get queries k ≡ Some old
     → slice_get (desks.with_phase queries k (Answered view ran)) k ≡ Some (record old { phase = Answered view ran })
 now_answered queries k old view ran at =
     ap (λ (o : Option Query). slice_get (desks.in_phase queries k (Answered view ran) o) k) at
-    ∙ written queries k old (record old { phase = Answered view ran }) at
+    ∙ get-same queries k old (record old { phase = Answered view ran }) at
 
 -- its node's book recorded it
 posted_recorded : (c : ClusterState) (ran : Ran) (j : Job) (x : BookState) (r : Result (Unit {0} × BookState) Reason) (y : ClusterStep × ClusterState)

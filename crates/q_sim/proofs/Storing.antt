@@ -76,7 +76,8 @@ module _ (c : ClusterState) (id : ℕ) where
     by_its_book value e says =
         let crashed = set.contains c.past.crashed id in
         let there = is_there crashed b (ap (λ (o : Option BookState). is_some (live crashed o)) is ∙ lives) in
-        ap (λ (o : Option BookState). by_book o (called c id (call.Store value))) (ap (live crashed) (sym is) ∙ there.1) ∙ ap (λ (r : Result (Begun × BookState) Reason). lift (replies c id) (mapped (reply.Stored value) r)) (says there.0)
+        ap (λ (o : Option BookState). by_book o (called c id (call.Store value))) (ap (live crashed) (sym is) ∙ there.1)
+        ∙ ap (λ (r : Result (Begun × BookState) Reason). lift (replies c id) (mapped (reply.Stored value) r)) (says there.0)
 
     pub before_it_joined : b.node.joined ≡ false → RefusesLonger c id reasons.NotJoined
     before_it_joined out value ran over = by_its_book value reasons.NotJoined (λ here. not_joined value over b here out)

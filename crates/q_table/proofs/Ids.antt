@@ -1,5 +1,6 @@
 -- Ids of texts: the index of the bytes of a text among the entries, and what registering one comes to.
-use Rattle.std.proofs.Common.{◌≡◌, ℕ, zero, suc, ◌+◌, ◌<◌, ◌≤◌, true, false, cond, nat_lt, List, [], ◌∷◌, ◌++◌, length, map, position, slice_get, Option, Some, None, is_some, Ok, Err, Vec, Global, refl, sym, ap, subst, ◌∙◌, length-append, inl, inr, ◌⊎◌, not, arith}
+use Rattle.std.proofs.Common.{◌≡◌, ℕ, zero, suc, ◌+◌, ◌<◌, ◌≤◌, true, false, cond, not, Vec, Global, refl, sym, ap, subst, ◌∙◌, length-append, inl, inr, ◌⊎◌, arith}
+use Rattle.std.specs.Prelude.{nat_lt, List, [], ◌∷◌, ◌++◌, length, map, position, slice_get, Option, Some, None, is_some, Ok, Err}
 use Rattle.std.proofs.lemmas.List.{length-map, map-append}
 use Rattle.std.proofs.lemmas.List.Sums.{fails_before_first}
 use Rattle.std.proofs.lemmas.Option.{none-some, slice_get_within, get_or_from_slice_get}
@@ -40,13 +41,14 @@ index-is es bytes text b s =
     λ j. cond (nat_lt (place j) (count j)) (Some (place j)) None
 
 -- so a look-up answers the id
-pub found-is : (es : Entries) (programs : List Certificate) (bytes : List ℕ) (t text : List Insn) (r : Option ℕ) → programs_of es ≡ programs
-    → AreSpelled (spelled_of es) → bytes ≡ spelling t → t ≡ text → r ≡ position (λ k. bytes_eq bytes k.items) (keys_of es) → id_of programs text ≡ r
-found-is es programs bytes t text r is s b same at =
-    sym (at ∙ index-is es bytes text (b ∙ ap spelling same) s ∙ ap (λ p. id_of p text) is)
+pub found-is : (es : Entries) {programs : List Certificate} {bytes : List ℕ} {c d : Certificate} {r : Option ℕ} → programs_of es ≡ programs
+    → AreSpelled (spelled_of es) → bytes ≡ spelling d.text → d ≡ c → r ≡ position (λ k. bytes_eq bytes k.items) (keys_of es)
+    → id_of programs c.text ≡ r
+found-is es {bytes = bytes} {c = c} is s b same at =
+    sym (at ∙ index-is es bytes c.text (b ∙ ap (λ x. spelling x.text) same) s ∙ ap (λ p. id_of p c.text) is)
 
-pub count-is : (es : Entries) (programs : List Certificate) → programs_of es ≡ programs → length programs ≡ length es
-count-is es programs is = ap length (sym is) ∙ length-map es _
+pub count-is : (es : Entries) {programs : List Certificate} → programs_of es ≡ programs → length programs ≡ length es
+count-is es is = ap length (sym is) ∙ length-map es _
 
 -- ---- what registering comes to
 
@@ -132,10 +134,10 @@ pub record HasGrown (programs : List Certificate) (c : Certificate) (es : Entrie
   pub table : IsTable (programs_of es)
   pub spelled : AreSpelled (spelled_of es)
 
-pub grown : (es new : Entries) (programs : List Certificate) (k : Vec ℕ Global) (c d : Certificate) → programs_of es ≡ programs
+pub grown : (es : Entries) {new : Entries} {programs : List Certificate} (k : Vec ℕ Global) {c d : Certificate} → programs_of es ≡ programs
     → IsTable (programs_of es) → AreSpelled (spelled_of es) → id_of programs c.text ≡ None → length programs < 1024 → k.items ≡ spelling c.text
     → d ≡ c → new ≡ es ++ (k, d) ∷ [] → HasGrown programs c new
-grown es new programs k c d is table spelled absent room bytes same e =
+grown es {new} {programs} k {c} is table spelled absent room bytes same e =
     let entries : new ≡ es ++ (k, c) ∷ [] = e ∙ ap (λ x. es ++ (k, x) ∷ []) same in
     let all : programs_of new ≡ programs ++ c ∷ [] = ap programs_of entries ∙ map-append (λ x. x.1) es ((k, c) ∷ []) ∙ ap (λ x. x ++ c ∷ []) is in
     record {

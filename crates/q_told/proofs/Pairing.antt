@@ -43,13 +43,15 @@ pub unpaired : (is : Op → Op → Bool) (s : Op) (ops more : List Op) (c : Op) 
     → AddsPairs (pairs_with is s ops) x y → AddsPairs (pairs_with is s more) x y
 unpaired is s ops more c x y e untold p =
     subst (λ ps. AddsPairs ps x y)
-    (sym (ap (pairs_with is s) e ∙ with_one_more is s ops c ∙ ap (λ b. pairs_with is s ops ++ map (λ d. (s, d)) (cond b (c ∷ []) [])) untold ∙ append-nil (pairs_with is s ops))) p
+    (sym (ap (pairs_with is s) e ∙ with_one_more is s ops c ∙ ap (λ b. pairs_with is s ops ++ map (λ d. (s, d)) (cond b (c ∷ []) [])) untold
+    ∙ append-nil (pairs_with is s ops))) p
 
 -- ---- the pairs of each operation
 
 pub one_more_store : (is : Op → Op → Bool) (all ops more : List Op) (s : Op) (x y z : List ℕ) → more ≡ ops ++ s ∷ []
     → AddsPairs (flat_map (λ s. pairs_with is s all) ops) x y → AddsPairs (pairs_with is s all) y z → AddsPairs (flat_map (λ s. pairs_with is s all) more) x z
 one_more_store is all ops more s x y z e p q =
+    let pairs : Op → List (Op × Op) = λ s. pairs_with is s all in
     subst (λ ps. AddsPairs ps x z)
-    (sym (ap (flat_map (λ s. pairs_with is s all)) e ∙ flat_map-append (λ s. pairs_with is s all) ops (s ∷ []) ∙ ap (λ ps. flat_map (λ s. pairs_with is s all) ops ++ ps) (append-nil (pairs_with is s all))))
-    (more_pairs (flat_map (λ s. pairs_with is s all) ops) (pairs_with is s all) x y z p q)
+    (sym (ap (flat_map pairs) e ∙ flat_map-append pairs ops (s ∷ []) ∙ ap (λ ps. flat_map pairs ops ++ ps) (append-nil (pairs s))))
+    (more_pairs (flat_map pairs ops) (pairs s) x y z p q)

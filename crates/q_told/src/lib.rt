@@ -10,8 +10,8 @@
 //! - [`print_pairs`] and [`print_ended_pairs`] print where stores and collects met.
 //! - [`certified_code`] and [`certified_text`] make programs with their certificates, of bytes and of instructions:
 //!   with the least notes that pass, or refused with what decoding and then the verifier refuse, or with 99.
-//! - [`write_refused_line`] tells a person of a line of a script that was refused: it takes memory, and no contract
-//!   speaks of its words.
+//! - [`write_refused_line`] tells a person of a line of a script that was refused, and [`write_instruction`] which
+//!   instruction of a program is: they take memory, and no contract speaks of their words.
 //!
 //! Each other contract of a line says what is written, to the last byte, by `specs/Printing`, `Refusal` and `Line`;
 //! which programs get a certificate, and why one is refused, is `specs/Programs`.
@@ -33,4 +33,4 @@ pub use meetings::{print_ended_pairs, print_pairs};
 pub use printing::{print_messages, print_told};
 pub use program::{certified_code, certified_text};
 pub use refusal::{Refusal, RefusalPlace, RefusedLine};
-pub use refused_line::write_refused_line;
+pub use refused_line::{write_instruction, write_refused_line};

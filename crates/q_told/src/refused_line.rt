@@ -15,8 +15,21 @@ fn code_of(alloc: Global, text: &str) -> Result<Vec<u8>, AllocError> {
     }
 }
 
-/// Writes what is told, if anything is.
-fn write_any(out: &mut String, told: Option<String>) -> Result<(), AllocError> {
+/// Writes which instruction of the program of these bytes is refused, with what is known there; nothing of a refusal that
+/// is of no program.
+///
+/// The one error is that memory ran out (99 OutOfMemory); a part may have been written then.
+pub fn write_instruction(
+    alloc: Global,
+    out: &mut String,
+    code: &[u8],
+    refusal: &Refusal,
+) -> Result<(), AllocError> {
+    let told = match refusal {
+        Refusal::Program(fault) => explain_code(alloc, code, Bounds::all(), *fault)?,
+        Refusal::Bytes(fault) => explain_bytes(alloc, code, *fault)?,
+        _ => None,
+    };
     match told {
         Some(told) => out.push_str(told.as_str()),
         None => Ok(()),
@@ -31,15 +44,9 @@ fn write_reason(
     refusal: &Refusal,
 ) -> Result<(), AllocError> {
     match refusal {
-        Refusal::Program(fault) => {
+        Refusal::Program(_) | Refusal::Bytes(_) => {
             let code = code_of(alloc, text)?;
-            let told = explain_code(alloc, code.as_slice(), Bounds::all(), *fault)?;
-            write_any(out, told)
-        }
-        Refusal::Bytes(fault) => {
-            let code = code_of(alloc, text)?;
-            let told = explain_bytes(alloc, code.as_slice(), *fault)?;
-            write_any(out, told)
+            write_instruction(alloc, out, code.as_slice(), refusal)
         }
         refusal => {
             let words = of_event(refusal.reason());

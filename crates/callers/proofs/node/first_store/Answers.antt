@@ -23,4 +23,5 @@ pub returns-clause-view : goal.returns-clause-view
 returns-clause-view c =
     let value = c.args.value.now in
     let n = c.in_ok-node.node in
-    sym (view_is n c.begin_store.new.self value c.in_ok-begun.begun c.in_ok-begun.ensures) ∙ ap (λ (x : NodeState). stored_view x value) (sym (founder_is c.args.config c.args.id (c.args.id ∷ []) n c.in_ok-node.ensures))
+    sym (view_is n c.begin_store.new.self value c.in_ok-begun.begun c.in_ok-begun.ensures)
+    ∙ ap (λ (x : NodeState). stored_view x value) (sym (founder_is c.args.config c.args.id (c.args.id ∷ []) n c.in_ok-node.ensures))

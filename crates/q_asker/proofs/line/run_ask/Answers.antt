@@ -1,4 +1,5 @@
 -- run_ask: `ask PROGRAM START`: where the node takes the query, its answer is asked for.
+use Rattle.std.proofs.Common.{◌∙◌}
 use Rattle.q_net.specs.declared.request.Request.TheVariants as request
 use Rattle.q_asker.specs.declared.script.ClientLine.TheVariants as line
 use Rattle.q_asker.proofs.Running.{line_asked, line_stop, takes_some}
@@ -10,5 +11,6 @@ returns-in_err-said-clause-steps g c =
 
 pub returns-in-Some-number_in-clause-steps : goal.returns-in-Some-number_in-clause-steps
 returns-in-Some-number_in-clause-steps g c =
-    let takes = takes_some (request.Ask c.program_number.result c.args.start) _ _ c.in_ok-said.field-0 c.in-Some.said c.in-Some.is c.in_ok-said.ensures.steps in
-    line_asked c.args.program c.args.start c.program_number.result c.in-Some-number_in.query c.in-Some.said _ _ _ c.look.result c.program_number.ensures takes.0 c.in-Some-number_in.ensures takes.1 c.look.ensures.steps
+    let takes = takes_some (request.Ask c.number.result c.args.start) _ _ c.in_ok-said.field-0 c.in-Some.said c.in-Some.is c.in_ok-said.ensures.steps in
+    line_asked c.args.program c.args.start c.number.result c.in-Some-number_in.query c.in-Some.said _ _ _ c.look.result
+    (c.number.ensures ∙ c.of_number.ensures) takes.0 c.in-Some-number_in.ensures takes.1 c.look.ensures.steps

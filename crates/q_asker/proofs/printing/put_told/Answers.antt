@@ -19,7 +19,8 @@ pub returns-in-Program-clause-written : goal.returns-in-Program-clause-written
 returns-in-Program-clause-written g c =
     let n = c.in-Program.program in
     let line = ap (λ (l : List ℕ). codes "program " ++ l) (sym (append_assoc (decimal n) [] (10 ∷ []))) in
-    told c.put_all.result c.args.request.now c.args.said (reply.Program n) (codes "program " ++ (decimal n ++ 10 ∷ [])) _ _ c.in-Program.is line (rw c.from.ensures at c.put_all.ensures.written)
+    told c.put_all.result c.args.request.now c.args.said (reply.Program n) (codes "program " ++ (decimal n ++ 10 ∷ [])) _ _ c.in-Program.is line
+    (rw c.from.ensures at c.put_all.ensures.written)
 
 pub returns-in-Number-clause-written : goal.returns-in-Number-clause-written
 returns-in-Number-clause-written g c =
@@ -41,5 +42,6 @@ returns-in-Answer-clause-written g c =
     let acc = c.in-Answer.acc in
     let steps = c.in-Answer.steps in
     let line = ap (λ (l : List ℕ). codes "answer " ++ l) (three (decimal id) (decimal acc) (decimal steps)) in
-    told c.put_all-in-Answer.result q c.args.said (reply.Answer acc steps) (codes "answer " ++ (decimal id ++ (32 ∷ (decimal acc ++ (32 ∷ (decimal steps ++ 10 ∷ [])))))) _ _ c.in-Answer.is line
+    told c.put_all-in-Answer.result q c.args.said (reply.Answer acc steps)
+    (codes "answer " ++ (decimal id ++ (32 ∷ (decimal acc ++ (32 ∷ (decimal steps ++ 10 ∷ [])))))) _ _ c.in-Answer.is line
     (rw c.query_of.ensures at c.put_all-in-Answer.ensures.written)

@@ -7,7 +7,9 @@ use Rattle.q_net.proofs.Reading.{got_some}
 use Rattle.q_asker.proofs.replies.read_number.Goals as goal
 
 pub returns-in-Some-clause-read : goal.returns-in-Some-clause-read
-returns-in-Some-clause-read g c = (search rules, (number_bytes 8 c.in-Some.number, got_some (number_bytes 8) 8 _ _ c.in_ok-number.field-0 c.in-Some.number c.in-Some.is c.in_ok-number.ensures.read, refl))
+returns-in-Some-clause-read g c =
+    let read = got_some (number_bytes 8) 8 _ _ c.in_ok-number.field-0 c.in-Some.number c.in-Some.is c.in_ok-number.ensures.read in
+    (search rules, (number_bytes 8 c.in-Some.number, read, refl))
 
 pub returns-in-None-clause-read : goal.returns-in-None-clause-read
 returns-in-None-clause-read g c = none_accepted kind.Number (number_bytes 8) _ _ _ c.in-None.is c.in_ok-number.ensures.read

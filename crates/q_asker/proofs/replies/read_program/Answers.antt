@@ -7,7 +7,9 @@ use Rattle.q_net.proofs.Reading.{got_some}
 use Rattle.q_asker.proofs.replies.read_program.Goals as goal
 
 pub returns-in-Some-clause-read : goal.returns-in-Some-clause-read
-returns-in-Some-clause-read g c = (search rules, (number_bytes 4 c.in-Some.program, got_some (number_bytes 4) 4 _ _ c.in_ok-program.field-0 c.in-Some.program c.in-Some.is c.in_ok-program.ensures.read, refl))
+returns-in-Some-clause-read g c =
+    let read = got_some (number_bytes 4) 4 _ _ c.in_ok-program.field-0 c.in-Some.program c.in-Some.is c.in_ok-program.ensures.read in
+    (search rules, (number_bytes 4 c.in-Some.program, read, refl))
 
 pub returns-in-None-clause-read : goal.returns-in-None-clause-read
 returns-in-None-clause-read g c = none_accepted kind.Program (number_bytes 4) _ _ _ c.in-None.is c.in_ok-program.ensures.read

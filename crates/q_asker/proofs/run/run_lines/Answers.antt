@@ -21,11 +21,13 @@ returns-in-Err-clause-steps g c =
     let line = c.line-item.result in
     let (steps, of, moves, clean) = c.loop-line.invariant.0 in
     let split = pieces_at lines (take i lines) i line refl c.loop-line-test.true c.line-item.is in
-    halted lines c.in-Err.halted c.halt.result _ _ _ (lines_stop (take i lines) lines (drop (i + 1) lines) line c.in-Err.halted steps _ _ _ split of moves c.in-Err.ensures.steps) c.halt.ensures.written
+    let stop = lines_stop (take i lines) lines (drop (i + 1) lines) line c.in-Err.halted steps _ _ _ split of moves c.in-Err.ensures.steps in
+    halted lines c.in-Err.halted c.halt.result _ _ _ stop c.halt.ensures.written
 
 pub returns-in-Err-clause-counted : goal.returns-in-Err-clause-counted
 returns-in-Err-clause-counted g c =
-    halted_count LineEnd c.in-Err.halted c.halt.result _ _ _ _ _ c.in-Err.ensures.counted c.halt.ensures.written c.halt.ensures.counted ∙ ap (failures_after c.halt.result) c.loop-line.invariant.1
+    halted_count LineEnd c.in-Err.halted c.halt.result _ _ _ _ _ c.in-Err.ensures.counted c.halt.ensures.written c.halt.ensures.counted
+    ∙ ap (failures_after c.halt.result) c.loop-line.invariant.1
 
 pub loop-line-preserved : goal.loop-line-preserved
 loop-line-preserved g c =
@@ -33,7 +35,9 @@ loop-line-preserved g c =
     let i = c.loop-line.line-index in
     let line = c.line-item.result in
     let more : take (i + 1) lines ≡ take i lines ++ line ∷ [] = search (rules, take_more) in
-    (lines_more (take i lines) (take (i + 1) lines) line c.loop-line.clean (is_done_end c.in-Ok.end) c.still_clean-clean.result _ _ _ more c.still_clean-clean.ensures c.loop-line.invariant.0 c.in-Ok.ensures.steps, search rules)
+    let run = lines_more (take i lines) (take (i + 1) lines) line c.loop-line.clean (is_done_end c.in-Ok.end) c.still_clean-clean.result _ _ _
+    more c.still_clean-clean.ensures c.loop-line.invariant.0 c.in-Ok.ensures.steps in
+    (run, search rules)
 
 pub returns-clause-steps : goal.returns-clause-steps
 returns-clause-steps g c =

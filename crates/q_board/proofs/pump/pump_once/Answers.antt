@@ -3,10 +3,10 @@ use Rattle.q_board.proofs.Pumping.{pumps, stops_offering, stops_receiving}
 use Rattle.q_board.proofs.pump.pump_once.Goals as goal
 
 pub returns-in-Err : goal.returns-in-Err
-returns-in-Err c = stops_receiving c.args.seat.now c.receive_all.new.seat c.args.book.now c.receive_all.new.book c.in-Err.fault c.in-Err.ensures
+returns-in-Err c = stops_receiving c.in-Err.ensures
 
 pub returns-in-Ok-offer_all : goal.returns-in-Ok-offer_all
-returns-in-Ok-offer_all c = pumps c.args.seat.now c.receive_all.new.seat c.offer_all.new.seat c.args.book.now c.receive_all.new.book c.offer_all.new.book c.in-Ok.posted c.room-room.ensures.row c.in-Ok.ensures c.in-Ok-offer_all.ensures
+returns-in-Ok-offer_all c = pumps c.room-room.ensures.row c.in-Ok.ensures c.in-Ok-offer_all.ensures
 
 pub returns-in-Err-offer_all : goal.returns-in-Err-offer_all
-returns-in-Err-offer_all c = stops_offering c.args.seat.now c.receive_all.new.seat c.offer_all.new.seat c.args.book.now c.receive_all.new.book c.offer_all.new.book c.in-Ok.posted c.in-Err-offer_all.fault c.room-room.ensures.row c.in-Ok.ensures c.in-Err-offer_all.ensures
+returns-in-Err-offer_all c = stops_offering c.room-room.ensures.row c.in-Ok.ensures c.in-Err-offer_all.ensures

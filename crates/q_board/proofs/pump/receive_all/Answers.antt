@@ -1,5 +1,5 @@
 -- receive_all: looks once at each slot that is open, and posts what it receives.
-use Rattle.std.proofs.Common.{◌≡◌, ℕ, ◌+◌, arith, sym, subst}
+use Rattle.std.proofs.Common.{◌≡◌, ◌+◌, arith, sym, subst}
 use Rattle.std.specs.Int.{from_bool}
 use Rattle.q_board.specs.Turns.{Receiving}
 use Rattle.q_board.proofs.Turning.{begins_receiving, polled, from_bool_small}
@@ -13,4 +13,4 @@ loop-place-preserved c = let i = c.loop-place in let p = c.poll_place in let few
     let a = c.args.seat.now in let b = c.args.book.now in
     let r = polled a i.seat p.new.seat b i.book p.new.book i.place i.posted is i.invariant.receiving c.posts_are_noted.ensures.noted c.in-Ok.ensures.polled in
     let one : from_bool is ≡ c.from-posted.result = sym c.from-posted.ensures in
-    record { receiving = subst (λ (n : ℕ). Receiving a b (i.place + 1) (i.posted + n) p.new.seat p.new.book) one r; few = omega (arith, one, from_bool_small is) }
+    record { receiving = subst (λ n. Receiving a b (i.place + 1) (i.posted + n) p.new.seat p.new.book) one r; few = omega (arith, one, from_bool_small is) }

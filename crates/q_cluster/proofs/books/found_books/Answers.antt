@@ -12,6 +12,7 @@ use Rattle.q_cluster.proofs.books.found_books.Goals as goal
 pub returns-in_err-book : goal.returns-in_err-book
 returns-in_err-book c =
     let k = err_from_is_err_and c.from_residual.result c.from_residual.ensures.1 in
+    let has = has_at c.args.founders.now c.loop-id.id-index 0 c.loop-id-test.true in
     subst (λ (r : Result BookMap Reason). Founds memory c.args.version c.args.config c.args.founders.now r)
     (sym (k.1 ∙ ap (λ (x : Reason). let r : Result BookMap Reason = Err x in r) k.2))
-    (found_refused c.args.version c.args.config c.args.founders.now _ c.in_err-book.field-0.0 (has_at c.args.founders.now c.loop-id.id-index 0 c.loop-id-test.true) c.in_err-book.ensures)
+    (found_refused c.args.version c.args.config c.args.founders.now _ c.in_err-book.field-0.0 has c.in_err-book.ensures)

@@ -9,5 +9,6 @@ use Rattle.q_command.proofs.auditor.print_answers.Goals as goal
 
 pub loop-number-preserved : goal.loop-number-preserved
 loop-number-preserved c =
-    more_answers (λ (n : ℕ) (q : Query). answer_line n (answer_in q.phase)) answer_lines (λ n. refl) (λ n q qs. refl) c.args.queries.now c.loop-number.number c.index-queries-number.result (string_bytes c.args.lines.now) (string_bytes c.loop-number.lines) (string_bytes c.print_answer.new.lines)
-    (search (rules, take_more)) (search (rules, length-take)) c.loop-number.invariant c.in_ok-print_answer.ensures
+    more_answers (λ (n : ℕ) (q : Query). answer_line n (answer_in q.phase)) answer_lines (λ n. refl) (λ n q qs. refl) c.args.queries.now c.loop-number.number
+    c.index-queries-number.result (string_bytes c.args.lines.now) (search (rules, take_more)) (search (rules, length-take))
+    c.loop-number.invariant c.in_ok-print_answer.ensures

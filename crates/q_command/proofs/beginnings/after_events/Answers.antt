@@ -13,4 +13,4 @@ pub returns-clause-rest : goal.returns-clause-rest
 returns-clause-rest c =
     let all : c.loop.counter ≡ c.args.count = search rules in
     let last = subst (λ (n : ℕ). IsAfter c.in_ok-version.version c.args.bytes.now n c.loop.rest.now) all c.loop.invariant in
-    λ version rest b. after_one c.one_head.ensures c.one_event.ensures c.in_ok-version.version version c.args.bytes.now c.args.count c.loop.rest.now rest last b
+    λ version rest b. after_one c.one_head.ensures c.one_event.ensures last b

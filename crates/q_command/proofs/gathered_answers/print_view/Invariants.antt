@@ -1,6 +1,6 @@
 use Rattle.std.proofs.Common.{◌≡◌, ◌++◌, flat_map, map, string_bytes}
 use Rattle.q_command.specs.GatheredLines.{store_text}
-use Rattle.q_command.proofs.Viewing.{shown}
+use Rattle.q_session.proofs.Records.{shown}
 use Rattle.q_command.proofs.gathered_answers.print_view.Given as goal
 
 -- the stores so far are printed

@@ -5,5 +5,5 @@ use Rattle.q_command.proofs.gathered_teller.told.Goals as goal
 
 pub returns : goal.returns
 returns c =
-    λ gathers. all_told c.every_gathered_answer_is_true.ensures c.args.cluster.now c.args.books.now c.args.pairs c.ops.result.now (string_bytes c.new-lines.result) (string_bytes c.print_answers.new.lines) (string_bytes c.print_pairs_if.new.lines) (string_bytes c.push_str.new.self)
-    gathers c.ops.ensures.ops c.new-lines.ensures.bytes c.in_ok-print_answers.ensures c.in_ok-print_pairs_if.ensures c.in_ok-push_str.ensures.bytes
+    λ gathers. all_told c.every_gathered_answer_is_true.ensures c.args.pairs (string_bytes c.print_pairs_if.new.lines) gathers c.ops.ensures.ops
+    c.new-lines.ensures.bytes c.in_ok-print_answers.ensures c.in_ok-print_pairs_if.ensures c.in_ok-push_str.ensures.bytes

@@ -1,7 +1,7 @@
 -- unit_lines: the lines of these bytes, eight bytes a line.
 use Rattle.std.proofs.Common.{rules, ◌≡◌, ◌∙◌, ◌<◌, ℕ, [], ◌∷◌, ◌++◌, length, string_bytes, ap, subst, append_assoc}
 use Rattle.hex.specs.Hex.{encode_lower}
-use Rattle.q_command.specs.Listing.{listing_of, unit_line}
+use Rattle.q_command.specs.Listing.{listing_of}
 use Rattle.q_command.proofs.Lines.{no_more, one_more}
 use Rattle.q_command.proofs.lister.unit_lines.Goals as goal
 
@@ -19,10 +19,11 @@ loop-unit-preserved c =
     let steps = c.in-Some.ensures.steps in
     let size : c.next.new.self.size ≡ 8 = steps.0 ∙ c.loop-unit.invariant.0 in
     let digits : string_bytes c.in_ok-digits.digits ≡ encode_lower unit = search rules in
-    let more : string_bytes c.push_str.new.self ≡ before ++ encode_lower unit = c.in_ok-push_str.ensures.bytes ∙ ap (λ l. before ++ l) (c.as_str.ensures.value ∙ digits) in
+    let more = c.in_ok-push_str.ensures.bytes ∙ ap (λ l. before ++ l) (c.as_str.ensures.value ∙ digits) in
     let line : string_bytes c.push.new.self ≡ string_bytes c.push_str.new.self ++ 10 ∷ [] = search rules in
-    let grown : string_bytes c.push.new.self ≡ before ++ unit_line unit = line ∙ ap (λ l. l ++ 10 ∷ []) more ∙ append_assoc before (encode_lower unit) (10 ∷ []) in (
+    let grown = line ∙ ap (λ l. l ++ 10 ∷ []) more ∙ append_assoc before (encode_lower unit) (10 ∷ []) in (
       size,
       ap (λ l. l ++ listing_of rest) grown
-          ∙ one_more before c.loop-unit.unit-iterator.rest.now unit rest (listing_of c.args.bytes.now) steps.1.0 (steps.1.1 ∙ c.loop-unit.invariant.0) c.loop-unit.invariant.1,
+          ∙ one_more before c.loop-unit.unit-iterator.rest.now unit rest (listing_of c.args.bytes.now) steps.1.0 (steps.1.1 ∙ c.loop-unit.invariant.0)
+          c.loop-unit.invariant.1,
     )

@@ -6,4 +6,4 @@ use Rattle.q_command.proofs.Commands.{operand_text}
 use Rattle.q_command.proofs.words.operand_text.Goals as goal
 
 pub returns : goal.returns
-returns c = operand_text c.get_str.result _ c.unwrap_or.result _ (c.get_str.ensures ∙ first_value-rows (found_of c.args.found.now) c.args.name.now) c.unwrap_or.ensures refl
+returns c = operand_text c.get_str.result _ (c.get_str.ensures ∙ first_value-rows (found_of c.args.found.now) c.args.name.now) c.unwrap_or.ensures refl

@@ -7,8 +7,8 @@ use Rattle.q_command.proofs.words.operand_texts.Goals as goal
 
 pub returns-in_ok-from_slice-in-Some-clause-texts : goal.returns-in_ok-from_slice-in-Some-clause-texts
 returns-in_ok-from_slice-in-Some-clause-texts c =
-    texts_found c.get_strs.result c.in-Some.texts _ c.in_ok-from_slice-in-Some.field-0.items (c.get_strs.ensures ∙ raw_values-rows (found_of c.args.found.now) c.args.name.now) c.in-Some.is c.in_ok-from_slice-in-Some.ensures.items
+    texts_found (c.get_strs.ensures ∙ raw_values-rows (found_of c.args.found.now) c.args.name.now) c.in-Some.is c.in_ok-from_slice-in-Some.ensures.items
 
 pub returns-in-None-clause-texts : goal.returns-in-None-clause-texts
 returns-in-None-clause-texts c =
-    texts_missing c.get_strs.result _ c.new.result.items (c.get_strs.ensures ∙ raw_values-rows (found_of c.args.found.now) c.args.name.now) c.in-None.is (search rules)
+    texts_missing c.new.result.items (c.get_strs.ensures ∙ raw_values-rows (found_of c.args.found.now) c.args.name.now) c.in-None.is (search rules)

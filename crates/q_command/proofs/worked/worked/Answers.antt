@@ -7,7 +7,8 @@ use Rattle.bq_insn.specs.Slots.{IsText, spelling}
 use Rattle.bq_insn.specs.declared.insn.Insn.{Insn}
 use Rattle.bq_insn.specs.declared.insn.Insn.TheVariants.{Exit}
 use Rattle.bq_insn.proofs.Unique.{one_text}
-use Rattle.std.proofs.Common.{◌≡◌, ℕ, Bool, true, false, true≢false, List, [], ◌∷◌, ◌++◌, length, length-append, replicate, Option, Some, Ok, Err, refl, ap, sym, ◌∙◌, inl, inr, subst, codes, arith, ◌<◌, ◌≤◌, lit≤, Bor}
+use Rattle.std.specs.Prelude.{Bool, true, false, List, [], ◌∷◌, ◌++◌, length, replicate, Option, Some, Ok, Err}
+use Rattle.std.proofs.Common.{◌≡◌, ℕ, true≢false, length-append, refl, ap, sym, ◌∙◌, inl, inr, subst, codes, arith, ◌<◌, ◌≤◌, lit≤, Bor}
 use Rattle.std.specs.Fmt.{digits}
 use Rattle.hex.proofs.OnLiterals.{hex_on_literals}
 use Rattle.q_outside.specs.Memory.{IsNoneWithin, Reads, Writes, bytes_of, fails_next}

@@ -1,7 +1,6 @@
 -- next_job: the job of the ready query with the least number, of this node; none where no query is ready.
-use Rattle.std.proofs.Common.{◌≡◌, Option, sym, subst, refl}
+use Rattle.std.proofs.Common.{◌≡◌, Option, sym, subst, refl, IfOk}
 use Rattle.std.proofs.lemmas.Option.{slice_get_read}
-use Rattle.std.specs.Prelude.{IfOk}
 use Rattle.q_session.specs.declared.job.Job.{Job}
 use Rattle.q_session.specs.Jobs.{job_of}
 use Rattle.q_desk.specs.Queries.{next_of}
@@ -12,7 +11,8 @@ pub of-requires : goal.of-requires
 of-requires c =
     let at = c.in-Some-get.ensures.lookup in
     let q = c.in-Some-get.query.now in
-    c.requires c.in-Some.number q c.in-Some-get-2.program.now (slice_get_read c.args.queries.now _ c.in-Some.number q refl at.3.0 at.1) (sym c.in-Some-get-2.ensures)
+    let there = slice_get_read c.args.queries.now _ c.in-Some.number q refl at.3.0 at.1 in
+    c.requires c.in-Some.number q c.in-Some-get-2.program.now there (sym c.in-Some-get-2.ensures)
 
 pub returns-in_default-get-2 : goal.returns-in_default-get-2
 returns-in_default-get-2 c =

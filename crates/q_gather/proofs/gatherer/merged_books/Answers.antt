@@ -5,8 +5,8 @@ use Rattle.q_gather.proofs.gatherer.merged_books.Goals as goal
 
 pub take_all-requires : goal.take_all-requires
 take_all-requires c =
-    begins_gathering c.args.books.now c.in_ok-cluster.cluster c.new-gathering.result.cluster c.in_ok-cluster.ensures.ok c.are_replays.ensures c.if-not-are_distinct.ensures c.new-gathering.ensures.cluster
-    c.new-gathering.result.numbers c.new-gathering.ensures.numbers
+    begins_gathering c.args.books.now c.in_ok-cluster.ensures.ok c.are_replays.ensures c.if-not-are_distinct.ensures c.new-gathering.ensures.cluster
+    c.new-gathering.ensures.numbers
 
 pub returns-in_err-cluster-clause-refused : goal.returns-in_err-cluster-clause-refused
 returns-in_err-cluster-clause-refused c =
@@ -16,8 +16,8 @@ returns-in_err-cluster-clause-refused c =
 pub returns-in_err-take_all-clause-refused : goal.returns-in_err-take_all-clause-refused
 returns-in_err-take_all-clause-refused c =
     passed (AreRefused c.args.books.now) c.in_err-take_all.field-0.0 c.from_residual-in_err-take_all.result c.from_residual-in_err-take_all.ensures.1
-    (stuck_on c.args.books.now c.in_ok-cluster.cluster c.in_ok-cluster.ensures.ok c.if-not-are_distinct.ensures c.in_err-take_all.field-0.0 c.in_err-take_all.ensures.err)
+    (stuck_on c.args.books.now c.in_ok-cluster.ensures.ok c.if-not-are_distinct.ensures c.in_err-take_all.field-0.0 c.in_err-take_all.ensures.err)
 
 pub returns-clause-gathers : goal.returns-clause-gathers
 returns-clause-gathers c =
-    gathers_books c.args.books.now c.in_ok-cluster.cluster c.take_all.new.gathering.cluster c.into_cluster.result c.in_ok-cluster.ensures.ok c.if-not-are_distinct.ensures c.in_ok-take_all.ensures.ok c.into_cluster.ensures
+    gathers_books c.args.books.now c.in_ok-cluster.ensures.ok c.if-not-are_distinct.ensures c.in_ok-take_all.ensures.ok c.into_cluster.ensures

@@ -4,5 +4,5 @@ use Rattle.q_gather.proofs.gathering.number_from.Goals as goal
 
 pub loop-number-preserved : goal.loop-number-preserved
 loop-number-preserved c =
-    λ start. numbered_next c.numbers_are_least.ensures.next c.args.cluster.now.past.sent c.loop-number.numbers c.add.new.self c.in-Some.message.now c.loop-number.number c.in-Some.ensures.message
+    λ start. numbered_next c.numbers_are_least.ensures.next c.args.cluster.now.past.sent c.loop-number.numbers c.loop-number.number c.in-Some.ensures.message
     c.in_ok-add.ensures.legal c.in_ok-add.ensures.added (c.loop-number.invariant start)

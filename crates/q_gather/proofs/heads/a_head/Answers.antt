@@ -1,8 +1,7 @@
 -- a_head: what the first book that is a founder's says.
-use Rattle.std.proofs.Common.{◌≡◌, None, refl, sym}
+use Rattle.std.proofs.Common.{refl, sym}
 use Rattle.std.proofs.lemmas.Option.{slice_get_read}
-use Rattle.q_book.specs.State.{BookState}
-use Rattle.q_gather.proofs.Finding.{below_next, all_below}
+use Rattle.q_gather.proofs.Finding.{below_read, all_below}
 use Rattle.q_gather.proofs.heads.a_head.Goals as goal
 
 pub returns-in-Some : goal.returns-in-Some
@@ -17,8 +16,7 @@ returns-in-Some c = record {
 
 pub loop-book-preserved : goal.loop-book-preserved
 loop-book-preserved c =
-    below_next (λ (b : BookState). b.founders ≡ None) c.args.books.now c.loop-book.book-index c.book-item.result c.loop-book.invariant
-    (slice_get_read c.args.books.now _ c.loop-book.book-index c.book-item.result refl c.loop-book-test.true c.book-item.is) (sym c.in_default.ensures.founders)
+    below_read _ c.args.books.now c.loop-book.book-index c.loop-book.invariant c.loop-book-test.true c.book-item.is (sym c.in_default.ensures.founders)
 
 pub returns : goal.returns
-returns c = all_below (λ (b : BookState). b.founders ≡ None) c.args.books.now c.loop-book.book-index c.loop-book.invariant c.loop-book-test.false
+returns c = all_below _ c.args.books.now c.loop-book.book-index c.loop-book.invariant c.loop-book-test.false

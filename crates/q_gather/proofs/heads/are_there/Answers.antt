@@ -8,7 +8,7 @@ use Rattle.q_gather.proofs.heads.are_there.Goals as goal
 
 pub returns-then-not-has_book : goal.returns-then-not-has_book
 returns-then-not-has_book c =
-    λ there. c.if-not-has_book.ensures (there (get_or c.args.founders.now c.loop-id.id-index 0) (has_at c.args.founders.now c.loop-id.id-index 0 c.loop-id-test.true))
+    λ there. c.if-not-has_book.ensures (there _ (has_at c.args.founders.now c.loop-id.id-index 0 c.loop-id-test.true))
 
 pub loop-id-preserved : goal.loop-id-preserved
 loop-id-preserved c =

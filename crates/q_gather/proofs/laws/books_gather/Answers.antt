@@ -10,7 +10,7 @@ use Rattle.q_gather.proofs.laws.books_gather.Goals as goal
 pub returns : goal.returns
 returns c = record {
   begins = λ books version config founders lists distinct right agree traces. begins version config founders books lists distinct right agree traces;
-  goes = λ books d lists k s rest u at can. step_goes books d lists u k s rest at can;
+  goes = λ books d lists k s rest u at can. step_goes u k s rest at can;
   over = gathered;
   gathers = λ books version config founders lists distinct right agree traces merges.
       gathers merges books (start version config founders) refl (begins version config founders books lists distinct right agree traces);

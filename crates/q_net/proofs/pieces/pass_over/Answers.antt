@@ -11,5 +11,5 @@ returns-in_err-read_byte-clause-read g c =
 pub loop-at-preserved : goal.loop-at-preserved
 loop-at-preserved g c =
     let (done, len, counted, consumed) = c.loop-at.invariant in
-    let (all, is_len, read) = passed_byte _ _ _ c.loop-at._at c.in_ok-read_byte.field-0 (done, len, consumed) c.if-is_none.ensures c.in_ok-read_byte.ensures.read in
+    let (all, is_len, read) = passed_byte _ _ _ c.in_ok-read_byte.field-0 (done, len, consumed) c.if-is_none.ensures c.in_ok-read_byte.ensures.read in
     (all, is_len, search rules, read)

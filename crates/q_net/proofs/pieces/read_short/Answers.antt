@@ -5,4 +5,5 @@ use Rattle.q_net.proofs.pieces.read_short.Goals as goal
 
 pub returns-clause-read : goal.returns-clause-read
 returns-clause-read g c =
-    number_read 4 c.short_of.result c.in_ok-fill.field-0 _ _ c.fill.new.into (let h = c.if-branch-lt4.false in omega (arith, h, c.fill.ensures.len)) c.in_ok-fill.ensures.read c.short_of.ensures
+    number_read 4 c.short_of.result c.in_ok-fill.field-0 _ _ c.fill.new.into (omega (arith, c.if-branch-lt4.false, c.fill.ensures.len))
+    c.in_ok-fill.ensures.read c.short_of.ensures

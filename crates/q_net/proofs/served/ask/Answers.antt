@@ -8,5 +8,6 @@ use Rattle.q_net.proofs.served.ask.Goals as goal
 
 pub returns-in-Err : goal.returns-in-Err
 returns-in-Err c =
-    let said = subst (λ (p : ℕ). Steps memory (asked c.args.book.now p c.args.start) c.args.book.now c.ask.new.self (Err c.in-Err.reason)) c.new.ensures c.in-Err.ensures in
+    let b = c.args.book.now in
+    let said = subst (λ (p : ℕ). Steps memory (asked b p c.args.start) b c.ask.new.self (Err c.in-Err.reason)) c.new.ensures c.in-Err.ensures in
     ([], (Err c.in-Err.reason, said, ap Refused c.number.ensures, refl), sym (append-nil c.args.sent.now.items))

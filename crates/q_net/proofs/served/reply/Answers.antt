@@ -6,18 +6,19 @@ use Rattle.q_net.proofs.served.reply.Goals as goal
 
 pub returns-in-Register : goal.returns-in-Register
 returns-in-Register c =
-    none_sent _ _ refl (registers_replies c.args.book.now c.register-registered.new.book c.args.request.now c.in-Register.text c.in-Register.notes c.as_slice.result.now c.as_slice-in-Register.result.now
-    c.register-registered.result c.reply_to_registered.result c.in-Register.is c.as_slice.ensures c.as_slice-in-Register.ensures c.register-registered.ensures c.reply_to_registered.ensures)
+    none_sent _ _ refl (registers_replies c.args.book.now c.register-registered.new.book c.register-registered.result c.in-Register.is
+    c.as_slice.ensures c.as_slice-in-Register.ensures c.register-registered.ensures c.reply_to_registered.ensures)
 
 pub returns-in-Err : goal.returns-in-Err
 returns-in-Err c = none_sent _ _ c.reserve.ensures.items (asks_nothing c.args.book.now c.args.request.now c.in-Ask.program c.in-Ask.start c.in-Ask.is)
 
 pub returns-in-Store : goal.returns-in-Store
 returns-in-Store c =
-    store_replies Store c.args.book.now c.reply_to_store.new.book c.args.request.now c.in-Store.value c.bytes.result.now c.args.sent.now.items c.reply_to_store.new.sent.items c.reply_to_store.result
+    store_replies Store c.args.book.now c.reply_to_store.new.book c.args.sent.now.items c.reply_to_store.new.sent.items c.reply_to_store.result
     c.in-Store.is c.bytes.ensures.exact c.reply_to_store.ensures
 
 pub returns-in-StoreOf : goal.returns-in-StoreOf
 returns-in-StoreOf c =
-    store_replies StoreOf c.args.book.now c.reply_to_store-in-StoreOf.new.book c.args.request.now c.in-StoreOf.value c.as_slice-in-StoreOf.result.now c.args.sent.now.items c.reply_to_store-in-StoreOf.new.sent.items c.reply_to_store-in-StoreOf.result
-    c.in-StoreOf.is c.as_slice-in-StoreOf.ensures c.reply_to_store-in-StoreOf.ensures
+    let done = c.reply_to_store-in-StoreOf in
+    store_replies StoreOf c.args.book.now done.new.book c.args.sent.now.items done.new.sent.items done.result
+    c.in-StoreOf.is c.as_slice-in-StoreOf.ensures done.ensures

@@ -16,7 +16,8 @@ returns-clause-left g c =
     let old = c.args.kept.now in let h = c.leave-left.new.self in let k = c.leave-left.ensures in let r = c.settle_kept-letters.new.kept.recorder in
     record {
       left = c.leave-left.result;
-      says = c.said_to_leave-said.ensures ∙ ap (λ (b : Bool). said_to_leave c.leave-left.result b r) (c.is_some.ensures ∙ some_mapped vec_items c.settle_kept-letters.result);
+      says = c.said_to_leave-said.ensures
+          ∙ ap (λ (b : Bool). said_to_leave c.leave-left.result b r) (c.is_some.ensures ∙ some_mapped vec_items c.settle_kept-letters.result);
       settled = record {
         book = h.book;
         waiting = h.waiting.items;

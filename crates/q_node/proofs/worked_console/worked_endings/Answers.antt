@@ -2,7 +2,8 @@
 use Rattle.std.proofs.Common.{◌≡◌, ◌<◌, ℕ, List, [], ◌∷◌, ◌++◌, get_or, length, ap, sym, arith, length-append}
 use Rattle.std.specs.List.{flat_map}
 use Rattle.q_node.specs.Console.{said_line}
-use Rattle.q_node.specs.Runs.{IsFront, journal_line}
+use Rattle.q_node.specs.Runs.{IsFront}
+use Rattle.q_told.specs.Printing.{journal_line}
 use Rattle.q_node.proofs.worked_console.worked_endings.Goals as goal
 
 pub returns-clause-unwritten : goal.returns-clause-unwritten

@@ -1,6 +1,5 @@
 -- tell_line: what a line tells whose call came to this.
-use Rattle.std.proofs.Common.{◌≡◌, ℕ, Some, sym, ap, subst}
-use Rattle.std.specs.Prelude.{not}
+use Rattle.std.proofs.Common.{◌≡◌, ℕ, Some, sym, ap, subst, not}
 use Rattle.q_nodes.specs.Books.{own_book}
 use Rattle.q_nodes.specs.Lines.{ComesTo}
 use Rattle.q_nodes.specs.declared.outcome.Outcome.{Outcome}

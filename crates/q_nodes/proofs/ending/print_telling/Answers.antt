@@ -10,4 +10,4 @@ returns-in-Some-clause-written g c =
     let between = g.W.Write.contents c.put.new.self.inner in
     let after = g.W.Write.contents c.print_refusal.new.out.inner in
     let told = subst (λ (bytes : List ℕ). Appends before between bytes) c.as_bytes.ensures.value c.in-Ok.ensures.written in
-    behind c.args.script.now c.args.telling.now.tally c.args.telling.now.refusal c.in-Some.fault _ c.print_refusal.result before between after c.in-Some.is c.requires told c.print_refusal.ensures.written
+    behind c.print_refusal.result before between after c.in-Some.is c.requires told c.print_refusal.ensures.written

@@ -9,5 +9,7 @@ use Rattle.q_nodes.proofs.found.find_query.Goals as goal
 
 pub returns-in-None : goal.returns-in-None
 returns-in-None c = λ nodes came.
-    let none = subst (λ (p : ℕ). (q : Query) → IsQueryOf c.args.cluster.now c.in-Ask.node c.args.query p c.in-Ask.start q → ⊥) c.of_number.ensures c.in-None.ensures in
-    subst (λ (l : CallLine). Has c.args.cluster.now l (outcome.Asked c.args.query) → ⊥) (sym c.in-Ask.is) (query_lost c.args.cluster.now c.in-Ask.node c.in-Ask.program c.in-Ask.start c.args.query none)
+    let cluster = c.args.cluster.now in
+    let none = subst (λ (p : ℕ). (q : Query) → IsQueryOf cluster c.in-Ask.node c.args.query p c.in-Ask.start q → ⊥) c.of_number.ensures c.in-None.ensures in
+    subst (λ (l : CallLine). Has cluster l (outcome.Asked c.args.query) → ⊥) (sym c.in-Ask.is)
+    (query_lost cluster c.in-Ask.node c.in-Ask.program c.in-Ask.start c.args.query none)

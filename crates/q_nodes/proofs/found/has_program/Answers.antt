@@ -6,5 +6,5 @@ use Rattle.q_nodes.proofs.found.has_program.Goals as goal
 
 pub returns-in-Some-program : goal.returns-in-Some-program
 returns-in-Some-program c =
-    program_tested c.args.cluster.now c.args.node c.args.id c.args.code.now c.in-Some.book.now c.in-Some-program.program.now c.is_spelled.result c.in-Some.ensures
-    (c.in-Some-program.ensures ∙ ap (λ (d : DeskState). slice_get d.programs c.args.id) c.desk.ensures.desk) c.is_spelled.ensures
+    program_tested c.args.cluster.now c.args.node c.args.id c.args.code.now c.in-Some.book.now c.in-Some-program.program.now c.is_spelled.result
+    c.in-Some.ensures (c.in-Some-program.ensures ∙ ap (λ (d : DeskState). slice_get d.programs c.args.id) c.desk.ensures.desk) c.is_spelled.ensures

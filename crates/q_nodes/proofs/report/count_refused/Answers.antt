@@ -7,4 +7,5 @@ use Rattle.q_nodes.proofs.report.count_refused.Goals as goal
 
 pub returns : goal.returns
 returns c =
-    count_from_yields_List c.filter.result _ c.count.ensures.ran (YieldsList-from_filter _ is_refusal (YieldsList-from_slice c.args.reports.now cc) c.filter.ensures.closure (λ x r q k. search (rules, tests)))
+    count_from_yields_List c.filter.result _ c.count.ensures.ran
+    (YieldsList-from_filter _ is_refusal (YieldsList-from_slice c.args.reports.now cc) c.filter.ensures.closure (λ x r q k. search (rules, tests)))

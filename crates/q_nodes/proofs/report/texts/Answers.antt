@@ -12,5 +12,6 @@ loop-report-preserved c =
     let one = c.report-item.result in
     let more : take (i + 1) reports ≡ take i reports ++ one ∷ [] = search (rules, take_more) in
     let texts : flat_map text_of (take (i + 1) reports) ≡ flat_map text_of (take i reports) ++ text_of one =
-    ap (flat_map text_of) more ∙ flat_map-append text_of (take i reports) (one ∷ []) ∙ ap (λ (x : List ℕ). flat_map text_of (take i reports) ++ x) (append-nil (text_of one)) in
+    ap (flat_map text_of) more ∙ flat_map-append text_of (take i reports) (one ∷ [])
+    ∙ ap (λ (x : List ℕ). flat_map text_of (take i reports) ++ x) (append-nil (text_of one)) in
     c.in_ok-print_report.ensures ∙ ap (λ (x : List ℕ). x ++ text_of one) c.loop-report.invariant ∙ sym texts

@@ -7,4 +7,5 @@ pub returns-clause-written : goal.returns-clause-written
 returns-clause-written g c =
     let before = g.W.Write.contents c.args.out.now.inner in
     let after = g.W.Write.contents c.run_bytes-ending.new.out.inner in
-    inl (c.in-Ok.ensures.bytes, subst (λ (source : List ℕ). IsWrittenBytes source c.run_bytes-ending.result before after) c.as_slice.ensures.value c.run_bytes-ending.ensures.written)
+    let Writes = λ (source : List ℕ). IsWrittenBytes source c.run_bytes-ending.result before after in
+    inl (c.in-Ok.ensures.bytes, subst Writes c.as_slice.ensures.value c.run_bytes-ending.ensures.written)

@@ -12,4 +12,5 @@ returns-in_err-reply c =
 
 pub returns-then-is_told : goal.returns-then-is_told
 returns-then-is_told c =
-    made c.one_longest.ensures c.args.book.now c.args.call c.requires c.call.new.self (subst (IsTold c.call.new.self) (sym c.in_ok-reply.ensures) (refl, c.if-is_told.ensures))
+    made c.one_longest.ensures c.args.book.now c.args.call c.requires c.call.new.self
+    (subst (IsTold c.call.new.self) (sym c.in_ok-reply.ensures) (refl, c.if-is_told.ensures))

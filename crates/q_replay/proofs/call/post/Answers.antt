@@ -6,7 +6,8 @@ use Rattle.q_replay.proofs.call.post.Goals as goal
 pub returns-in_err-post : goal.returns-in_err-post
 returns-in_err-post c =
     let done = c.args.done.now in
-    refused c.args.book.now c.post.new.self (written.Post done.job.query done.ran.acc done.ran.steps) c.in_err-post.field-0.0 c.from_residual.result c.from_residual.ensures.1
+    let event = written.Post done.job.query done.ran.acc done.ran.steps in
+    refused c.args.book.now c.post.new.self event c.in_err-post.field-0.0 c.from_residual.result c.from_residual.ensures.1
     (λ loud. unposted c.one_longest.ensures c.args.book.now done.job done.ran c.requires.written c.requires.own _ c.in_err-post.ensures.1)
 
 pub returns : goal.returns

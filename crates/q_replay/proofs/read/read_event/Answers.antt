@@ -12,24 +12,26 @@ returns-in_err-kind-clause-none c = no_form c.from_residual.result (no_first c.a
 
 pub returns-in_err-length-clause-none : goal.returns-in_err-length-clause-none
 returns-in_err-length-clause-none c =
-    no_form c.from_residual-in_err-length.result (no_second c.args.version c.args.bytes.now c.byte.new.self.rest.now c.in_ok-kind.kind c.in_ok-kind.ensures.parts c.in_err-length.ensures.none)
+    no_form c.from_residual-in_err-length.result (no_second c.args.version _ _ _ c.in_ok-kind.ensures.parts c.in_err-length.ensures.none)
 
 pub returns-in_err-body-clause-none : goal.returns-in_err-body-clause-none
 returns-in_err-body-clause-none c =
     no_form c.from_residual-in_err-body.result
-    (no_third c.args.version c.args.bytes.now c.byte.new.self.rest.now c.word.new.self.rest.now c.in_ok-kind.kind c.in_ok-length.length c.in_ok-kind.ensures.parts c.in_ok-length.ensures.fits c.in_ok-length.ensures.parts c.in_err-body.ensures.few)
+    (no_third c.args.version _ _ _ _ _ c.in_ok-kind.ensures.parts c.in_ok-length.ensures.fits c.in_ok-length.ensures.parts c.in_err-body.ensures.few)
 
 pub returns-in_err-event-clause-none : goal.returns-in_err-event-clause-none
 returns-in_err-event-clause-none c =
     let p = err_from_is_err_and c.from_residual-in_err-event.result c.from_residual-in_err-event.ensures.1 in
     passed (BeginsNone (event_bytes c.args.version) (IsWritten c.args.version) c.args.bytes.now) c.from_residual-in_err-event.result p.0 p.1
-    (λ form. no_event c.args.version c.args.bytes.now c.byte.new.self.rest.now c.word.new.self.rest.now c.take.new.self.rest.now c.in_ok-body.body.now c.in_ok-kind.kind c.in_ok-length.length
-    c.in_ok-kind.ensures.parts c.in_ok-length.ensures.fits c.in_ok-length.ensures.parts c.in_ok-body.ensures.len c.in_ok-body.ensures.parts (c.in_err-event.ensures.none (sym p.2 ∙ form)))
+    (λ form. no_event c.args.version c.in_ok-kind.ensures.parts
+    (record { legal = c.in_ok-length.ensures.fits; parts = c.in_ok-length.ensures.parts })
+    (record { long = c.in_ok-body.ensures.len; parts = c.in_ok-body.ensures.parts }) (c.in_err-event.ensures.none (sym p.2 ∙ form)))
 
 pub returns-clause-legal : goal.returns-clause-legal
 returns-clause-legal c = c.in_ok-event.ensures.body.legal
 
 pub returns-clause-parts : goal.returns-clause-parts
 returns-clause-parts c =
-    event_parts c.args.version c.args.bytes.now c.byte.new.self.rest.now c.word.new.self.rest.now c.take.new.self.rest.now c.in_ok-body.body.now c.in_ok-kind.kind c.in_ok-length.length c.in_ok-event.event
-    c.in_ok-kind.ensures.parts c.in_ok-length.ensures.parts c.in_ok-body.ensures.len c.in_ok-body.ensures.parts c.in_ok-event.ensures.body
+    event_parts c.args.version c.in_ok-kind.ensures.parts
+    (record { legal = c.in_ok-length.ensures.fits; parts = c.in_ok-length.ensures.parts })
+    (record { long = c.in_ok-body.ensures.len; parts = c.in_ok-body.ensures.parts }) c.in_ok-event.ensures.body

@@ -1,10 +1,9 @@
 -- read_head: the head with which the bytes begin, which tells the version of what stands behind it, and the bytes
 -- behind it.
-use Rattle.std.proofs.Common.{sym, ◌∙◌, option_map}
+use Rattle.std.proofs.Common.{sym, ◌∙◌}
 use Rattle.std.proofs.lemmas.Result.{err_from_is_err_and}
 use Rattle.spelling.specs.Codes.{BeginsNone}
 use Rattle.q_replay.specs.Spelling.{head_bytes, IsHead}
-use Rattle.sc_members.specs.Members.{config_of}
 use Rattle.q_replay.proofs.Exits.{no_form, passed}
 use Rattle.q_replay.proofs.Heads.{no_format, no_id, no_config, no_founders, head_parts}
 use Rattle.q_replay.proofs.read.read_head.Goals as goal
@@ -14,25 +13,28 @@ returns-in_err-version-clause-none c = no_form c.from_residual.result (no_format
 
 pub returns-in_err-id-clause-none : goal.returns-in_err-id-clause-none
 returns-in_err-id-clause-none c =
-    no_form c.from_residual-in_err-id.result (no_id c.in_ok-version.version c.args.bytes.now c.format.new.self.rest.now c.in_ok-version.ensures.parts c.in_err-id.ensures.none)
+    no_form c.from_residual-in_err-id.result (no_id c.in_ok-version.version c.in_ok-version.ensures.parts c.in_err-id.ensures.none)
 
 pub returns-in_err-beta-clause-none : goal.returns-in_err-beta-clause-none
 returns-in_err-beta-clause-none c =
     no_form c.from_residual-in_err-beta.result
-    (no_config c.in_ok-version.version c.args.bytes.now c.format.new.self.rest.now c.in_ok-version.ensures.parts c.number.new.self.rest.now c.in_ok-id.id c.in_ok-id.ensures.fits c.in_ok-id.ensures.parts c.in_err-beta.ensures.none)
+    (no_config c.in_ok-version.version c.in_ok-version.ensures.parts
+    (record { legal = c.in_ok-id.ensures.fits; parts = c.in_ok-id.ensures.parts }) c.in_err-beta.ensures.none)
 
 pub returns-in_err-founders-clause-none : goal.returns-in_err-founders-clause-none
 returns-in_err-founders-clause-none c =
     let p = err_from_is_err_and c.from_residual-in_err-founders.result c.from_residual-in_err-founders.ensures.1 in
     passed (BeginsNone head_bytes IsHead c.args.bytes.now) c.from_residual-in_err-founders.result p.0 p.1
-    (λ form. no_founders c.in_ok-version.version c.args.bytes.now c.format.new.self.rest.now c.in_ok-version.ensures.parts c.number.new.self.rest.now c.fractions.new.self.rest.now c.in_ok-id.id
-    (config_of c.in_ok-beta.beta c.in_ok-beta.gamma) c.in_ok-id.ensures.fits c.in_ok-id.ensures.parts c.in_ok-beta.ensures.legal c.in_ok-beta.ensures.parts (c.in_err-founders.ensures.none (sym p.2 ∙ form)))
+    (λ form. no_founders c.in_ok-version.version c.in_ok-version.ensures.parts
+    (record { legal = c.in_ok-id.ensures.fits; parts = c.in_ok-id.ensures.parts })
+    (record { legal = c.in_ok-beta.ensures.legal; parts = c.in_ok-beta.ensures.parts }) (c.in_err-founders.ensures.none (sym p.2 ∙ form)))
 
 pub returns-clause-legal : goal.returns-clause-legal
 returns-clause-legal c = record { id = c.in_ok-id.ensures.fits; config = c.in_ok-beta.ensures.legal; founders = c.in_ok-founders.ensures.legal }
 
 pub returns-clause-parts : goal.returns-clause-parts
 returns-clause-parts c =
-    head_parts c.args.bytes.now c.format.new.self.rest.now c.number.new.self.rest.now c.fractions.new.self.rest.now c.start.new.self.rest.now
-    (record { version = c.in_ok-version.version; id = c.in_ok-id.id; config = config_of c.in_ok-beta.beta c.in_ok-beta.gamma; founders = option_map (λ v. v.items) c.in_ok-founders.founders })
-    c.in_ok-version.ensures.parts c.in_ok-id.ensures.parts c.in_ok-beta.ensures.parts c.in_ok-founders.ensures.parts
+    head_parts c.in_ok-version.version c.in_ok-version.ensures.parts
+    (record { legal = c.in_ok-id.ensures.fits; parts = c.in_ok-id.ensures.parts })
+    (record { legal = c.in_ok-beta.ensures.legal; parts = c.in_ok-beta.ensures.parts })
+    (record { legal = c.in_ok-founders.ensures.legal; parts = c.in_ok-founders.ensures.parts })

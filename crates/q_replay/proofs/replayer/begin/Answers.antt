@@ -5,4 +5,5 @@ use Rattle.q_replay.proofs.replayer.begin.Goals as goal
 
 pub returns-in_err-book-in-Some : goal.returns-in_err-book-in-Some
 returns-in_err-book-in-Some c =
-    unbegun c.args.head.now c.in_err-book-in-Some.field-0.0 c.from_residual-in_err-book-in-Some.result c.from_residual-in_err-book-in-Some.ensures.1 (λ loud. search (rules, loud))
+    unbegun c.args.head.now c.in_err-book-in-Some.field-0.0 c.from_residual-in_err-book-in-Some.result c.from_residual-in_err-book-in-Some.ensures.1
+    (λ loud. search (rules, loud))

@@ -8,19 +8,20 @@ use Rattle.q_replay.proofs.replayer.book_of.Goals as goal
 
 pub take_next-requires-clause-room : goal.take_next-requires-clause-room
 take_next-requires-clause-room c =
-    let room = leads_room c.args.bytes.now c.loop-rest.count c.loop-rest.book c.loop-rest.rest.now c.loop-rest.invariant in
+    let room = leads_room c.loop-rest.invariant in
     let some : 1 ≤ length c.loop-rest.rest.now = some_long c.loop-rest.rest.now (search rules) in
     omega arith
 
 pub overflow_add-count : goal.overflow_add-count
 overflow_add-count c =
-    let room = leads_room c.args.bytes.now c.loop-rest.count c.loop-rest.book c.loop-rest.rest.now c.loop-rest.invariant in
+    let room = leads_room c.loop-rest.invariant in
     let some : 1 ≤ length c.loop-rest.rest.now = some_long c.loop-rest.rest.now (search rules) in
     omega arith
 
 pub returns-in_err-rest-clause-fault : goal.returns-in_err-rest-clause-fault
 returns-in_err-rest-clause-fault c =
-    passed_on (IsFault c.args.bytes.now) c.in_err-rest.field-0.0 c.from_residual-in_err-rest.result c.from_residual-in_err-rest.ensures.1 (c.in_err-rest.ensures.fault c.args.bytes.now c.loop-rest.invariant)
+    passed_on (IsFault c.args.bytes.now) c.in_err-rest.field-0.0 c.from_residual-in_err-rest.result c.from_residual-in_err-rest.ensures.1
+    (c.in_err-rest.ensures.fault c.args.bytes.now c.loop-rest.invariant)
 
 pub returns : goal.returns
 returns c =

@@ -7,13 +7,14 @@ use Rattle.q_replay.proofs.replayer.take_next.Goals as goal
 
 pub returns-in-Err-Form-clause-fault : goal.returns-in-Err-Form-clause-fault
 returns-in-Err-Form-clause-fault c =
-    λ bytes l. next_form bytes c.args.count c.args.book.now c.version.result c.args.rest.now l c.version.ensures c.requires.more (c.in-Err-Form.ensures.none c.in-Err-Form.field-0-is)
+    λ bytes l. next_form l c.version.ensures c.requires.more (c.in-Err-Form.ensures.none c.in-Err-Form.field-0-is)
 
 pub returns-in-Ok-take-clause-leads : goal.returns-in-Ok-take-clause-leads
 returns-in-Ok-take-clause-leads c =
-    λ bytes l. next_leads bytes c.args.count c.args.book.now c.take.new.book c.version.result c.in-Ok.read.0 c.args.rest.now c.in-Ok.read.1.now l c.version.ensures c.in-Ok.ensures.legal c.in-Ok.ensures.parts c.in-Ok-take.ensures
+    λ bytes l. next_leads l c.version.ensures c.in-Ok.ensures.legal c.in-Ok.ensures.parts c.in-Ok-take.ensures
 
 pub returns-in-Err-Mismatch-clause-fault : goal.returns-in-Err-Mismatch-clause-fault
 returns-in-Err-Mismatch-clause-fault c =
-    λ bytes l. next_mismatch bytes c.args.count c.args.book.now c.version.result c.in-Ok.read.0 c.args.rest.now c.in-Ok.read.1.now l c.version.ensures c.in-Ok.ensures.legal c.in-Ok.ensures.parts
-    (subst (λ (x : Refusal). let r : Result (Unit {0}) Refusal = Err x in Taking c.args.book.now c.in-Ok.read.0 c.take.new.book r) c.in-Err-Mismatch.field-0-is c.in-Err-Mismatch.ensures)
+    let taking : Refusal → Type 0 = λ x. let r : Result (Unit {0}) Refusal = Err x in Taking c.args.book.now c.in-Ok.read.0 c.take.new.book r in
+    λ bytes l. next_mismatch l c.version.ensures c.in-Ok.read.0 c.in-Ok.read.1.now c.in-Ok.ensures.legal c.in-Ok.ensures.parts
+    (subst taking c.in-Err-Mismatch.field-0-is c.in-Err-Mismatch.ensures)

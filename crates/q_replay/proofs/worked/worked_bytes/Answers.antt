@@ -1,10 +1,9 @@
 -- A third version is told by no byte, and a post begins its own bytes.
-use Rattle.std.proofs.Common.{◌≡◌, rules, arith, [], ◌++◌, sym, ◌∙◌, append-nil}
+use Rattle.std.proofs.Common.{◌≡◌, rules, arith, [], sym, append-nil}
 use Rattle.sc_msg.specs.declared.version.Version.{Version}
 use Rattle.sc_msg.specs.declared.version.Version.TheVariants.{First, Second}
-use Rattle.spelling.specs.Numbers.{number_bytes}
 use Rattle.sc_msg.specs.Values.{version_byte}
-use Rattle.q_replay.specs.Spelling.{config_bytes, start_bytes, event_bytes, IsWritten}
+use Rattle.q_replay.specs.Spelling.{event_bytes, IsWritten}
 use Rattle.q_replay.specs.declared.raw_entry.RawEntry.TheVariants.{Post}
 use Rattle.q_replay.proofs.worked.worked_bytes.Goals as goal
 

@@ -5,5 +5,5 @@ use Rattle.q_replay.proofs.write.journal_bytes.Goals as goal
 
 pub entry-requires-clause-checked : goal.entry-requires-clause-checked
 entry-requires-clause-checked c =
-    checked_at c.args.book.now c.journal-entry-items.result.now c.loop-entry.entry-index c.loop-entry.writer.version c.entry-item.result c.journal-entry-items.ensures.replay c.journal-entry-items.ensures.journal
-    (search rules) c.entry-item.is c.loop-entry.invariant.version
+    checked_at c.loop-entry.entry-index c.journal-entry-items.ensures.replay c.journal-entry-items.ensures.journal (search rules) c.entry-item.is
+    c.loop-entry.invariant.version

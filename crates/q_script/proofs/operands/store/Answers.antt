@@ -2,7 +2,6 @@
 use Rattle.std.proofs.Common.{ℕ}
 use Rattle.std.specs.Prelude.{Vec}
 use Rattle.std.specs.declared.alloc.Global.{Global}
-use Rattle.std.proofs.lemmas.Result.{err_from_is_err_and}
 use Rattle.q_script.specs.Line.{IsStore}
 use Rattle.q_script.specs.Records.{IsValue}
 use Rattle.q_script.proofs.Events.{part_fails, not_store, not_store_value}
@@ -13,6 +12,6 @@ returns-in_default c = not_store c.args.text.now c.in_default.ensures
 
 pub returns-in_err-value : goal.returns-in_err-value
 returns-in_err-value c =
-    let e = err_from_is_err_and c.from_residual.result c.from_residual.ensures.1 in
-    part_fails (λ text (value : Vec ℕ Global). IsValue text value.items) IsStore c.args.text.now c.in-Some.rest.now c.in_err-value.field-0.0 c.from_residual.result e.0 e.1 e.2
-    (not_store_value c.args.text.now (c.in-Some.node, c.in-Some.rest.now) c.in-Some.ensures) c.in_err-value.ensures
+    let fault = c.from_residual in
+    part_fails (λ text (value : Vec ℕ Global). IsValue text value.items) IsStore c.args.text.now c.in-Some.rest.now c.in_err-value.field-0.0
+    fault.result fault.ensures.1 (not_store_value c.args.text.now (c.in-Some.node, c.in-Some.rest.now) c.in-Some.ensures) c.in_err-value.ensures

@@ -4,4 +4,4 @@ use Rattle.q_script.proofs.Parts.{parts_are}
 use Rattle.q_script.proofs.text.cut.Goals as goal
 
 pub returns : goal.returns
-returns c = parts_are c.args.at c.args.text.now c.split_once.result (split_parts c.args.at c.args.text.now c.split_once.result c.split_once.ensures.cases c.requires)
+returns c = parts_are c.args.at c.args.text.now c.split_once.result (split_parts _ _ _ c.split_once.ensures.cases c.requires)

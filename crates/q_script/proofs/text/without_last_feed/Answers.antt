@@ -7,4 +7,4 @@ use Rattle.q_script.proofs.text.without_last_feed.Goals as goal
 pub returns : goal.returns
 returns c =
     ap (λ (x : Bor (List ℕ)). x.now) c.unwrap_or.ensures
-    ∙ feed_is c.args.text.now c.args.text c.strip_suffix.result refl (strip_suffix_char 10 c.args.text.now c.strip_suffix.result c.strip_suffix.ensures.cases (lit< tt))
+    ∙ feed_is c.args.text.now c.args.text c.strip_suffix.result refl (strip_suffix_char 10 _ _ c.strip_suffix.ensures.cases (lit< tt))

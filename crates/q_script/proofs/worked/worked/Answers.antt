@@ -1,6 +1,7 @@
 -- worked: what the definitions say of telling numbers, lines, scripts and records.
 use Rattle.std.proofs.Common.{◌≡◌, ℕ, List, ◌∷◌, ◌++◌, length, get_or, drop, codes, Ok, refl, ap, sym, subst, ◌∙◌, inl, inr, lit<, arith}
 use Rattle.std.specs.Fmt.{digits}
+use Rattle.std.proofs.lemmas.Slice.Zip.{AllZip-long}
 use Rattle.hex.specs.Hex.{decode_of}
 use Rattle.hex.proofs.OnLiterals.{hex_on_literals}
 use Rattle.q_script.specs.declared.command.Command.{Command}
@@ -8,9 +9,9 @@ use Rattle.q_script.specs.declared.command.Command.TheVariants as command
 use Rattle.q_script.specs.declared.line.ScriptLine.TheVariants as line
 use Rattle.q_script.specs.Founding.{SpellsFounding}
 use Rattle.q_script.specs.Line.{HasOperands, Spells, name}
+use Rattle.q_script.specs.Records.{IsValue}
 use Rattle.q_script.proofs.Commands.{name_lacks_space, same_command}
-use Rattle.q_script.proofs.Foundings.{beta_first, first_of}
-use Rattle.q_script.proofs.Learning.{zip_length}
+use Rattle.q_script.proofs.Foundings.{fraction, beta_first, first_of}
 use Rattle.q_script.proofs.Parts.{cut_once}
 use Rattle.q_script.proofs.Values.{no_numeral}
 use Rattle.q_script.proofs.Words.{founding_word_lacks_space}
@@ -39,7 +40,7 @@ returns-clause-delivered c = inr (record { command = command.Deliver; rest = cod
 no_command : (c : Command) (rest : List ℕ) → codes "deliver 7 3" ≡ name c ++ (32 ∷ rest) → HasOperands c rest (line.Deliver 3 7) → ⊥
 unfolding digits
 no_command c rest e h =
-    let same = cut_once 32 (codes "deliver 7 3") (codes "deliver") (codes "7 3") (name c) rest (name_lacks_space command.Deliver, refl) (name_lacks_space c, e) in
+    let same = cut_once 32 _ (codes "deliver") (codes "7 3") (name c) rest (name_lacks_space command.Deliver, refl) (name_lacks_space c, e) in
     let is = same_command command.Deliver c same.0 in
     let operands : HasOperands command.Deliver rest (line.Deliver 3 7) = subst (λ (d : Command). HasOperands d rest (line.Deliver 3 7)) (sym is) h in
     let first : 55 ≡ 51 = ap (λ xs. get_or xs 0 0) (same.1 ∙ operands.2) in
@@ -54,7 +55,8 @@ returns-clause-node_first c = λ h. elim h [
 pub returns-clause-stored : goal.returns-clause-stored
 unfolding digits hex_on_literals
 returns-clause-stored c = λ value is.
-    inr (record { command = command.Store; rest = codes "1 x05fF"; parts = refl; operands = (codes "x05fF", (lit< tt, refl), inr (codes "05fF", refl, ap Ok (sym is))) })
+    let hex : IsValue (codes "x05fF") value.items = inr (codes "05fF", refl, ap Ok (sym is)) in
+    inr (record { command = command.Store; rest = codes "1 x05fF"; parts = refl; operands = (codes "x05fF", (lit< tt, refl), hex) })
 
 pub returns-clause-capital_x : goal.returns-clause-capital_x
 returns-clause-capital_x c = λ bytes h. elim h [
@@ -69,7 +71,7 @@ returns-clause-odd_digits c = λ bytes h. elim h [
   | inr hex ↦ let odd = ap decode_of (ap (drop 1) hex.1) ∙ hex.2 in absurd cc
 ]
 
-founded : SpellsFounding (codes "nodes 3 4/5 2/3") (record { count = 3; beta = record { numerator = 4; denominator = 5 }; gamma = record { numerator = 2; denominator = 3 } })
+founded : SpellsFounding (codes "nodes 3 4/5 2/3") (record { count = 3; beta = fraction 4 5; gamma = fraction 2 3 })
 unfolding digits
 founded = first_of (codes "nodes") 3 4 5 2 3 (lit< tt) (lit< tt) (lit< tt) (lit< tt) (lit< tt)
 
@@ -77,10 +79,10 @@ pub returns-clause-founded : goal.returns-clause-founded
 returns-clause-founded c = founded
 
 pub returns-clause-gamma_first : goal.returns-clause-gamma_first
-returns-clause-gamma_first c = beta_first (codes "nodes") (codes "nodes 3 4/5 2/3") 3 3 _ _ _ _ founding_word_lacks_space (λ e. omega (arith, e)) founded
+returns-clause-gamma_first c = beta_first founding_word_lacks_space (λ e. omega (arith, e)) founded
 
 pub returns-clause-event_left_out : goal.returns-clause-event_left_out
-returns-clause-event_left_out c = λ founding h. omega (arith, ap length h.parts, zip_length Spells h.others _ h.each)
+returns-clause-event_left_out c = λ founding h. omega (arith, ap length h.parts, AllZip-long Spells h.others _ h.each)
 
 pub returns-clause-digits : goal.returns-clause-digits
 unfolding hex_on_literals

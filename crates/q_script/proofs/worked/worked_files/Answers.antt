@@ -4,7 +4,7 @@ use Rattle.std.specs.Fmt.{digits}
 use Rattle.q_script.specs.declared.node_line.NodeLine.{NodeLine}
 use Rattle.q_script.specs.NodeLine.{node_word, SpellsHeading, SpellsNode}
 use Rattle.q_script.specs.File.{IsNoHeading}
-use Rattle.q_script.proofs.Foundings.{beta_first, first_of}
+use Rattle.q_script.proofs.Foundings.{fraction, beta_first, first_of}
 use Rattle.q_script.proofs.Lists.{no_nodes, not_faulty}
 use Rattle.q_script.proofs.Words.{heading_word_lacks_space}
 use Rattle.q_script.proofs.worked.worked_files.Goals as goal
@@ -15,22 +15,24 @@ returns-clause-heading c = first_of (codes "cluster") 7310582 2 3 4 5 (lit< tt) 
 
 -- a heading of number 1 whose fractions are 2/3 and one more
 abbrev Heading1 : List ℕ → ℕ → ℕ → Type 0
-Heading1 text a b = SpellsHeading text (record { number = 1; beta = record { numerator = 2; denominator = 3 }; gamma = record { numerator = a; denominator = b } })
+Heading1 text a b = SpellsHeading text (record { number = 1; beta = fraction 2 3; gamma = fraction a b })
 
 beta_first_1 : Heading1 (codes "cluster 1 2/3 4/5") 4 5
 unfolding digits
 beta_first_1 = first_of (codes "cluster") 1 2 3 4 5 (lit< tt) (lit< tt) (lit< tt) (lit< tt) (lit< tt)
 
 pub returns-clause-gamma_first : goal.returns-clause-gamma_first
-returns-clause-gamma_first c = beta_first (codes "cluster") (codes "cluster 1 2/3 4/5") 1 1 _ _ _ _ heading_word_lacks_space (λ e. omega (arith, e)) beta_first_1
+returns-clause-gamma_first c = beta_first heading_word_lacks_space (λ e. omega (arith, e)) beta_first_1
 
 pub returns-clause-founder : goal.returns-clause-founder
 unfolding digits
-returns-clause-founder c = λ a h. record { rest = codes "1 10.88.0.1:7000"; address = codes "10.88.0.1:7000"; parts = refl; id = (lit< tt, refl); is_address = h }
+returns-clause-founder c = λ a h.
+    record { rest = codes "1 10.88.0.1:7000"; address = codes "10.88.0.1:7000"; parts = refl; id = (lit< tt, refl); is_address = h }
 
 pub returns-clause-node : goal.returns-clause-node
 unfolding digits
-returns-clause-node c = λ a h. record { rest = codes "4 [::4]:7000"; address = codes "[::4]:7000"; parts = refl; id = (lit< tt, refl); is_address = h }
+returns-clause-node c = λ a h.
+    record { rest = codes "4 [::4]:7000"; address = codes "[::4]:7000"; parts = refl; id = (lit< tt, refl); is_address = h }
 
 pub returns-clause-no_founder : goal.returns-clause-no_founder
 returns-clause-no_founder c = λ a h. let first : 110 ≡ 102 = ap (λ xs. get_or xs 0 0) h.parts in omega (arith, first)
@@ -62,7 +64,7 @@ improper = first_of (codes "cluster") 1 2 3 4 3 (lit< tt) (lit< tt) (lit< tt) (l
 
 pub returns-clause-heading_alone : goal.returns-clause-heading_alone
 returns-clause-heading_alone c = (
-  record { number = 1; beta = record { numerator = 2; denominator = 3 }; gamma = record { numerator = 2; denominator = 3 } },
+  record { number = 1; beta = fraction 2 3; gamma = fraction 2 3 },
   [],
   record { first = codes "cluster 1 2/3 2/3"; others = []; parts = refl; heads = good; lists = no_nodes },
   ((record { positive = lit≤ tt; proper = lit≤ tt; small = lit≤ tt }, record { positive = lit≤ tt; proper = lit≤ tt; small = lit≤ tt }), refl),
@@ -70,7 +72,7 @@ returns-clause-heading_alone c = (
 
 pub returns-clause-improper : goal.returns-clause-improper
 returns-clause-improper c = (
-  record { number = 1; beta = record { numerator = 2; denominator = 3 }; gamma = record { numerator = 4; denominator = 3 } },
+  record { number = 1; beta = fraction 2 3; gamma = fraction 4 3 },
   [],
   record { first = codes "cluster 1 2/3 4/3"; others = []; parts = refl; heads = improper; lists = no_nodes },
   λ h. let p = h.1.proper in omega (arith, p),

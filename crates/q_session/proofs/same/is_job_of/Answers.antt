@@ -1,7 +1,6 @@
 -- is_job_of: whether the job is that of a query which runs over this view: its program, its start value and its
 -- view are the query's.
-use Rattle.std.proofs.Common.{◌≡◌, Some, rules, sym, subst, ◌∙◌}
-use Rattle.std.specs.Prelude.{slice_get}
+use Rattle.std.proofs.Common.{◌≡◌, Some, rules, sym, subst, ◌∙◌, slice_get}
 use Rattle.bq_check.specs.Certified.{IsCertified}
 use Rattle.q_session.specs.Same.{is_job_of}
 use Rattle.q_session.proofs.Jobs.{job-serves}
@@ -19,4 +18,4 @@ returns-then-is_same_view-clause-serves c = λ told.
     let longest : job.certified.longest ≡ program.longest = cc in
     let same : c.certified-then-is_same_view-2.result.now ≡ program = cc in
     let certified : IsCertified program = subst IsCertified same c.is_same_program.ensures.certified in
-    job-serves c.args.programs.now job c.args.query.now c.args.view.now program there (sym fits ∙ told) certified text longest
+    job-serves c.args.programs.now job c.args.query.now c.args.view.now (sym fits ∙ told) program there certified text longest

@@ -47,7 +47,7 @@ returns-clause-never_silent c = λ s awaits h. elim h [
 -- an accepted event leads to one cluster
 same_cluster : (r : Ran) (s : SimState) (said : ClusterStep) (d t : ClusterState) (result : Result ClusterStep Reason)
     → ((ran : Ran) → stepped ran s.cluster (event.Deliver 7 3) ≡ Ok (said, d)) → result ≢ Err OutOfMemory → Takes s.cluster (event.Deliver 7 3) t result → t ≡ d
-same_cluster r s said d t (Ok told) is loud takes = ap (λ (x : ClusterStep × ClusterState). x.1) (same_answer (told, t) (said, d) (sym takes.stepped ∙ is takes.ran))
+same_cluster r s said d t (Ok told) is loud takes = ap (λ (x : ClusterStep × ClusterState). x.1) (same_answer _ (said, d) (sym takes.stepped ∙ is takes.ran))
 same_cluster r s said d t (Err f) is loud takes = absurd (no_refusal f (said, d) (sym (takes.1 (λ e. loud (ap Err e)) r) ∙ is r))
 
 pub returns-clause-tried_is_taken : goal.returns-clause-tried_is_taken
@@ -70,7 +70,8 @@ event_taken : (l : ScriptLine) (e : ClusterEvent) (s t : SimState) (before after
     → Plays (Writes {X = Unit {0}}) (l ∷ []) s before text t after → (result : Result ClusterStep Reason) × Takes s.cluster e t.cluster result
 event_taken l e s t before after text is h =
     let does : LeavesFiles (Acts e) (at_next_line s) before h.2 h.0 h.1 =
-    subst (λ (d : SimState → Memory → List ℕ → SimState → Memory → Type 0). d (at_next_line s) before h.2 h.0 h.1) (does_event (Writes {X = Unit {0}}) l e is) h.4 in
+    subst (λ (d : SimState → Memory → List ℕ → SimState → Memory → Type 0). d (at_next_line s) before h.2 h.0 h.1)
+    (does_event (Writes {X = Unit {0}}) l e is) h.4 in
     (does.0.result, subst (λ (x : SimState). Takes s.cluster e x.cluster does.0.result) (sym h.5.0) does.0.takes)
 
 pub returns-clause-event : goal.returns-clause-event

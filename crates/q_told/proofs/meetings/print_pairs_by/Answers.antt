@@ -13,5 +13,5 @@ loop-store-preserved c =
     let ops = c.args.ops.now in
     let i = c.loop-store.store-index in
     let more : take (i + 1) ops ≡ take i ops ++ c.store-item.result ∷ [] = search (rules, take_more) in
-    one_more_store (is_told c.args.pairs) ops (take i ops) (take (i + 1) ops) c.store-item.result (string_bytes c.args.lines.now) (string_bytes c.loop-store.lines) (string_bytes c.print_pairs_with.new.lines) more
-    c.loop-store.invariant c.in_ok-print_pairs_with.ensures
+    one_more_store (is_told c.args.pairs) ops (take i ops) (take (i + 1) ops) c.store-item.result (string_bytes c.args.lines.now) _
+    (string_bytes c.print_pairs_with.new.lines) more c.loop-store.invariant c.in_ok-print_pairs_with.ensures

@@ -1,7 +1,6 @@
 -- print_pairs_with: prints these pairs of a store.
-use Rattle.std.proofs.Common.{rules, ◌≡◌, ◌+◌, ◌++◌, [], ◌∷◌, take, string_bytes, List, ℕ, subst, sym, ap}
+use Rattle.std.proofs.Common.{rules, ◌≡◌, ◌+◌, ◌++◌, [], ◌∷◌, take, string_bytes}
 use Rattle.std.proofs.lemmas.List.{take_more}
-use Rattle.q_told.specs.Printing.{AddsPairs, pairs_with}
 use Rattle.q_told.specs.Meetings.{is_told}
 use Rattle.q_told.proofs.Pairing.{no_pairs, paired, unpaired}
 use Rattle.q_told.proofs.meetings.print_pairs_with.Goals as goal
@@ -20,9 +19,10 @@ loop-collect-preserved c =
     let now = string_bytes c.loop-collect.lines in
     elim c.if-is_told.branch [
       | then-is_told+in_ok-print_pair w ↦
-          subst (λ (t : List ℕ). AddsPairs (pairs_with (is_told c.args.pairs) store (take (i + 1) ops)) before t) (ap string_bytes (sym w.lines-is))
-          (paired (is_told c.args.pairs) store (take i ops) (take (i + 1) ops) c.collect-item.result before now (string_bytes w.print_pair.new.lines) more (search rules) c.loop-collect.invariant w.in_ok-print_pair.ensures)
+          rw w.lines-is
+          (paired (is_told c.args.pairs) store (take i ops) (take (i + 1) ops) c.collect-item.result before now (string_bytes w.print_pair.new.lines)
+          more (search rules) c.loop-collect.invariant w.in_ok-print_pair.ensures)
       | else-is_told w ↦
-          subst (λ (t : List ℕ). AddsPairs (pairs_with (is_told c.args.pairs) store (take (i + 1) ops)) before t) (ap string_bytes (sym w.lines-is))
+          rw w.lines-is
           (unpaired (is_told c.args.pairs) store (take i ops) (take (i + 1) ops) c.collect-item.result before now more (search rules) c.loop-collect.invariant)
     ]

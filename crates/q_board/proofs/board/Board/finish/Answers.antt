@@ -1,22 +1,30 @@
 -- Board::finish: ends a claim of the seat with the right answer of its job, which then waits for the asker.
-use Rattle.std.proofs.Common.{◌∙◌, sym, deque_len, deque_capacity}
-use Rattle.q_board.proofs.RunnerCalls.{fill_asks, finish_asks, finish_keeps, finish_told}
+use Rattle.q_board.specs.declared.cell.Content.TheVariants as cell
+use Rattle.q_board.proofs.RunnerCalls.{Seated, Filled, fill_asks, finish_asks, finish_keeps, finish_told}
+use Rattle.q_board.proofs.board.Board.finish.Goals.{After-fill}
 use Rattle.q_board.proofs.board.Board.finish.Goals as goal
 
+-- the seat, and the seat with the result in the slot
+module _ (c : After-fill) where
+  seated : Seated c.args.self.now c.seat.inside c.args.seat.now
+  seated = record { apt = c.seat.invariant; is = c.seat.view_is; board = c.requires.board }
+
+  filled : Filled c.seat.inside (record c.seat.inside { seat = c.fill.new.seat; claims = c.fill.new.claims }) c.args.claim.slot (cell.Finished c.of-done.result)
+  filled = record { same = c.fill.ensures.same.0; there = c.fill.ensures.there; claims = c.fill.ensures.claims; room = c.fill.ensures.room }
+
 pub fill-requires : goal.fill-requires
-fill-requires c = fill_asks c.seat.inside c.seat.inside.claims.items c.args.claim.slot c.args.claim.job c.seat.invariant c.args.seat.now (sym c.seat.view_is) c.requires.own c.args.self.now.table.shared.table_id c.requires.board
+fill-requires c =
+    let h : Seated c.args.self.now c.seat.inside c.args.seat.now = record { apt = c.seat.invariant; is = c.seat.view_is; board = c.requires.board } in
+    fill_asks h c.args.claim.slot c.requires.own
 
 pub store-requires : goal.store-requires
-store-requires c = let b = c.args.self.now in let f = c.fill in
-    finish_asks c.seat.inside f.new.claims.items c.args.claim.slot c.args.claim.job c.seat.invariant c.args.seat.now (sym c.seat.view_is) c.requires.own b.table.shared.table_id c.requires.board
-    b.lanes b.table.shared.key b.sized f.new.seat.table_id f.ensures.same.0 f.new.seat.id f.new.seat.me _ c.of-done.ensures.job f.ensures.there c.word.result c.word.ensures.word
+store-requires c = let f = (goal.at.store-requires c).After-fill in
+    finish_asks (seated f) c.args.claim.slot c.requires.own (filled f) c.word.result c.of-done.ensures.job c.word.ensures.word
 
 pub invariant_of-seat : goal.invariant_of-seat
-invariant_of-seat c = let f = c.fill in let u = c.store in
-    finish_keeps c.seat.inside f.new.claims.items c.args.claim.slot c.args.claim.job c.seat.invariant c.args.seat.now (sym c.seat.view_is) c.requires.own f.new.seat.me u.new.seat.me u.new.seat.table_id (u.ensures.0 ∙ f.ensures.same.0)
-    f.ensures.claims (deque_len f.new.claims) f.ensures.room.1 (deque_capacity f.new.claims) f.ensures.room.0 _ f.ensures.there u.ensures.2
+invariant_of-seat c = let f = (goal.at.invariant_of-seat c).After-fill in
+    finish_keeps (seated f) c.args.claim.slot c.requires.own (filled f) c.store.new.seat c.store.ensures
 
 pub returns-clause-finished : goal.returns-clause-finished
-returns-clause-finished c = let f = c.fill in let u = c.store in
-    finish_told c.seat.inside f.new.claims.items c.args.claim.slot c.args.claim.job c.seat.invariant c.args.seat.now (sym c.seat.view_is) c.requires.own f.new.seat.me u.new.seat.me u.new.seat.table_id (u.ensures.0 ∙ f.ensures.same.0)
-    _ c.args.ran c.of-done.ensures.job c.of-done.ensures.ran f.ensures.there u.ensures.2
+returns-clause-finished c = let f = (goal.at.returns-clause-finished c).After-fill in
+    finish_told (seated f) c.args.claim.slot c.requires.own (filled f) c.store.new.seat c.store.ensures c.args.ran c.of-done.ensures.job c.of-done.ensures.ran

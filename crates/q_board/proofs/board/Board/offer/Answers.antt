@@ -1,30 +1,32 @@
 -- Board::offer: puts a job into a free slot of the seat's row.
-use Rattle.std.proofs.Common.{rules, ◌∙◌, sym, ap, arith, deque_len, deque_capacity}
+use Rattle.std.proofs.Common.{ap, arith}
 use Rattle.q_board.specs.AskerModel.{AskerModel}
 use Rattle.q_board.specs.Places.{jobs}
-use Rattle.q_board.proofs.AskerCalls.{is_near, offer_allowed, offer_keeps, offer_told}
+use Rattle.q_board.proofs.AskerCalls.{Offered, is_near, offer_asks, offer_keeps, offer_told}
+use Rattle.q_board.proofs.board.Board.offer.Goals.{After-put}
 use Rattle.q_board.proofs.board.Board.offer.Goals as goal
 
+-- the seat with the job in its slot
+offered : (c : After-put)
+    → Offered c.seat.inside (record c.seat.inside { seat = c.put.new.seat; free = c.pop_front.new.self }) c.args.seat.now c.in-Some.place c.args.job
+offered c = let p = c.in-Some.ensures in
+    record { apt = c.seat.invariant; is = c.seat.view_is; popped = (p.items, p.cases, p.capacity); put = (c.put.ensures.board, c.put.ensures.there) }
+
 pub store-requires : goal.store-requires
-store-requires c = let s = c.seat.inside in let sized = c.args.self.now.sized in
-    (search rules, search rules, offer_allowed s.seat.table_id s.seat.me s.number c.in-Some.place s.free.items c.pop_front.new.self.items (deque_len s.free) (deque_capacity s.free) c.in-Some.ensures.items c.seat.invariant c.args.job c.put.new.seat.me c.put.ensures.there c.args.self.now.table.shared.key c.args.self.now.table.shared.table_id.slots c.put.new.seat.id c.word.result (sized.1 ∙ sym sized.2) c.word.ensures.word)
+store-requires c = offer_asks (offered ((goal.at.store-requires c).After-put)) c.args.self.now c.word.result c.requires c.word.ensures.word
 
 pub invariant_of-seat-2 : goal.invariant_of-seat-2
-invariant_of-seat-2 c = let s = c.seat.inside in
-    offer_keeps s.seat.table_id s.seat.me s.number c.in-Some.place s.free.items c.pop_front.new.self.items (deque_len s.free) (deque_capacity s.free) c.in-Some.ensures.items c.seat.invariant c.args.job c.put.new.seat.me c.put.ensures.there c.args.self.now.table.shared.table_id.slots c.store.new.seat.me c.store.ensures.2 c.store.new.seat.table_id (c.store.ensures.0 ∙ c.put.ensures.board) (deque_len c.pop_front.new.self) c.in-Some.ensures.cases (deque_capacity c.pop_front.new.self) c.in-Some.ensures.capacity
+invariant_of-seat-2 c = offer_keeps (offered ((goal.at.invariant_of-seat-2 c).After-put)) c.store.new.seat c.store.ensures
 
 pub returns-clause-offered : goal.returns-clause-offered
-returns-clause-offered c = let s = c.seat.inside in
-    offer_told s.seat.table_id s.seat.me s.number c.in-Some.place s.free.items c.pop_front.new.self.items (deque_len s.free) (deque_capacity s.free) c.in-Some.ensures.items c.seat.invariant c.args.job c.put.new.seat.me c.put.ensures.there c.args.self.now.table.shared.table_id.slots c.store.new.seat.me c.store.ensures.2 c.store.new.seat.table_id (c.store.ensures.0 ∙ c.put.ensures.board) c.args.seat.now (sym c.seat.view_is)
+returns-clause-offered c = offer_told (offered ((goal.at.returns-clause-offered c).After-put)) c.store.new.seat c.store.ensures
 
 pub returns-clause-count : goal.returns-clause-count
-returns-clause-count c = let s = c.seat.inside in let old = c.seat.invariant in
-    let new = offer_keeps s.seat.table_id s.seat.me s.number c.in-Some.place s.free.items c.pop_front.new.self.items (deque_len s.free) (deque_capacity s.free) c.in-Some.ensures.items c.seat.invariant c.args.job c.put.new.seat.me c.put.ensures.there c.args.self.now.table.shared.table_id.slots c.store.new.seat.me c.store.ensures.2 c.store.new.seat.table_id (c.store.ensures.0 ∙ c.put.ensures.board) (deque_len c.pop_front.new.self) c.in-Some.ensures.cases (deque_capacity c.pop_front.new.self) c.in-Some.ensures.capacity in
-    omega (arith, old.4, new.4, c.in-Some.ensures.cases, ap (λ (x : AskerModel). jobs x.row) c.seat.view_is)
+returns-clause-count c =
+    let new = offer_keeps (offered ((goal.at.returns-clause-count c).After-put)) c.store.new.seat c.store.ensures in
+    omega (arith, c.seat.invariant.4, new.4, c.in-Some.ensures.cases, ap (λ (x : AskerModel). jobs x.row) c.seat.view_is)
 
 pub returns-clause-own : goal.returns-clause-own
-returns-clause-own c = let s = c.seat.inside in
-    let near = is_near s.seat.table_id s.seat.me s.number c.in-Some.place s.free.items c.pop_front.new.self.items (deque_len s.free) (deque_capacity s.free) c.in-Some.ensures.items c.seat.invariant in
-    let old = c.seat.invariant in
-    let same = ap (λ (x : AskerModel). x.number) c.seat.view_is in
-    (omega (arith, near, old.1, same), omega (arith, near, old.1, same))
+returns-clause-own c =
+    let near = is_near (offered ((goal.at.returns-clause-own c).After-put)) in let same = ap (λ (x : AskerModel). x.number) c.seat.view_is in
+    (omega (arith, near, c.seat.invariant.1, same), omega (arith, near, c.seat.invariant.1, same))

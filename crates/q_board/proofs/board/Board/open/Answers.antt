@@ -1,6 +1,6 @@
 -- Board::open: opens a board, with a seat for each asker and each runner.
 use Rattle.q_board.specs.BoardId.{board_id}
-use Rattle.q_board.proofs.Opened.{all_askers, all_runners}
+use Rattle.q_board.proofs.Opening.{all_askers, all_runners}
 use Rattle.q_board.proofs.board.Board.open.Goals as goal
 
 pub returns-clause-boards : goal.returns-clause-boards

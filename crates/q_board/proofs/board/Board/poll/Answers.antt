@@ -1,60 +1,59 @@
 -- Board::poll: looks once at a slot of the seat's own.
-use Rattle.std.proofs.Common.{◌≡◌, ◌+◌, ◌-◌, ◌*◌, ◌<◌, ◌∙◌, sym, ap, arith, refl, deque_len, deque_capacity}
-use Rattle.atomic_table.specs.Seated.{TableId}
-use Rattle.q_board.specs.AskerModel.{AskerModel, IsAsker}
+use Rattle.std.proofs.Common.{◌≡◌, ◌∙◌, sym, ap, arith}
+use Rattle.q_board.specs.AskerModel.{AskerModel}
 use Rattle.q_board.specs.Places.{jobs}
-use Rattle.q_board.proofs.AskerCalls.{look_allowed, look_keeps, look_shown, look_told, take_allowed, take_has, take_room, take_keeps}
+use Rattle.q_board.proofs.AskerCalls.{Polled, look_asks, look_keeps, look_shown, look_told, take_asks, take_has, take_room, take_keeps}
+use Rattle.q_board.proofs.board.Board.poll.Goals.{After-load}
 use Rattle.q_board.proofs.board.Board.poll.Goals as goal
 
+-- the seat before its look, and after
+before : (c : goal.After-load-arg-1) → Polled c.args.self.now c.seat.inside c.args.slot.index
+before c =
+    let number = ap (λ (x : AskerModel). x.number) c.seat.view_is in let inv₁ = c.seat.invariant.1 in
+    record {
+      apt = c.seat.invariant;
+      board = ap (λ (x : AskerModel). x.table) c.seat.view_is ∙ c.requires.board;
+      own = (omega (arith, c.requires.own.0), omega (arith, c.requires.own.1));
+    }
+
+after : (c : After-load) → Polled c.args.self.now (record c.seat.inside { seat = c.load.new.seat }) c.args.slot.index
+after c = look_keeps (before c.before) c.load.new.seat c.load.result c.load.ensures
+
 pub load-requires : goal.load-requires
-load-requires c = let s = c.seat.inside in let b = c.args.self.now in let t = b.table.shared.table_id in let i = c.args.slot.index in let k = i - 8 * s.number in
-    let board : s.seat.table_id ≡ t = ap (λ (x : AskerModel). x.table) c.seat.view_is ∙ c.requires.board in
-    let number = ap (λ (x : AskerModel). x.number) c.seat.view_is in let inv = c.seat.invariant in let inv₁ = inv.1 in let inv₇ = inv.7 in let own = c.requires.own in
-    let at : i ≡ 8 * s.number + k = omega arith in
-    (board, omega (arith, ap (λ (x : TableId). x.words) board), look_allowed s.seat.table_id s.seat.me s.number k s.free.items (deque_len s.free) (deque_capacity s.free) (omega arith) inv b.table.shared.key t.slots s.seat.id i (b.sized.1 ∙ sym b.sized.2) at)
+load-requires c = look_asks (before c)
 
 pub returns-then-load-finished-clause-looked : goal.returns-then-load-finished-clause-looked
-returns-then-load-finished-clause-looked c = let s = c.seat.inside in let t = c.args.self.now.table.shared.table_id in let i = c.args.slot.index in let k = i - 8 * s.number in
-    let number = ap (λ (x : AskerModel). x.number) c.seat.view_is in let inv = c.seat.invariant in let inv₁ = inv.1 in let own = c.requires.own in
-    look_told s.seat.table_id s.seat.me s.number k s.free.items (deque_len s.free) (deque_capacity s.free) (omega arith) inv i t.slots c.load.result c.load.new.seat.me c.load.ensures.2 (λ h. c.if-load-finished.true (h ∙ sym c.word-finished.ensures.word)) c.load.new.seat.table_id c.load.ensures.0 c.args.seat.now (sym c.seat.view_is)
+returns-then-load-finished-clause-looked c =
+    let l = (goal.at.returns-then-load-finished-clause-looked c).After-load in
+    let miss = λ (h : c.load.result ≡ 2). c.if-load-finished.true (h ∙ sym c.word-finished.ensures.word) in
+    look_told (before l.before) c.load.new.seat c.load.result c.load.ensures miss c.args.seat.now c.seat.view_is
 
 pub compare_exchange-requires : goal.compare_exchange-requires
-compare_exchange-requires c = let s = c.seat.inside in let b = c.args.self.now in let t = b.table.shared.table_id in let i = c.args.slot.index in let k = i - 8 * s.number in
-    let board : s.seat.table_id ≡ t = ap (λ (x : AskerModel). x.table) c.seat.view_is ∙ c.requires.board in
-    let number = ap (λ (x : AskerModel). x.number) c.seat.view_is in let inv = c.seat.invariant in let inv₁ = inv.1 in let inv₇ = inv.7 in let own = c.requires.own in
-    let near : k < 8 = omega arith in let at : i ≡ 8 * s.number + k = omega arith in let n = c.load.new.seat in
-    let inv' : IsAsker s.seat.table_id n.me s.number s.free.items (deque_len s.free) (deque_capacity s.free) = look_keeps s.seat.table_id s.seat.me s.number k s.free.items (deque_len s.free) (deque_capacity s.free) near inv i t.slots c.load.result n.me c.load.ensures.2 s.seat.table_id refl in
-    let shown = look_shown s.seat.table_id s.seat.me s.number k s.free.items (deque_len s.free) (deque_capacity s.free) near inv i t.slots c.load.result n.me c.load.ensures.2 (c.if-load-finished.false ∙ c.word-finished.ensures.word) in
-    (c.load.ensures.0 ∙ board, omega (arith, ap (λ (x : TableId). x.words) board), take_allowed s.seat.table_id n.me s.number k s.free.items (deque_len s.free) (deque_capacity s.free) near inv' i at b.table.shared.key t.slots n.id c.word-finished.result c.word-empty.result (b.sized.1 ∙ sym b.sized.2) shown c.word-finished.ensures.word c.word-empty.ensures.word)
+compare_exchange-requires c =
+    let l = (goal.at.compare_exchange-requires c).After-load in
+    let shown = look_shown (before l.before) c.load.new.seat c.load.result c.load.ensures (c.if-load-finished.false ∙ c.word-finished.ensures.word) in
+    take_asks (after l) c.word-finished.result c.word-empty.result shown c.word-finished.ensures.word c.word-empty.ensures.word
 
 pub exchange-taken-requires : goal.exchange-taken-requires
-exchange-taken-requires c = let s = c.seat.inside in let b = c.args.self.now in let t = b.table.shared.table_id in let i = c.args.slot.index in let k = i - 8 * s.number in
-    let board : s.seat.table_id ≡ t = ap (λ (x : AskerModel). x.table) c.seat.view_is ∙ c.requires.board in
-    let number = ap (λ (x : AskerModel). x.number) c.seat.view_is in let inv = c.seat.invariant in let inv₁ = inv.1 in let own = c.requires.own in
-    let near : k < 8 = omega arith in let at : i ≡ 8 * s.number + k = omega arith in let n = c.load.new.seat in
-    let inv' : IsAsker s.seat.table_id n.me s.number s.free.items (deque_len s.free) (deque_capacity s.free) = look_keeps s.seat.table_id s.seat.me s.number k s.free.items (deque_len s.free) (deque_capacity s.free) near inv i t.slots c.load.result n.me c.load.ensures.2 s.seat.table_id refl in
-    (c.compare_exchange.ensures.0 ∙ c.load.ensures.0 ∙ board, take_has s.seat.table_id n.me s.number k s.free.items (deque_len s.free) (deque_capacity s.free) near inv' i at t.slots c.compare_exchange.result c.compare_exchange.new.seat.me c.compare_exchange.ensures.2)
+exchange-taken-requires c =
+    let p = after ((goal.at.exchange-taken-requires c).After-load) in
+    (c.compare_exchange.ensures.0 ∙ p.board, take_has p c.compare_exchange.new.seat c.compare_exchange.result c.compare_exchange.ensures)
 
 pub push_front_reserved-requires : goal.push_front_reserved-requires
-push_front_reserved-requires c = let s = c.seat.inside in let t = c.args.self.now.table.shared.table_id in let i = c.args.slot.index in let k = i - 8 * s.number in
-    let number = ap (λ (x : AskerModel). x.number) c.seat.view_is in let inv = c.seat.invariant in let inv₁ = inv.1 in let own = c.requires.own in
-    let near : k < 8 = omega arith in let at : i ≡ 8 * s.number + k = omega arith in let n = c.load.new.seat in
-    let inv' : IsAsker s.seat.table_id n.me s.number s.free.items (deque_len s.free) (deque_capacity s.free) = look_keeps s.seat.table_id s.seat.me s.number k s.free.items (deque_len s.free) (deque_capacity s.free) near inv i t.slots c.load.result n.me c.load.ensures.2 s.seat.table_id refl in
-    take_room s.seat.table_id n.me s.number k s.free.items (deque_len s.free) (deque_capacity s.free) near inv' i at t.slots c.compare_exchange.result c.compare_exchange.new.seat.me c.compare_exchange.ensures.2
+push_front_reserved-requires c =
+    take_room (after ((goal.at.push_front_reserved-requires c).After-load)) c.compare_exchange.new.seat c.compare_exchange.result c.compare_exchange.ensures
 
 pub invariant_of-seat-2 : goal.invariant_of-seat-2
-invariant_of-seat-2 c = let s = c.seat.inside in let t = c.args.self.now.table.shared.table_id in let i = c.args.slot.index in let k = i - 8 * s.number in
-    let number = ap (λ (x : AskerModel). x.number) c.seat.view_is in let inv = c.seat.invariant in let inv₁ = inv.1 in let own = c.requires.own in
-    let near : k < 8 = omega arith in let at : i ≡ 8 * s.number + k = omega arith in let n = c.load.new.seat in let x = c.exchange-taken in let p = c.push_front_reserved in
-    let inv' : IsAsker s.seat.table_id n.me s.number s.free.items (deque_len s.free) (deque_capacity s.free) = look_keeps s.seat.table_id s.seat.me s.number k s.free.items (deque_len s.free) (deque_capacity s.free) near inv i t.slots c.load.result n.me c.load.ensures.2 s.seat.table_id refl in
-    take_keeps s.seat.table_id n.me s.number k s.free.items (deque_len s.free) (deque_capacity s.free) near inv' i at t.slots c.compare_exchange.result c.compare_exchange.new.seat.me c.compare_exchange.ensures.2
-    x.result x.new.seat.me x.ensures.2 x.ensures.3 x.new.seat.table_id (x.ensures.0 ∙ c.compare_exchange.ensures.0 ∙ c.load.ensures.0) (deque_len p.new.self) p.ensures.len (deque_capacity p.new.self) p.ensures.capacity p.new.self.items k p.ensures.items refl
+invariant_of-seat-2 c =
+    let p = after ((goal.at.invariant_of-seat-2 c).After-load) in
+    let x = c.exchange-taken in let q = c.push_front_reserved in
+    take_keeps p c.compare_exchange.new.seat c.compare_exchange.result c.compare_exchange.ensures
+    (record c.seat.inside { seat = x.new.seat; free = q.new.self }) x.result x.ensures q.ensures.len q.ensures.capacity q.ensures.items
 
 pub returns-clause-count : goal.returns-clause-count
-returns-clause-count c = let s = c.seat.inside in let t = c.args.self.now.table.shared.table_id in let i = c.args.slot.index in let k = i - 8 * s.number in
-    let number = ap (λ (x : AskerModel). x.number) c.seat.view_is in let inv = c.seat.invariant in let inv₁ = inv.1 in let own = c.requires.own in
-    let near : k < 8 = omega arith in let at : i ≡ 8 * s.number + k = omega arith in let n = c.load.new.seat in let x = c.exchange-taken in let p = c.push_front_reserved in
-    let inv' : IsAsker s.seat.table_id n.me s.number s.free.items (deque_len s.free) (deque_capacity s.free) = look_keeps s.seat.table_id s.seat.me s.number k s.free.items (deque_len s.free) (deque_capacity s.free) near inv i t.slots c.load.result n.me c.load.ensures.2 s.seat.table_id refl in
-    let new = take_keeps s.seat.table_id n.me s.number k s.free.items (deque_len s.free) (deque_capacity s.free) near inv' i at t.slots c.compare_exchange.result c.compare_exchange.new.seat.me c.compare_exchange.ensures.2
-    x.result x.new.seat.me x.ensures.2 x.ensures.3 x.new.seat.table_id (x.ensures.0 ∙ c.compare_exchange.ensures.0 ∙ c.load.ensures.0) (deque_len p.new.self) p.ensures.len (deque_capacity p.new.self) p.ensures.capacity p.new.self.items k p.ensures.items refl in
-    omega (arith, inv.4, new.4, p.ensures.len, ap (λ (x : AskerModel). jobs x.row) c.seat.view_is)
+returns-clause-count c =
+    let p = after ((goal.at.returns-clause-count c).After-load) in
+    let x = c.exchange-taken in let q = c.push_front_reserved in
+    let new = take_keeps p c.compare_exchange.new.seat c.compare_exchange.result c.compare_exchange.ensures
+    (record c.seat.inside { seat = x.new.seat; free = q.new.self }) x.result x.ensures q.ensures.len q.ensures.capacity q.ensures.items in
+    omega (arith, c.seat.invariant.4, new.4, q.ensures.len, ap (λ (x : AskerModel). jobs x.row) c.seat.view_is)

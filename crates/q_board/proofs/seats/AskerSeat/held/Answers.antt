@@ -16,5 +16,6 @@ returns-then-contains c = let p = c.args.place in let free = c.self.inside.free.
 pub returns : goal.returns
 returns c = let p = c.args.place in let free = c.self.inside.free.items in
     let stands : times p free ≡ 0 = any_no p free (sym c.if-contains.ensures.value) in
-    let t = c.self.invariant.5 p in let long = c.self.invariant.3 in let number = c.self.invariant.1 in let seen = ap (λ (x : AskerModel). x.number) c.self.view_is in
+    let t = c.self.invariant.5 p in let long = c.self.invariant.3 in let number = c.self.invariant.1 in
+    let seen = ap (λ (x : AskerModel). x.number) c.self.view_is in
     (omega arith, subst (λ (x : AskerModel). (j : Job) × is_at x.row p (Some j)) c.self.view_is (lacks_not _ p (omega (arith, c.requires)) (omega arith)))

@@ -9,5 +9,5 @@ use Rattle.q_book.proofs.book.Book.hand_out.Goals as goal
 pub invariant_of-self-2 : goal.invariant_of-self-2
 invariant_of-self-2 c =
     let b : BookState = book.the_view c.self.inside in
-    let hold = holds_inside present b c.args.self.now tt c.in_ok-check_here.field-0 c.self.view_is c.in_ok-check_here.ensures in
+    let hold = (holds_inside present c.self.view_is c.in_ok-check_here.ensures).1 in
     handed_book b c.in_ok-job.job c.hand_out.new.self hold c.in_ok-job.ensures c.self.invariant

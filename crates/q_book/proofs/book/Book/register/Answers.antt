@@ -8,5 +8,5 @@ use Rattle.q_book.proofs.book.Book.register.Goals as goal
 pub invariant_of-self-2 : goal.invariant_of-self-2
 invariant_of-self-2 c =
     let b : BookState = book.the_view c.self.inside in
-    let hold = holds_inside present b c.args.self.now tt c.in_ok-check_here.field-0 c.self.view_is c.in_ok-check_here.ensures in
+    let hold = (holds_inside present c.self.view_is c.in_ok-check_here.ensures).1 in
     registered_book b c.args.program.now c.in_ok-id.id c.register.new.self hold c.in_ok-id.ensures c.self.invariant

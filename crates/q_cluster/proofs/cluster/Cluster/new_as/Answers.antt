@@ -4,8 +4,7 @@ use Rattle.q_cluster.proofs.cluster.Cluster.new_as.Goals as goal
 
 pub invariant_of-result : goal.invariant_of-result
 invariant_of-result c =
-    new_cluster c.args.version c.args.config c.args.founders.now c.in_ok-books.books c.in_ok-ledger.ledger.past c.new-3.result.items c.in_ok-books.ensures c.in_ok-ledger.ensures c.new-3.ensures.items
+    new_cluster c.args.version c.args.config c.args.founders.now c.in_ok-books.ensures c.in_ok-ledger.ensures c.new-3.ensures.items
 
 pub returns : goal.returns
-returns c =
-    new_says c.args.version c.args.config c.args.founders.now c.in_ok-books.books c.in_ok-ledger.ledger.past c.new-3.result.items c.in_ok-books.ensures c.in_ok-ledger.ensures c.new-3.ensures.items
+returns c = new_says c.args.version c.args.config c.args.founders.now c.in_ok-books.ensures c.in_ok-ledger.ensures c.new-3.ensures.items

@@ -26,12 +26,15 @@ pub loop-place-preserved : goal.loop-place-preserved
 loop-place-preserved c =
     let es : List ClusterEvent = c.args.events.now in
     let e : ClusterEvent = c.index-events-place.result in
-    let more = take_more es c.loop-place.place e c.loop-place-test.true ∙ ap (λ (x : ClusterEvent). take c.loop-place.place es ++ x ∷ []) (sym c.index-events-place.is) in
+    let before : List ClusterEvent = take c.loop-place.place es in
+    let more = take_more es c.loop-place.place e c.loop-place-test.true ∙ ap (λ (x : ClusterEvent). before ++ x ∷ []) (sym c.index-events-place.is) in
     subst (λ (xs : List ClusterEvent). Reaches c.args.self.now xs c.take.new.self) (sym more)
-    (reaches_next (take c.loop-place.place es) c.args.self.now c.loop-place.self e c.in_default.field-0 c.take.new.self c.loop-place.invariant (c.in_default.ensures {u = tt}))
+    (reaches_next before c.args.self.now c.loop-place.self e c.in_default.field-0 c.take.new.self c.loop-place.invariant (c.in_default.ensures {u = tt}))
 
 pub returns : goal.returns
-returns c = subst (λ (xs : List ClusterEvent). Reaches c.args.self.now xs c.loop-place.self) (take_all c.loop-place.place c.args.events.now c.loop-place-test.false) c.loop-place.invariant
+returns c =
+    subst (λ (xs : List ClusterEvent). Reaches c.args.self.now xs c.loop-place.self)
+    (take_all c.loop-place.place c.args.events.now c.loop-place-test.false) c.loop-place.invariant
 
 pub loop-place-init : goal.loop-place-init
 loop-place-init c = refl

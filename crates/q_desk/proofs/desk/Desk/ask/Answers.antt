@@ -3,6 +3,7 @@ use Rattle.std.proofs.Common.{◌≡◌, ◌++◌, ◌∷◌, [], List, rules, s
 use Rattle.q_session.specs.declared.query.Query.{Query}
 use Rattle.q_desk.specs.declared.journal.Call.TheVariants as call
 use Rattle.q_desk.specs.declared.journal.Entry.TheVariants as entry
+use Rattle.q_desk.specs.contracts.desk.Desk as desk
 use Rattle.q_desk.specs.Keeping.{IsDesk}
 use Rattle.q_desk.specs.Desks.{begun, how_many_run}
 use Rattle.q_desk.proofs.Keeps.{desk-appended, desk-begun}
@@ -11,10 +12,11 @@ use Rattle.q_desk.proofs.desk.Desk.ask.Goals as goal
 
 pub invariant_of-self-2 : goal.invariant_of-self-2
 invariant_of-self-2 c =
-    let s = c.self.inside in
+    let s = desk.the_view c.self.inside in
     let q = begun c.in_ok-begun.begun.tag c.args.program c.args.start in
-    let pushed : s.queries.items ++ q ∷ [] ≡ c.push_reserved.new.self.items = search rules in (
-      subst (λ (queries : List Query). IsDesk (record { lengths = s.lengths; programs = s.programs; queries = queries; journal = c.append.new.entries.items })) pushed
-          (desk-appended _ (entry.Call (call.Ask c.args.program c.args.start)) _ (record { room = search rules; is = search rules }) (desk-begun _ q c.self.invariant.0 (search rules) (search rules) refl)),
-      record { counted = c.self.invariant.1.counted ∙ sym (run-begun s.queries.items q refl) ∙ ap how_many_run pushed; fits = search rules },
+    let kept = desk-begun s q c.self.invariant.0 (search rules) (search rules) refl in
+    let pushed : s.queries ++ q ∷ [] ≡ c.push_reserved.new.self.items = search rules in (
+      subst (λ (queries : List Query). IsDesk (record s { queries = queries; journal = c.append.new.entries.items })) pushed
+          (desk-appended _ (entry.Call (call.Ask c.args.program c.args.start)) _ (record { room = search rules; is = search rules }) kept),
+      record { counted = c.self.invariant.1.counted ∙ sym (run-begun s.queries q refl) ∙ ap how_many_run pushed; fits = search rules },
     )

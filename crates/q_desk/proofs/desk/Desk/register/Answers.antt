@@ -14,8 +14,9 @@ invariant_of-self-2 c =
     let s = c.self.inside in
     let program = c.args.program.now in
     let lengths = c.lengths.ensures.value ∙ ap (λ (p : Certificate). p.lengths) c.certified.ensures in
+    let registers = ap (λ (p : Certificate). registered s.programs p) (sym c.in_ok-encoded.ensures) ∙ c.in_ok-id.ensures in
     let same = sym lengths ∙ same_lengths c.lengths.result s.lengths (not-false _ (sym c.if-ne.ensures)) in (
       desk-appended _ (entry.Call (call.Register program)) _ (record { room = search rules; is = search rules })
-          (desk-registered _ _ program c.in_ok-id.id (id_of s.programs program.text) (ap (λ p. registered s.programs p) (sym c.in_ok-encoded.ensures) ∙ c.in_ok-id.ensures) same c.self.invariant.0 c.len-count.ensures.table),
+          (desk-registered _ _ program c.in_ok-id.id (id_of s.programs program.text) registers same c.self.invariant.0 c.len-count.ensures.table),
       record { counted = c.self.invariant.1.counted; fits = search rules },
     )

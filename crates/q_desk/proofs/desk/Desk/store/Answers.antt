@@ -6,5 +6,7 @@ use Rattle.q_desk.proofs.Keeps.{desk-appended}
 use Rattle.q_desk.proofs.desk.Desk.store.Goals as goal
 
 pub invariant_of-self-2 : goal.invariant_of-self-2
-invariant_of-self-2 c =
-    (desk-appended _ (entry.Call (call.Store c.args.value.now)) _ (record { room = search rules; is = search rules }) c.self.invariant.0, record { counted = c.self.invariant.1.counted; fits = search rules })
+invariant_of-self-2 c = (
+  desk-appended _ (entry.Call (call.Store c.args.value.now)) _ (record { room = search rules; is = search rules }) c.self.invariant.0,
+  record { counted = c.self.invariant.1.counted; fits = search rules },
+)

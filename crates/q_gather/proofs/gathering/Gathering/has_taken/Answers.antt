@@ -6,4 +6,5 @@ use Rattle.q_gather.proofs.gathering.Gathering.has_taken.Goals as goal
 
 pub returns-in-Some : goal.returns-in-Some
 returns-in-Some c =
-    taken_test c.args.self.now.cluster c.args.book.now c.in-Some.now.now c.events.result c.events-in-Some.result (c.in-Some.ensures ∙ ap (book_at c.args.self.now.cluster) c.id.ensures) c.events.ensures c.events-in-Some.ensures
+    taken_test c.args.self.now.cluster c.args.book.now (c.in-Some.ensures ∙ ap (book_at c.args.self.now.cluster) c.id.ensures)
+    c.events.ensures c.events-in-Some.ensures

@@ -5,4 +5,4 @@ use Rattle.q_gather.proofs.gathering.Gathering.take.Goals as goal
 pub returns-clause-numbers : goal.returns-clause-numbers
 returns-clause-numbers c =
     λ outs are is.
-    c.number_from.ensures (sent_before c.args.self.now.cluster.past.sent c.step.new.self.past.sent outs c.sent-before.result c.args.self.now.numbers c.sent-before.ensures is are)
+    c.number_from.ensures (sent_before c.args.self.now.cluster.past.sent outs c.args.self.now.numbers c.sent-before.ensures is are)

@@ -5,4 +5,4 @@ use Rattle.q_gather.proofs.message_numbers.MessageNumbers.find.Goals as goal
 
 pub returns-clause-number : goal.returns-clause-number
 returns-clause-number c =
-    c.copied.ensures ∙ found_number c.in_ok-bytes.bytes.items _ c.self.inside.by_bytes.entries c.args.self.now _ c.in_ok-bytes.ensures.spelled c.self.view_is c.get.ensures.value
+    c.copied.ensures ∙ found_number c.self.inside.by_bytes.entries c.in_ok-bytes.ensures.spelled c.self.view_is c.get.ensures.value

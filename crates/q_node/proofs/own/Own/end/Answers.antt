@@ -1,6 +1,6 @@
 -- Own::end: writes what the file lacks still, and ends the node.
 use Rattle.std.proofs.Common.{◌∙◌, ap, subst, sym}
-use Rattle.q_doors.specs.Books.{IsBookOf}
+use Rattle.q_book.specs.Replays.{IsBookOf}
 use Rattle.q_node.specs.State.{OwnState}
 use Rattle.q_node.proofs.Told.{finishes_at}
 use Rattle.q_node.proofs.own.Own.end.Goals as goal
@@ -12,4 +12,5 @@ returns-clause-kept g c =
 
 pub returns-clause-finished : goal.returns-clause-finished
 returns-clause-finished g c =
-    finishes_at _ _ _ _ c.record_all.result _ (ap (λ (o : OwnState). o.recorder) c.self.view_is) (ap (λ (o : OwnState). o.book) c.self.view_is) c.record_all.ensures.finished
+    finishes_at _ _ _ _ c.record_all.result _ (ap (λ (o : OwnState). o.recorder) c.self.view_is) (ap (λ (o : OwnState). o.book) c.self.view_is)
+    c.record_all.ensures.finished

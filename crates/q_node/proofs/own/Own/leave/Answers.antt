@@ -1,6 +1,6 @@
 -- Own::leave: leaves the cluster for good, and settles.
 use Rattle.std.proofs.Common.{subst}
-use Rattle.q_doors.specs.Books.{IsBookOf}
+use Rattle.q_book.specs.Replays.{IsBookOf}
 use Rattle.q_node.proofs.Settled.{leaves_at}
 use Rattle.q_node.proofs.Told.{says_left}
 use Rattle.q_node.proofs.own.Own.leave.Goals as goal

@@ -15,5 +15,8 @@ loop-at-preserved g c =
     let room = length into - from in
     let within = i.1 in
     let part = slice_range-put_mid from room c.in-Ok.n into c.read.new.buf within c.in-Ok.ensures.bound.0 in
-    let joined = take_split from (from + c.in-Ok.n) into (put_mid from room into c.read.new.buf) (omega arith) (take-put_mid_below _ _ _ _ _ (le_refl _) within) in
-    (search rules, search rules, search rules, search rules, search rules, subst (Consumes _ _) (ap (λ l. take from into ++ l) (sym part) ∙ joined) (Consumes-trans _ _ _ _ _ i.5 c.in-Ok.ensures.bytes.0))
+    let kept = take-put_mid_below _ _ _ _ _ (le_refl _) within in
+    let joined = take_split from (from + c.in-Ok.n) into (put_mid from room into c.read.new.buf) (omega arith) kept in
+    let consumed = Consumes-trans _ _ _ _ _ i.5 c.in-Ok.ensures.bytes.0 in
+    let taken = subst (Consumes _ _) (ap (λ l. take from into ++ l) (sym part) ∙ joined) consumed in
+    (search rules, search rules, search rules, search rules, search rules, taken)

@@ -15,4 +15,5 @@ loop-piece-preserved g c =
     let i = c.loop-piece.piece-index in
     let one = get_or pieces i (Number 0) in
     let more : take (i + 1) pieces ≡ take i pieces ++ one ∷ [] = search (rules, take_more) in
-    (one_more_written piece_text _ _ _ (take i pieces) (take (i + 1) pieces) one more c.loop-piece.invariant.0 c.in_ok-put_piece.ensures.written, search rules, search rules, search rules)
+    let written = one_more_written piece_text _ _ _ (take i pieces) (take (i + 1) pieces) one more c.loop-piece.invariant.0 in
+    (written c.in_ok-put_piece.ensures.written, search rules, search rules, search rules)

@@ -9,7 +9,8 @@ returns-in-None-clause-bytes c =
 
 pub returns-then-len-most-clause-bytes : goal.returns-then-len-most-clause-bytes
 returns-then-len-most-clause-bytes c = (
-  too_long c.args.most c.args.self.now c.args.name.now c.in-Some.bytes.now.items c.fail-then-len-most.result c.fail-then-len-most.ensures.fault (search rules) (omega (arith, c.if-len-most.true, c.len.ensures)),
+  too_long c.args.most c.args.self.now c.args.name.now c.in-Some.bytes.now.items c.fail-then-len-most.result c.fail-then-len-most.ensures.fault
+      (search rules) (omega (arith, c.if-len-most.true, c.len.ensures)),
   search rules,
   search rules,
 )

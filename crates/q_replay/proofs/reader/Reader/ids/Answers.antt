@@ -12,5 +12,5 @@ returns-in_err-count-clause-none c =
 pub returns-in_err-id-clause-none : goal.returns-in_err-id-clause-none
 returns-in_err-id-clause-none c =
     no_form c.from_residual-in_err-id.result
-    (too_few (number_bytes 8) (λ id. id < 2 ^ 64) (numbers_are_code 8) 2 c.args.self.now.rest.now c.in_ok-count.count c.loop.ids.items c.loop.self.rest.now c.in_ok-count.ensures.fits c.loop.invariant.read (omega arith)
+    (too_few (number_bytes 8) (λ id. id < 2 ^ 64) (numbers_are_code 8) 2 _ _ _ _ c.in_ok-count.ensures.fits c.loop.invariant.read (omega arith)
     (no_number 8 c.loop.self.rest.now c.in_err-id.ensures.none))

@@ -1,5 +1,5 @@
 -- Bytes::program: a text behind its length, and notes, in the form of that version.
-use Rattle.std.proofs.Common.{◌≡◌, ◌≤◌, ◌++◌, length, ap, ◌∙◌, arith}
+use Rattle.std.proofs.Common.{◌≡◌, ◌++◌, length, ap, ◌∙◌, arith}
 use Rattle.std.proofs.lemmas.Result.{on_ok_weaker}
 use Rattle.q_replay.proofs.Sizes.{text_small}
 use Rattle.q_replay.proofs.Writes.{program_written}
@@ -7,12 +7,12 @@ use Rattle.q_replay.proofs.writer.Bytes.program.Goals as goal
 
 pub overflow_cast-len : goal.overflow_cast-len
 overflow_cast-len c =
-    let text : length c.in_ok-spelling.spelling.items ≤ 32768 = omega (arith, ap length c.in_ok-spelling.ensures.spelled, text_small c.args.text.now c.in_ok-spelling.ensures.text) in
-    omega arith
+    omega (arith, ap length c.in_ok-spelling.ensures.spelled, text_small c.args.text.now c.in_ok-spelling.ensures.text)
 
 pub returns-clause-spelled : goal.returns-clause-spelled
 returns-clause-spelled c =
     on_ok_weaker c.append-2.result
-    (λ (last : c.append-2.new.self ≡ c.append.new.self ++ c.deref-2.result.now). program_written c.args.version c.args.self.now c.word.new.self c.append.new.self c.append-2.new.self c.deref.result.now c.deref-2.result.now c.args.text.now c.args.notes.now c.len.result
-    (c.deref.ensures.value ∙ c.in_ok-spelling.ensures.spelled) (c.deref-2.ensures.value ∙ c.in_ok-notes.ensures.spelled) (omega arith) c.in_ok-word.ensures.spelled c.in_ok-append.ensures last)
+    (λ (last : c.append-2.new.self ≡ c.append.new.self ++ c.deref-2.result.now). program_written c.args.version c.args.self.now c.args.text.now c.args.notes.now
+    (c.deref.ensures.value ∙ c.in_ok-spelling.ensures.spelled) (c.deref-2.ensures.value ∙ c.in_ok-notes.ensures.spelled)
+    c.in_ok-word.ensures.spelled (omega arith) c.in_ok-append.ensures last)
     c.append-2.ensures

@@ -9,4 +9,4 @@ pub returns-in_default-read : goal.returns-in_default-read
 returns-in_default-read c = no_command c.args.text.now c.in-Some.word.now c.in-Some.rest.now c.in-Some.ensures c.in_default-read.ensures
 
 pub returns : goal.returns
-returns c = line_judged c.args.text.now c.in-Some.word.now c.in-Some.rest.now c.in-Some-read.command c.operands.result c.in-Some.ensures c.in-Some-read.ensures c.operands.ensures
+returns c = line_judged c.args.text.now _ _ c.in-Some-read.command c.operands.result c.in-Some.ensures c.in-Some-read.ensures c.operands.ensures

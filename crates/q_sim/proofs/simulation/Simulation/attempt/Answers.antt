@@ -1,5 +1,5 @@
 -- Simulation::attempt: delivers a message to a node, and notes that it was tried.
-use Rattle.std.proofs.Common.{◌≤◌, length, refl, arith}
+use Rattle.std.proofs.Common.{refl, arith}
 use Rattle.q_sim.specs.Seen.{seen}
 use Rattle.q_sim.specs.Simulates.{SimState}
 use Rattle.q_sim.proofs.Goes.{takes_goes}
@@ -12,11 +12,10 @@ invariant_of-self-2 c =
     let cluster = c.step-answer.new.self in
     let delivered = c.insert.new.self in
     let goes = takes_goes s.cluster cluster _ c.step-answer.result (λ id is. absurd (cc)) c.step-answer.ensures.takes in
-    let low : s.awaited_from ≤ length s.cluster.past.sent = s.sent in
-    let more : length s.cluster.past.sent ≤ length cluster.past.sent = goes.sent in
-    let after : SimState = record { cluster = cluster; nodes = s.nodes.items; delivered = delivered; unsaved = s.unsaved; line = s.line; faults = s.faults.items } in
+    let grows = grows_either c.insert.result s.delivered delivered (c.args.message, c.args.node) c.insert.ensures.ok c.insert.ensures.err in
+    let after : SimState = record (seen s) { cluster = cluster; delivered = delivered } in
     record {
       rising = s.rising;
-      sent = omega (arith, low, more);
-      passed = still_from (seen s) after goes refl (grows_either c.insert.result s.delivered delivered (c.args.message, c.args.node) c.insert.ensures.ok c.insert.ensures.err) s.awaited_from low s.passed;
+      sent = omega (arith, s.sent, goes.sent);
+      passed = still_from (seen s) after goes refl grows s.awaited_from s.sent s.passed;
     }

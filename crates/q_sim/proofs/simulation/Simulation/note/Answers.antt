@@ -10,9 +10,7 @@ pub invariant_of-self : goal.invariant_of-self
 invariant_of-self c =
     let s = c.args.self.now in
     let delivered = c.insert.new.self in
-    let after : SimState = record { cluster = s.cluster; nodes = s.nodes.items; delivered = delivered; unsaved = s.unsaved; line = s.line; faults = s.faults.items } in
-    record {
-      rising = s.rising;
-      sent = s.sent;
-      passed = still_from (seen s) after (goes_itself s.cluster) refl (grows_either c.insert.result s.delivered delivered (c.in-Ok-Deliver.message, c.in-Ok-Deliver.node) c.insert.ensures.ok c.insert.ensures.err) s.awaited_from s.sent s.passed;
-    }
+    let pair = c.in-Ok-Deliver in
+    let grows = grows_either c.insert.result s.delivered delivered (pair.message, pair.node) c.insert.ensures.ok c.insert.ensures.err in
+    let after : SimState = record (seen s) { delivered = delivered } in
+    record { rising = s.rising; sent = s.sent; passed = still_from (seen s) after (goes_itself s.cluster) refl grows s.awaited_from s.sent s.passed }

@@ -1,6 +1,5 @@
 -- Simulation::perform_other: runs a line that is not an event and nothing else.
-use Rattle.std.proofs.Common.{ℕ, List, subst}
-use Rattle.std.specs.Prelude.{OnOk}
+use Rattle.std.proofs.Common.{subst, OnOk}
 use Rattle.q_sim.specs.Simulates.{Calls, Saves, Spreads, Tells}
 use Rattle.q_sim.specs.Seen.{PrintsOver}
 use Rattle.q_sim.proofs.Performing.{leaves_files, performed}
@@ -24,4 +23,5 @@ returns-in-Pairs g c =
 pub returns-in-Journal : goal.returns-in-Journal
 returns-in-Journal g c =
     performed g.F.Files.write_gives c.save.result c.args.self.now c.save.new.self c.args.files.now c.save.new.files c.args.line _ c.in-Journal.is
-    (subst (λ (name : List ℕ). OnOk c.save.result (PrintsOver (Saves g.F.Files.write_gives c.in-Journal.node name) c.args.self.now c.args.files.now c.save.new.self c.save.new.files)) c.as_str.ensures.value c.save.ensures)
+    (subst (λ name. OnOk c.save.result (PrintsOver (Saves g.F.Files.write_gives c.in-Journal.node name) c.args.self.now c.args.files.now
+    c.save.new.self c.save.new.files)) c.as_str.ensures.value c.save.ensures)

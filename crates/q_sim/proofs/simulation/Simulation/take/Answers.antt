@@ -1,5 +1,5 @@
 -- Simulation::take: takes one event.
-use Rattle.std.proofs.Common.{◌≤◌, length, refl, arith, Ok}
+use Rattle.std.proofs.Common.{refl, arith, Ok}
 use Rattle.q_sim.specs.Seen.{seen}
 use Rattle.q_sim.specs.Simulates.{SimState}
 use Rattle.q_sim.proofs.Goes.{takes_goes}
@@ -11,11 +11,9 @@ invariant_of-self-in_default c =
     let s = c.args.self.now in
     let cluster = c.step.new.self in
     let goes = takes_goes s.cluster cluster c.args.event.now (Ok c.in_ok-stepped.stepped) c.in_default.not-Enter c.in_ok-stepped.ensures.takes in
-    let low : s.awaited_from ≤ length s.cluster.past.sent = s.sent in
-    let more : length s.cluster.past.sent ≤ length cluster.past.sent = goes.sent in
-    let after : SimState = record { cluster = cluster; nodes = s.nodes.items; delivered = s.delivered; unsaved = s.unsaved; line = s.line; faults = s.faults.items } in
+    let after : SimState = record (seen s) { cluster = cluster } in
     record {
       rising = s.rising;
-      sent = omega (arith, low, more);
-      passed = still_from (seen s) after goes refl (grows_itself s.delivered s.delivered refl) s.awaited_from low s.passed;
+      sent = omega (arith, s.sent, goes.sent);
+      passed = still_from (seen s) after goes refl (grows_itself s.delivered s.delivered refl) s.awaited_from s.sent s.passed;
     }

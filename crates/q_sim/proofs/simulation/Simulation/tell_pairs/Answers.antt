@@ -6,4 +6,5 @@ use Rattle.q_sim.proofs.simulation.Simulation.tell_pairs.Goals as goal
 
 pub returns : goal.returns
 returns c =
-    pairs_told c.print_pairs.result (seen c.args.self.now) c.ops.result.now (string_bytes c.args.self.now.lines) (string_bytes c.print_pairs.new.lines) c.ops.ensures.ops c.print_pairs.ensures
+    pairs_told c.print_pairs.result (seen c.args.self.now) c.ops.result.now (string_bytes c.args.self.now.lines) (string_bytes c.print_pairs.new.lines)
+    c.ops.ensures.ops c.print_pairs.ensures
