@@ -13,6 +13,8 @@
 //! bytes, and programs are checked for records of 64; in the second a value has 0 to 112 bytes, and programs are
 //! checked for records of 16 to 128 ([`record_lengths`]). A new book has the second.
 //!
+//! [`is_of`] tells whose book it is, and [`read_notes`] reads the notes of a program in the form of a version.
+//!
 //! Its type keeps that a book is the replay of its journal: the calls that the journal names, from the first state of
 //! its node, lead to this book and to no other entry of the journal. So each recorded answer is the meaning of its
 //! query's program, folded over the view that its own collect returned.

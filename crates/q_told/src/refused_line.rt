@@ -15,8 +15,8 @@ fn code_of(alloc: Global, text: &str) -> Result<Vec<u8>, AllocError> {
     }
 }
 
-/// Writes which instruction of the program of these bytes is refused, with what is known there; nothing of a refusal that
-/// is of no program.
+/// Writes which instruction of the program of these bytes is refused, with what is known there; nothing of a refusal
+/// that is of no program.
 ///
 /// The one error is that memory ran out (99 OutOfMemory); a part may have been written then.
 pub fn write_instruction(
