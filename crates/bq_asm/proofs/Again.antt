@@ -1,14 +1,15 @@
 -- An operand that is written is read again, and so is a statement.
-use Rattle.std.proofs.Common.{◌≡◌, ◌≢◌, ℕ, suc, ◌-◌, ◌^◌, ◌<◌, true, false, cond, eqb, ltb, ◌&&◌, refl, ap, sym, ◌∙◌, subst, inl, inr, ◌⊎◌, arith}
+use Rattle.std.proofs.Common.{◌≡◌, ℕ, suc, ◌-◌, ◌^◌, ◌<◌, true, false, cond, eqb, ltb, ◌&&◌, refl, ap, sym, ◌∙◌, subst, arith}
 use Rattle.std.specs.Prelude.{ℤ, pos, negsuc, FitsSigned, option_map, List, [], ◌∷◌, ◌++◌, length, Option, Some, None, IsTrue}
 use Rattle.std.specs.List.{AllByRecursion, list_all}
 use Rattle.std.specs.Int.{w16, w32}
 use Rattle.std.specs.Char.{is_ascii_digit}
 use Rattle.std.specs.Fmt.{decimal, signed_decimal}
-use Rattle.std.proofs.lemmas.Bool.{cond-false, cond-true, eqb-true, and_parts, and_from, cases_Bool, lt-ltb, false≢true}
+use Rattle.std.proofs.lemmas.Bool.{cond-false, cond-true, ne_eqb, and_from, lt-ltb, false≢true}
 use Rattle.std.proofs.lemmas.Bool.Decides.{nat_tests}
-use Rattle.std.proofs.lemmas.Fmt.{digits_decimal}
 use Rattle.std.proofs.lemmas.List.{append_assoc, append-nil}
+use Rattle.std.proofs.lemmas.List.Elements.{All-from_recursion}
+use Rattle.std.proofs.lemmas.List.Sums.{list_all-from_AllPass}
 use Rattle.bq_insn.specs.declared.insn.Operand.TheVariants as operands
 use Rattle.bq_insn.specs.declared.insn.Operand.{Operand}
 use Rattle.bq_insn.specs.declared.insn.Insn.TheVariants as insns
@@ -18,37 +19,33 @@ use Rattle.bq_asm.specs.declared.jump.Jump.TheVariants as jumps
 use Rattle.bq_asm.specs.Statement.{Statement, Complete, JumpTo}
 use Rattle.bq_asm.specs.Line.{IsName, IsJump, IsStatement, is_letter, is_name_byte, AreListed, statement_operands, statement_mnemonic}
 use Rattle.bq_asm.specs.Operands.{register, operand, distance, memory, jump_insn, jump_mnemonic, jump_operands}
-use Rattle.bq_asm.specs.Reading.{◌>>=◌, strip, positive_at, negative_at, signed_at, signed_else, distance_at, distance_else, positive_of, negative_of, fits, register_at, operand_at, operand_else, place_of, place_else, place_at, memory_at, is_name, jump_bits, target_at, target_else, pair_at, trimmed, statement_at}
-use Rattle.bq_asm.proofs.Parts.{Lacks, cut_none, cut_at, strip_none}
-use Rattle.spelling.proofs.Decimal.{own, natural_decimal}
+use Rattle.bq_asm.specs.Reading.{◌>>=◌, strip, trimmed, pair_at, positive_of, positive_at, negative_of, negative_at, signed_else, signed_at}
+use Rattle.bq_asm.specs.Reading.{distance_else, distance_at, fits, register_at, operand_else, operand_at, place_of, place_else, place_at, memory_at}
+use Rattle.bq_asm.specs.Reading.{is_name, jump_bits, target_else, target_at, statement_at}
+use Rattle.bq_asm.proofs.Parts.{Lacks, cut_none, cut_at, strip_lacks}
+use Rattle.spelling.proofs.Decimal.{decimal_each, natural_decimal}
 use Rattle.bq_asm.proofs.Spaces.{Starts, Ends, spaces_lack, lacks_append, starts_append, ends_append, trimmed_between}
-use Rattle.bq_asm.proofs.Clean.{Word, no_comma, clean_lacks, clean_ends, word_starts, register_word, operand_word, distance_word, decimal_word, memory_word, name_word, wider}
+use Rattle.bq_asm.proofs.Clean.{Word, no_comma, clean_lacks, clean_ends, word_starts, wider}
+use Rattle.bq_asm.proofs.Clean.{register_word, operand_word, distance_word, decimal_word, memory_word, name_word}
 
 -- ---- digits
 
-not_digit : (k : ℕ) (s : List ℕ) → is_ascii_digit k ≡ false → list_all is_ascii_digit s ≡ true → (rest : List ℕ) → s ≢ k ∷ rest
-not_digit k s n h rest e =
-    let all = subst (λ xs. list_all is_ascii_digit xs ≡ true) e h in
-    false≢true (sym n ∙ (and_parts (is_ascii_digit k) (list_all is_ascii_digit rest) all).0)
+no_digit : (k c : ℕ) → is_ascii_digit k ≡ false → is_ascii_digit c ≡ true → eqb c k ≡ false
+no_digit k c n h = ne_eqb c k (λ same. false≢true (sym n ∙ ap is_ascii_digit (sym same) ∙ h))
 
-no_digit : (k c : ℕ) → is_ascii_digit k ≡ false → is_ascii_digit c ≡ true → (eqb c k ≡ true) ⊎ (eqb c k ≡ false) → eqb c k ≡ false
-no_digit k c n h (inl e) = absurd (false≢true (sym n ∙ ap is_ascii_digit (sym (eqb-true c k e)) ∙ h))
-no_digit k c n h (inr e) = e
-
-digits_lack : (k : ℕ) (s : List ℕ) → is_ascii_digit k ≡ false → list_all is_ascii_digit s ≡ true → Lacks k s
-digits_lack k [] n h = tt
-digits_lack k (c ∷ s) n h = let p = and_parts _ _ h in (no_digit k c n p.0 (cases_Bool (eqb c k)), digits_lack k s n p.1)
+decimal_lacks : (k n : ℕ) → n < 2 ^ 64 → is_ascii_digit k ≡ false → Lacks k (decimal n)
+decimal_lacks k n l e = decimal_each (λ c. eqb c k ≡ false) (λ c digit. no_digit k c e digit) n l
 
 -- a number has no such byte in front
 front : (k n : ℕ) → n < 2 ^ 64 → is_ascii_digit k ≡ false → strip k (decimal n) ≡ None
-front k n l e = strip_none k (decimal n) (not_digit k (decimal n) e (digits_decimal own n l))
+front k n l e = strip_lacks k (decimal n) (decimal_lacks k n l e)
 
 register_lacks : (k r : ℕ) → r < 11 → is_ascii_digit k ≡ false → eqb 114 k ≡ false → Lacks k (register r)
-register_lacks k r l e h = (h, digits_lack k (decimal r) e (digits_decimal own r (omega arith)))
+register_lacks k r l e h = (h, decimal_lacks k r (omega arith) e)
 
 distance_lacks : (k : ℕ) (z : ℤ) → FitsSigned w32 z → is_ascii_digit k ≡ false → eqb 43 k ≡ false → eqb 45 k ≡ false → Lacks k (distance z)
-distance_lacks k (pos n) l e h g = (h, digits_lack k (decimal n) e (digits_decimal own n (omega arith)))
-distance_lacks k (negsuc n) l e h g = (g, digits_lack k (decimal (suc n)) e (digits_decimal own (suc n) (omega arith)))
+distance_lacks k (pos n) l e h g = (h, decimal_lacks k n (omega arith) e)
+distance_lacks k (negsuc n) l e h g = (g, decimal_lacks k (suc n) (omega arith) e)
 
 -- ---- numbers
 
@@ -113,7 +110,7 @@ place_again b (pos n) l h =
     ap (place_else (register b ++ distance (pos n))) (cut_at 43 (register b) (decimal n) (register_lacks 43 b l refl refl))
     ∙ place_is b (pos n) (positive_at (decimal n)) l (fits16 (pos n) h) (positive_again n (omega arith))
 place_again b (negsuc n) l h =
-    let digits = digits_lack 43 (decimal (suc n)) refl (digits_decimal own (suc n) (omega arith)) in
+    let digits = decimal_lacks 43 (suc n) (omega arith) refl in
     let lacks = lacks_append 43 (register b) (distance (negsuc n)) (register_lacks 43 b l refl refl) (refl, digits) in
     ap (place_else (register b ++ distance (negsuc n))) (cut_none 43 (register b ++ distance (negsuc n)) lacks)
     ∙ ap (λ o. o >>= λ p. place_of p.0 (negative_at p.1)) (cut_at 45 (register b) (decimal (suc n)) (register_lacks 45 b l refl refl))
@@ -130,8 +127,7 @@ memory_again b o l h =
 -- ---- names
 
 name_bytes : (s : List ℕ) → AllByRecursion (λ d. IsTrue (is_name_byte d)) s → list_all is_name_byte s ≡ true
-name_bytes [] h = refl
-name_bytes (c ∷ s) h = and_from _ _ h.0 (name_bytes s h.1)
+name_bytes s h = list_all-from_AllPass is_name_byte s (All-from_recursion (λ d. is_name_byte d ≡ true) s h)
 
 pub name_again : (s : List ℕ) → IsName s → is_name s ≡ true
 name_again [] h = absurd h

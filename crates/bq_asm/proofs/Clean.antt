@@ -1,13 +1,13 @@
 -- Words: texts with no space, comma, colon, `#` or line feed.
-use Rattle.std.proofs.Common.{◌≡◌, ℕ, suc, ◌^◌, ◌<◌, Bool, true, false, eqb, not, ◌&&◌, List, [], ◌∷◌, ◌++◌, length, refl, ap, arith, IsTrue}
+use Rattle.std.proofs.Common.{◌≡◌, ℕ, suc, ◌^◌, ◌<◌, Bool, true, false, eqb, not, ◌&&◌, List, [], ◌∷◌, ◌++◌, length, refl, ap, arith}
 use Rattle.std.specs.Prelude.{ℤ, pos, negsuc, FitsSigned, codes}
 use Rattle.std.specs.List.{AllByRecursion, list_all}
 use Rattle.std.specs.Int.{w16, w32}
 use Rattle.std.specs.Char.{is_ascii_digit}
 use Rattle.std.specs.Fmt.{decimal}
-use Rattle.std.proofs.lemmas.Bool.{cond-false, and_parts}
+use Rattle.std.proofs.lemmas.Bool.{cond-false}
 use Rattle.std.proofs.lemmas.Bool.Decides.{nat_tests}
-use Rattle.std.proofs.lemmas.Fmt.{digits_decimal, decimal_nonempty}
+use Rattle.std.proofs.lemmas.Fmt.{decimal_nonempty}
 use Rattle.bq_insn.specs.declared.insn.Operand.TheVariants as operands
 use Rattle.bq_insn.specs.declared.insn.Operand.{Operand}
 use Rattle.bq_insn.specs.Insn.{IsOperand}
@@ -16,7 +16,8 @@ use Rattle.bq_asm.specs.Line.{IsName, is_letter, is_name_byte}
 use Rattle.bq_asm.specs.Operands.{register, operand, distance, memory}
 use Rattle.bq_asm.proofs.Parts.{Lacks}
 use Rattle.bq_asm.proofs.Spaces.{Starts, Ends}
-use Rattle.spelling.proofs.Decimal.{own}
+use Rattle.spelling.proofs.Decimal.{decimal_each}
+use Rattle.spelling.proofs.Lists.{all_append, all_wider, all_passed}
 
 abbrev pub is_clean : ℕ → Bool
 is_clean c = not (eqb c 32) && (not (eqb c 35) && (not (eqb c 44) && (not (eqb c 58) && not (eqb c 10))))
@@ -25,16 +26,13 @@ abbrev pub Clean : List ℕ → Type 0
 Clean s = AllByRecursion (λ c. is_clean c ≡ true) s
 
 pub clean_from : (s : List ℕ) → list_all is_clean s ≡ true → Clean s
-clean_from [] h = tt
-clean_from (c ∷ s) h = let p = and_parts _ _ h in (p.0, clean_from s p.1)
+clean_from s = all_passed (λ c. is_clean c ≡ true) is_clean (λ c is. is) s
 
 pub clean_append : (a b : List ℕ) → Clean a → Clean b → Clean (a ++ b)
-clean_append [] b h k = k
-clean_append (c ∷ a) b h k = (h.0, clean_append a b h.1 k)
+clean_append a b = all_append (λ c. is_clean c ≡ true) a b
 
 pub clean_lacks : (k : ℕ) (s : List ℕ) → ((c : ℕ) → is_clean c ≡ true → eqb c k ≡ false) → Clean s → Lacks k s
-clean_lacks k [] f h = tt
-clean_lacks k (c ∷ s) f h = (f c h.0, clean_lacks k s f h.1)
+clean_lacks k s f = all_wider (λ c. eqb c k ≡ false) f s
 
 pub no_space : (c : ℕ) → is_clean c ≡ true → eqb c 32 ≡ false
 no_space c h = grind (arith, nat_tests)
@@ -71,12 +69,8 @@ clean_ends (c ∷ d ∷ ds) h = ap (before_spaces c) (clean_ends (d ∷ ds) h.1)
 digit_clean : (c : ℕ) → is_ascii_digit c ≡ true → is_clean c ≡ true
 digit_clean c h = grind (arith, nat_tests)
 
-digits_clean : (s : List ℕ) → list_all is_ascii_digit s ≡ true → Clean s
-digits_clean [] h = tt
-digits_clean (c ∷ s) h = let p = and_parts _ _ h in (digit_clean c p.0, digits_clean s p.1)
-
 pub decimal_clean : (n : ℕ) → n < 2 ^ 64 → Clean (decimal n)
-decimal_clean n h = digits_clean (decimal n) (digits_decimal own n h)
+decimal_clean n h = decimal_each (λ c. is_clean c ≡ true) digit_clean n h
 
 pub decimal_word : (n : ℕ) → n < 2 ^ 64 → Word (decimal n)
 decimal_word n h = record { clean = decimal_clean n h; some = decimal_nonempty n h }
@@ -108,10 +102,6 @@ name_byte_clean c h = grind (arith, nat_tests)
 letter_clean : (c : ℕ) → is_letter c ≡ true → is_clean c ≡ true
 letter_clean c h = grind (arith, nat_tests)
 
-name_bytes_clean : (s : List ℕ) → AllByRecursion (λ d. IsTrue (is_name_byte d)) s → Clean s
-name_bytes_clean [] h = tt
-name_bytes_clean (c ∷ s) h = (name_byte_clean c h.0, name_bytes_clean s h.1)
-
 pub name_word : (s : List ℕ) → IsName s → Word s
 name_word [] h = absurd h
-name_word (c ∷ s) h = record { clean = (letter_clean c h.0, name_bytes_clean s h.1); some = omega arith }
+name_word (c ∷ s) h = record { clean = (letter_clean c h.0, all_wider (λ d. is_clean d ≡ true) name_byte_clean s h.1); some = omega arith }

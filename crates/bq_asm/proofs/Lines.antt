@@ -1,10 +1,11 @@
 -- The lines of a source, read one after another.
-use Rattle.std.proofs.Common.{◌≡◌, ℕ, ◌+◌, ◌<◌, false, cond, List, [], ◌∷◌, ◌++◌, length, map, take, drop, get_or, ap, sym, ◌∙◌, subst, inl, inr, arith}
-use Rattle.std.specs.Prelude.{Result, Ok, Err, Some, None}
+use Rattle.std.proofs.Common.{◌≡◌, ℕ, ◌+◌, ◌<◌, false, cond, List, [], ◌∷◌, ◌++◌, length, map, take, drop, get_or, subst, inl, inr, arith}
+use Rattle.std.specs.Prelude.{Result, Some, None}
 use Rattle.std.specs.Result.{is_ok, is_err}
 use Rattle.std.specs.List.{AllZip}
-use Rattle.std.proofs.lemmas.List.{take-append-drop, drop_more, map_push, length-map, length-append}
+use Rattle.std.proofs.lemmas.List.{map_push, length-map, length-append}
 use Rattle.std.proofs.lemmas.Slice.Zip.{all_zipped_more}
+use Rattle.spelling.proofs.Lists.{pieces_at, pushed}
 use Rattle.bq_asm.specs.declared.statement.Line as code
 use Rattle.bq_asm.specs.View.{line_view}
 use Rattle.bq_asm.specs.Line.{Line, Spells}
@@ -42,16 +43,9 @@ front_readable [] v t rest w z s h = first_readable t rest w s h
 front_readable (x ∷ done) [] t rest w z s h = absurd z
 front_readable (x ∷ done) (y ∷ v) t rest w z s h = first_readable x (done ++ t ∷ rest) y z.0 h
 
-pushed : {X E : Type 0} (items new : List X) (x : X) (r : Result (Unit {0}) E) → new ≡ cond (is_ok r) (items ++ x ∷ []) items → is_err r ≡ false
-    → new ≡ items ++ x ∷ []
-pushed items new x (Ok u) e f = e
-pushed items new x (Err d) e f = absurd cc
-
 module _ {texts done : List (List ℕ)} {items : List code.Line} {i : ℕ} {t : List ℕ} (next : IsNext texts done items i t) where
   parts : texts ≡ done ++ (t ∷ drop (i + 1) texts)
-  parts =
-      sym (take-append-drop i texts) ∙ ap (λ u. u ++ drop i texts) (sym next.front)
-      ∙ ap (λ u. done ++ u) (drop_more texts i t next.inside ∙ ap (λ y. y ∷ drop (i + 1) texts) (sym next.here))
+  parts = pieces_at texts done i t next.front next.inside next.here
 
   pub first_unreadable : (k : ℕ) → line_at t ≡ None → k ≡ length items → IsFirstLine IsUnreadable [] texts (k + 1)
   first_unreadable k none e =

@@ -1,10 +1,11 @@
 -- Cutting, stripping and trimming of a text, by bytes.
-use Rattle.std.proofs.Common.{◌≡◌, ◌≢◌, ℕ, suc, ◌-◌, ◌<◌, false, eqb, List, [], ◌∷◌, ◌++◌, length, get_or, take, drop, refl, ap, sym, ◌∙◌, arith, Bor, lit<}
+use Rattle.std.proofs.Common.{◌≡◌, ◌≢◌, ℕ, ◌-◌, ◌<◌, false, eqb, List, [], ◌∷◌, ◌++◌, length, get_or, take, drop, refl, ap, sym, ◌∙◌, arith, Bor, lit<}
 use Rattle.std.specs.Prelude.{option_map, MatchOption, IfSome, Option, Some, None}
 use Rattle.std.specs.List.{AllByRecursion}
 use Rattle.std.specs.Str.Pattern.{HasCharAt, FindsCharPrefix, FindsCharSuffix, CutsPrefixes, CutsSuffixes, IsTrimStartMatches, IsTrimEndMatches}
 use Rattle.std.proofs.lemmas.Bool.{cond-false, cond-true, eq-eqb, ne_eqb}
 use Rattle.std.proofs.lemmas.List.{take-append-drop, drop_all}
+use Rattle.std.proofs.lemmas.List.Elements.{recursion_from_All, All-from_get_or}
 use Rattle.std.proofs.lemmas.Str.Pattern.{drop_at_char}
 use Rattle.std.proofs.lemmas.Str.Ascii.{encode_ascii}
 use Rattle.bq_asm.specs.Reading.{Gives, cut, strip, trim_start, trim_end, before_spaces, trimmed}
@@ -13,9 +14,8 @@ use Rattle.bq_asm.specs.Reading.{Gives, cut, strip, trim_start, trim_end, before
 abbrev pub Lacks : ℕ → List ℕ → Type 0
 Lacks c s = AllByRecursion (λ d. eqb d c ≡ false) s
 
-pub lacks_from : (c : ℕ) (s : List ℕ) → ((i : ℕ) → i < length s → get_or s i 0 ≢ c) → Lacks c s
-lacks_from c [] h = tt
-lacks_from c (d ∷ ds) h = (ne_eqb d c (h 0 (omega arith)), lacks_from c ds (λ i lt. h (suc i) (omega arith)))
+lacks_from : (c : ℕ) (s : List ℕ) → ((i : ℕ) → i < length s → get_or s i 0 ≢ c) → Lacks c s
+lacks_from c s h = recursion_from_All _ s (All-from_get_or (λ d. eqb d c ≡ false) s 0 (λ i less. ne_eqb _ c (h i less)))
 
 -- ---- cut
 
@@ -35,11 +35,15 @@ gives_cut c s (Some x) h = ap (cut c) h.0 ∙ cut_at c x.0.now x.1.now (lacks_fr
 
 -- ---- strip
 
-pub strip_none : (c : ℕ) (s : List ℕ) → ((rest : List ℕ) → s ≢ c ∷ rest) → strip c s ≡ None
+strip_none : (c : ℕ) (s : List ℕ) → ((rest : List ℕ) → s ≢ c ∷ rest) → strip c s ≡ None
 strip_none c [] h = refl
 strip_none c (d ∷ ds) h = cond-false (eqb d c) _ _ (ne_eqb d c (λ e. h ds (ap (λ (x : ℕ). x ∷ ds) e)))
 
-pub strip_at : (c : ℕ) (rest : List ℕ) → strip c (c ∷ rest) ≡ Some rest
+pub strip_lacks : (c : ℕ) (s : List ℕ) → Lacks c s → strip c s ≡ None
+strip_lacks c [] h = refl
+strip_lacks c (d ∷ ds) h = cond-false (eqb d c) _ _ h.0
+
+strip_at : (c : ℕ) (rest : List ℕ) → strip c (c ∷ rest) ≡ Some rest
 strip_at c rest = cond-true (eqb c c) _ _ (eq-eqb c c refl)
 
 pub gives_strip : (c : ℕ) (s : List ℕ) (r : Option (Bor (List ℕ))) → MatchOption r ((rest : List ℕ) → s ≢ c ∷ rest) (λ x. s ≡ c ∷ x.now)

@@ -5,6 +5,7 @@ use Rattle.std.specs.List.{AllByRecursion}
 use Rattle.std.proofs.lemmas.Bool.{eqb-true, eqb-false, and_parts, ltb-true, not-true}
 use Rattle.std.proofs.lemmas.Option.{cond_some}
 use Rattle.std.proofs.lemmas.List.{append_assoc, append-nil, nil_from_length}
+use Rattle.spelling.proofs.Lists.{all_passed}
 use Rattle.bq_asm.specs.Mnemonic.{name, mnemonic_at}
 use Rattle.bq_asm.specs.Statement.{Statement, Line, Blank, Instruction}
 use Rattle.bq_asm.specs.Line.{IsStatement, IsComment, AreListed, AreSpaces, IsGap, statement_operands, statement_mnemonic, Spells}
@@ -16,11 +17,9 @@ use Rattle.bq_asm.proofs.Sound.{bind_some, guard_some, name_sound, Spread, state
 use Rattle.bq_asm.proofs.Spelled.{Core, line_again}
 
 comment_sound : (c : List ℕ) → is_comment c ≡ true → AllByRecursion (λ d. (d < 128) × (d ≢ 13)) c
-comment_sound [] h = tt
-comment_sound (d ∷ c) h =
-    let p = and_parts (ltb d 128 && not (eqb d 13)) (is_comment c) h in
-    let q = and_parts (ltb d 128) (not (eqb d 13)) p.0 in
-    ((ltb-true d 128 q.0, eqb-false d 13 (not-true (eqb d 13) q.1)), comment_sound c p.1)
+comment_sound =
+    all_passed (λ d. (d < 128) × (d ≢ 13)) (λ d. ltb d 128 && not (eqb d 13))
+    (λ d h. let p = and_parts (ltb d 128) _ h in (ltb-true d 128 p.0, eqb-false d 13 (not-true (eqb d 13) p.1)))
 
 -- ---- the code of a line
 

@@ -1,7 +1,7 @@
 -- What is read from a line is spelled by it.
 use Rattle.std.proofs.Common.{◌≡◌, ℕ, ◌-◌, ◌^◌, ◌<◌, Bool, true, false, cond, eqb, ltb, ◌&&◌, List, [], ◌∷◌, ◌++◌, length, refl, ap, sym, ◌∙◌, subst, arith}
 use Rattle.std.specs.Prelude.{ℤ, pos, negsuc, FitsSigned, Option, Some, None, IsTrue, suc}
-use Rattle.std.specs.List.{AllByRecursion, list_all}
+use Rattle.std.specs.List.{list_all}
 use Rattle.std.specs.Int.{w16, w32}
 use Rattle.std.specs.Fmt.{decimal, signed_decimal}
 use Rattle.std.proofs.lemmas.Bool.{eqb-true, and_parts, ltb-true}
@@ -19,9 +19,12 @@ use Rattle.bq_asm.specs.declared.jump.Jump.TheVariants as jumps
 use Rattle.bq_asm.specs.Statement.{Statement, Complete}
 use Rattle.bq_asm.specs.Line.{IsName, IsJump, IsStatement, is_letter, is_name_byte, AreListed, AreSpaces, IsComma, statement_operands, statement_mnemonic}
 use Rattle.bq_asm.specs.Operands.{register, operand, distance, memory, jump_insn, jump_mnemonic, jump_operands}
-use Rattle.bq_asm.specs.Reading.{◌>>=◌, strip, cut, positive_at, negative_at, signed_at, signed_else, distance_at, distance_else, positive_of, negative_of, fits, fitting, register_of, register_at, operand_at, operand_else, place_of, place_else, place_at, memory_at, is_name, jump_bits, jump_by, target_at, target_else, pair_at, trimmed, statement_at}
+use Rattle.bq_asm.specs.Reading.{◌>>=◌, cut, strip, trimmed, pair_at, positive_at, negative_of, negative_at, signed_else, signed_at, fits, fitting}
+use Rattle.bq_asm.specs.Reading.{distance_else, distance_at, register_of, register_at, operand_else, operand_at, place_of, place_else, place_at}
+use Rattle.bq_asm.specs.Reading.{memory_at, is_name, jump_bits, jump_by, target_else, target_at, statement_at, positive_of}
 use Rattle.spelling.specs.Natural.{natural_at}
 use Rattle.spelling.proofs.Decimal.{natural_sound}
+use Rattle.spelling.proofs.Lists.{all_passed}
 use Rattle.bq_asm.proofs.Spaces.{spaces_append, trimmed_of, map_some, cut-some}
 
 pub bind_some : {A B : Type 0} (o : Option A) (f : A → Option B) (y : B) → (o >>= f) ≡ Some y → (x : A) × (o ≡ Some x) × (f x ≡ Some y)
@@ -171,16 +174,12 @@ memory_sound text p e =
 
 -- ---- names and jumps
 
-name_bytes_sound : (s : List ℕ) → list_all is_name_byte s ≡ true → AllByRecursion (λ d. IsTrue (is_name_byte d)) s
-name_bytes_sound [] h = tt
-name_bytes_sound (c ∷ s) h = let p = and_parts _ _ h in (p.0, name_bytes_sound s p.1)
-
 pub name_sound : (s : List ℕ) → is_name s ≡ true → IsName s
 name_sound [] h = absurd cc
 name_sound (c ∷ s) h =
     let p = and_parts (is_letter c && list_all is_name_byte s) (ltb (length s) 32) h in
     let q = and_parts (is_letter c) (list_all is_name_byte s) p.0 in
-    (q.0, name_bytes_sound s q.1, ltb-true (length s) 32 p.1)
+    (q.0, all_passed (λ d. IsTrue (is_name_byte d)) is_name_byte (λ d is. is) s q.1, ltb-true (length s) 32 p.1)
 
 -- a statement that jumps to this target
 pub record Jumps (j : Jump) (target : List ℕ) (s : Statement) : Type 0 where

@@ -4,6 +4,7 @@ use Rattle.std.specs.Prelude.{option_map, Option, Some, None}
 use Rattle.std.proofs.lemmas.Bool.{cond-false, cond-true, eq-eqb, eqb-true, cases_Bool}
 use Rattle.std.proofs.lemmas.List.{append_assoc, append-nil}
 use Rattle.std.proofs.lemmas.Option.{same_Some}
+use Rattle.spelling.proofs.Lists.{all_append, all_wider}
 use Rattle.bq_asm.specs.Reading.{cut, trim_start, trim_end, before_spaces, trimmed}
 use Rattle.bq_asm.specs.Line.{AreSpaces}
 use Rattle.bq_asm.proofs.Parts.{Lacks, trim_end_push}
@@ -11,16 +12,13 @@ use Rattle.bq_asm.proofs.Parts.{Lacks, trim_end_push}
 -- ---- spaces
 
 pub spaces_append : (a b : List ℕ) → AreSpaces a → AreSpaces b → AreSpaces (a ++ b)
-spaces_append [] b h k = k
-spaces_append (c ∷ a) b h k = (h.0, spaces_append a b h.1 k)
+spaces_append a b = all_append (λ c. c ≡ 32) a b
 
 pub spaces_lack : (k : ℕ) (a : List ℕ) → eqb 32 k ≡ false → AreSpaces a → Lacks k a
-spaces_lack k [] e h = tt
-spaces_lack k (c ∷ a) e h = (subst (λ d. eqb d k ≡ false) (sym h.0) e, spaces_lack k a e h.1)
+spaces_lack k a e = all_wider (λ d. eqb d k ≡ false) (λ d is. ap (λ (x : ℕ). eqb x k) is ∙ e) a
 
 pub lacks_append : (k : ℕ) (a b : List ℕ) → Lacks k a → Lacks k b → Lacks k (a ++ b)
-lacks_append k [] b h g = g
-lacks_append k (c ∷ a) b h g = (h.0, lacks_append k a b h.1 g)
+lacks_append k a b = all_append (λ d. eqb d k ≡ false) a b
 
 -- ---- a text that begins and ends with no space
 

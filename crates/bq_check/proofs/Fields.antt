@@ -1,7 +1,7 @@
 -- The bytes of ranges, offsets, kinds, states and notes can be told apart.
 use Rattle.std.proofs.Common.{◌≡◌, ℕ, ◌<◌, ◌^◌, ℤ, pos, negsuc, ◌≤ℤ◌, List, [], ◌∷◌, ◌++◌, Option, Some, None, refl, sym, ap, ◌∙◌, arith}
 use Rattle.std.proofs.lemmas.Int.{ints}
-use Rattle.std.specs.Int.{w32, cast_unsigned}
+use Rattle.std.specs.Int.{w32, cast_signed, cast_unsigned}
 use Rattle.spelling.specs.Numbers.{number_bytes}
 use Rattle.spelling.specs.Codes.{IsPrefixCode, BeginsNone}
 use Rattle.spelling.proofs.Codes.{one_byte, other_byte, numbers_are_code, once, counted, AreCounted, HasParts, two_parts}
@@ -14,7 +14,8 @@ use Rattle.bq_state.specs.declared.region.Region.{Region}
 use Rattle.bq_state.specs.declared.region.Region.TheVariants.{Frame, Record}
 use Rattle.bq_check.specs.declared.form.NotesForm.{NotesForm}
 use Rattle.bq_check.specs.declared.form.NotesForm.TheVariants.{First, Second}
-use Rattle.bq_check.specs.Spelling.{range_bytes, span_bytes, region_byte, kind_bytes, kinds_bytes, lengths_bytes, state_bytes, note_bytes, notes_bytes, IsKind, IsKinds, HasLengths, IsState, IsNote, IsNotes}
+use Rattle.bq_check.specs.Spelling.{range_bytes, span_bytes, region_byte, kind_bytes, kinds_bytes, lengths_bytes, state_bytes, note_bytes, notes_bytes}
+use Rattle.bq_check.specs.Spelling.{IsKind, IsKinds, HasLengths, IsState, IsNote, IsNotes}
 
 -- ---- ranges
 
@@ -41,11 +42,13 @@ offset_small : (z : ℤ) → IsOffset z → cast_unsigned w32 z < 2 ^ 32
 offset_small (pos n) h = omega (arith, ints, h.1)
 offset_small (negsuc n) h = omega (arith, ints, h.0)
 
+-- a number that was read, cast to a signed one
+pub same_offset : (z : ℤ) → IsOffset z → cast_signed w32 (cast_unsigned w32 z) ≡ z
+same_offset (pos n) h = omega (arith, ints, h.1)
+same_offset (negsuc n) h = omega (arith, ints, h.0)
+
 offset_once : (a b : ℤ) → IsOffset a → IsOffset b → cast_unsigned w32 a ≡ cast_unsigned w32 b → a ≡ b
-offset_once (pos m) (pos n) p q e = ap pos e
-offset_once (pos m) (negsuc n) p q e = absurd (omega (arith, ints, p.1, q.0, e))
-offset_once (negsuc m) (pos n) p q e = absurd (omega (arith, ints, p.0, q.1, e))
-offset_once (negsuc m) (negsuc n) p q e = ap negsuc (omega (arith, ints, p.0, q.0, e))
+offset_once a b p q e = sym (same_offset a p) ∙ ap (cast_signed w32) e ∙ same_offset b q
 
 pub are_offsets : (s : Span) → IsSpan s → IsOffset s.lo × IsOffset s.hi
 are_offsets s h = ((h.low, omega (arith, ints, h.ordered, h.high)), (omega (arith, ints, h.ordered, h.low), h.high))
@@ -58,12 +61,11 @@ span_parts = record {
   front = numbers_are_code 4;
   behind = numbers_are_code 4;
   legal = λ s p. let o = are_offsets s p in (offset_small s.lo o.0, offset_small s.hi o.1);
-  known = λ a b p q lo hi. known a b (are_offsets a p) (are_offsets b q) lo hi;
+  known = λ a b p q lo hi. λ i. record {
+    lo = offset_once a.lo b.lo (are_offsets a p).0 (are_offsets b q).0 lo i;
+    hi = offset_once a.hi b.hi (are_offsets a p).1 (are_offsets b q).1 hi i;
+  };
 }
-  where
-    known : (a b : Span) → IsOffset a.lo × IsOffset a.hi → IsOffset b.lo × IsOffset b.hi → cast_unsigned w32 a.lo ≡ cast_unsigned w32 b.lo
-        → cast_unsigned w32 a.hi ≡ cast_unsigned w32 b.hi → a ≡ b
-    known a b p q lo hi = λ i. record { lo = offset_once a.lo b.lo p.0 q.0 lo i; hi = offset_once a.hi b.hi p.1 q.1 hi i }
 
 pub spans_are_code : IsPrefixCode span_bytes IsSpan
 spans_are_code = two_parts span_parts

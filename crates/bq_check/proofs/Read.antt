@@ -1,8 +1,7 @@
 -- What was read, and bytes that are refused.
 use Rattle.std.proofs.Common.{◌≡◌, ℕ, ◌+◌, ◌<◌, ◌≤◌, ◌^◌, Option, Some, None, Result, Ok, Err, refl, sym, ap, subst, ◌∙◌, arith, append_assoc}
-use Rattle.std.specs.Prelude.{ℤ, pos, negsuc, List, [], ◌∷◌, ◌++◌, length, take, set, IfNone, SomeIff, IfOk, IfErr, MatchResult}
+use Rattle.std.specs.Prelude.{ℤ, List, [], ◌∷◌, ◌++◌, length, take, set, IfNone, SomeIff, IfOk, IfErr, MatchResult}
 use Rattle.std.proofs.lemmas.List.{append-nil, take_more_set, take_all, length-take}
-use Rattle.std.proofs.lemmas.Int.{ints}
 use Rattle.std.specs.List.{flat_map, AllByRecursion}
 use Rattle.std.specs.Int.{w32, cast_unsigned}
 use mir.Val.{to_z, of_z}
@@ -20,8 +19,10 @@ use Rattle.bq_check.specs.declared.fault.NotesFault.{NotesFault}
 use Rattle.bq_check.specs.declared.fault.NotesFault.TheVariants.{NoteForm, OutOfMemory}
 use Rattle.bq_check.specs.declared.form.NotesForm.{NotesForm}
 use Rattle.bq_check.specs.declared.form.NotesForm.TheVariants.{Second}
-use Rattle.bq_check.specs.Spelling.{range_bytes, span_bytes, kind_bytes, kinds_bytes, lengths_bytes, state_bytes, note_bytes, notes_bytes, TellsLengths, IsKind, IsKinds, HasLengths, IsState, IsNote, IsNotes}
-use Rattle.bq_check.proofs.Fields.{IsOffset, are_offsets, no_byte, lengths_parts, state_parts, kind_is_code, note_is_code, are_counted, notes_are_code}
+use Rattle.bq_check.specs.Spelling.{range_bytes, span_bytes, kind_bytes, kinds_bytes, lengths_bytes, state_bytes, note_bytes, notes_bytes}
+use Rattle.bq_check.specs.Spelling.{TellsLengths, IsKind, IsKinds, HasLengths, IsState, IsNote, IsNotes}
+use Rattle.bq_check.proofs.Fields.{IsOffset, same_offset, are_offsets, no_byte, lengths_parts, state_parts}
+use Rattle.bq_check.proofs.Fields.{kind_is_code, note_is_code, are_counted, notes_are_code}
 
 pub if_none : {A P : Type 0} (o : Option A) → P → IfNone o P
 if_none None p = p
@@ -32,11 +33,6 @@ if_not None v h f = f h
 if_not (Some a) v h f = tt
 
 -- ---- offsets
-
--- a number that was read, cast to a signed one
-same_offset : (a : ℤ) → IsOffset a → to_z w32 (cast_unsigned w32 a) ≡ a
-same_offset (pos k) h = omega (arith, ints, h.1)
-same_offset (negsuc k) h = omega (arith, ints, h.0)
 
 read_offset : (a x : ℤ) (m : ℕ) → IsOffset a → x ≡ to_z w32 m → cast_unsigned w32 a ≡ m → to_z w32 (of_z w32 x) ≡ a
 read_offset a x m h is e = ap (λ z. to_z w32 (of_z w32 z)) (is ∙ ap (to_z w32) (sym e) ∙ same_offset a h) ∙ same_offset a h

@@ -1,5 +1,5 @@
 -- Legal flow, and paths from the first unit to an exit.
-use Rattle.std.specs.Prelude.{◌≡◌, ◌⊎◌, ℕ, zero, suc, ℤ, pos, ◌<◌, ◌≤◌, List, [], ◌∷◌, Some}
+use Rattle.std.specs.Prelude.{◌≡◌, ◌⊎◌, ℕ, zero, suc, ℤ, pos, ◌<◌, ◌≤◌, List, Some}
 pub use Rattle.forms.specs.Lists.{Among}
 use Rattle.bq_insn.specs.Slots.{insn_at}
 use Rattle.bq_insn.specs.declared.insn.Insn.{Insn}

@@ -1,5 +1,7 @@
 -- An instruction faults by the least of the faults that hold of it.
-use Rattle.std.proofs.Common.{◌≡◌, ◌≢◌, ◌⊎◌, ℕ, ◌-◌, ◌<◌, ◌≤◌, ℤ, Bool, true, false, nat_lt, List, length, Option, Some, None, arith, refl, subst, inl, inr, if◌then◌else◌}
+use Rattle.std.proofs.Common.{◌≡◌, ◌≢◌, ◌⊎◌, ℕ, ◌<◌, ◌≤◌, ℤ, true, false, nat_lt, List, length, Option, Some, None}
+use Rattle.std.proofs.Common.{arith, refl, subst, inl, inr}
+use Rattle.std.proofs.lemmas.Bool.{cond_both}
 use Rattle.std.proofs.lemmas.Bool.Decides.{nat_tests}
 use Rattle.reasons.specs.Table.{number}
 use Rattle.bq_word.specs.declared.AluOp.{AluOp}
@@ -12,10 +14,11 @@ use Rattle.bq_insn.specs.declared.insn.Size.{Size}
 use Rattle.bq_insn.specs.declared.insn.Size.TheVariants as sizes
 use Rattle.bq_meaning.specs.Place.{Place, IsPlacement, record_room}
 use Rattle.bq_insn.specs.Insn.{size_bytes}
-use Rattle.bq_word.specs.Word.{signed_bytes}
+use Rattle.bq_word.specs.Word.{signed_bytes, sign_bits, extended}
 use Rattle.bq_meaning.specs.Memory.{access, is_inside, MachineState as Machine}
-use Rattle.bq_meaning.specs.Meaning.{Outcome, Continues, Ends, Faults, held, value, taken, moved, reading, writing, stored, perform}
-use Rattle.bq_meaning.specs.Faults.{reason, OperandReads, IsAddress, LoadsAt, StoresAt, AreWithin, ReadsUnset, WritesFramePointer, AccessesOutside, WritesRecord, Holds, IsLeast, HoldsNone, IsDone, LeastFaultIsNamed}
+use Rattle.bq_meaning.specs.Meaning.{Outcome, Continues, Ends, Faults, held, value, taken, moved, reading, writing, stored, loading, perform}
+use Rattle.bq_meaning.specs.Faults.{OperandReads, IsAddress, AreWithin, ReadsUnset, WritesFramePointer, AccessesOutside, WritesRecord}
+use Rattle.bq_meaning.specs.Faults.{reason, Holds, IsLeast, HoldsNone, IsDone, LeastFaultIsNamed}
 use Rattle.bq_meaning.specs.declared.machine.Location.{Location}
 use Rattle.bq_meaning.specs.declared.machine.Location.TheVariants.{Frame, Record}
 use Rattle.bq_meaning.specs.declared.fault.Fault.{Fault}
@@ -43,13 +46,10 @@ module _ (R W O S : Type 0) where
   read_first None go r k = r refl
   read_first (Some a) go r k = k a refl
 
-  write_by : (d : ℕ) (o : Outcome) (b : Bool) → (b ≡ true → d < 10) → (b ≡ false → 10 ≤ d) → (R → ⊥) → (10 ≤ d → W)
-      → (d < 10 → Judged R W O S o) → Judged R W O S (if b then o else Faults WroteFramePointer)
-  write_by d o true below above r w k = k (below refl)
-  write_by d o false below above r w k = (r, w (above refl))
-
   write_next : (d : ℕ) (o : Outcome) → (R → ⊥) → (10 ≤ d → W) → (d < 10 → Judged R W O S o) → Judged R W O S (writing d o)
-  write_next d o r w k = write_by d o (nat_lt d 10) (λ e. grind (arith, nat_tests)) (λ e. grind (arith, nat_tests)) r w k
+  write_next d o r w k =
+      cond_both (nat_lt d 10) o (Faults WroteFramePointer) (Judged R W O S) (λ e. k (grind (arith, nat_tests)))
+      (λ e. (r, w (grind (arith, nat_tests))))
 
   -- a register is written, and nothing more is done
   writes_one : (d : ℕ) (next : Machine) → (R → ⊥) → (10 ≤ d → W) → (W → 10 ≤ d) → (O → ⊥) → (S → ⊥) → Judged R W O S (writing d (Continues next))
@@ -67,18 +67,11 @@ inside_is start len address size e = (grind (arith, nat_tests), grind (arith, na
 inside_is_not : (start len address size : ℕ) → is_inside start len address size ≡ false → AreWithin start len address size → ⊥
 inside_is_not start len address size e h = grind (arith, nat_tests)
 
-lies_by : (p : Place) (len address size : ℕ) (x y : Bool) → (x ≡ true → AreWithin p.frame 512 address size)
-    → (x ≡ false → AreWithin p.frame 512 address size → ⊥) → (y ≡ true → AreWithin p.record len address size)
-    → (y ≡ false → AreWithin p.record len address size → ⊥)
-    → Lies p len address size (if x then Some (Frame (address - p.frame)) else (if y then Some (Record (address - p.record)) else None))
-lies_by p len address size true y a b c d = a refl
-lies_by p len address size false true a b c d = c refl
-lies_by p len address size false false a b c d = (b refl, d refl)
-
 lies : (p : Place) (len address size : ℕ) → Lies p len address size (access p len address size)
 lies p len address size =
-    lies_by p len address size _ _ (inside_is p.frame 512 address size) (inside_is_not p.frame 512 address size)
-    (inside_is p.record len address size) (inside_is_not p.record len address size)
+    cond_both (is_inside p.frame 512 address size) _ _ (Lies p len address size) (inside_is p.frame 512 address size) (λ e.
+    cond_both (is_inside p.record len address size) _ _ (Lies p len address size) (inside_is p.record len address size) (λ f.
+    (inside_is_not p.frame 512 address size e, inside_is_not p.record len address size f)))
 
 -- no byte is in both regions
 never_both : (p : Place) (len address size : ℕ) → IsPlacement p → len ≤ record_room → 0 < size → AreWithin p.frame 512 address size
@@ -110,29 +103,38 @@ set_one registers d r a h e n = let i : held registers d ≡ None = rw e at n in
 
 size_some : (size : Size) → 0 < size_bytes size
 size_some sizes.B1 = omega arith
-size_some sizes.B2 = omega arith
-size_some sizes.B4 = omega arith
-size_some sizes.B8 = omega arith
+size_some _ = omega arith
 
 -- ---- loads and stores
 
--- an instruction with one access
-module _ (p : Place) (i : Insn) (m : Machine) (address size : ℕ) (unset : ReadsUnset i m → ⊥) (free : WritesFramePointer i → ⊥)
-    (one : (a n : ℕ) → LoadsAt i m a n ⊎ StoresAt i m a n → (a ≡ address) × (n ≡ size)) where
-  inside : (k : Location) → Lies p (length m.record) address size (Some k) → AccessesOutside p i m → ⊥
+-- what is loaded or stored lies in neither region, and what is stored lies in the record
+abbrev Outside : Place → Machine → (ℕ → ℕ → Type 0) → (ℕ → ℕ → Type 0) → Type 0
+Outside p m Loads Stores =
+    (a : ℕ) × (n : ℕ) × (Loads a n ⊎ Stores a n) × (AreWithin p.frame 512 a n → ⊥) × (AreWithin p.record (length m.record) a n → ⊥)
+
+abbrev InRecord : Place → Machine → (ℕ → ℕ → Type 0) → Type 0
+InRecord p m Stores = (a : ℕ) × (n : ℕ) × Stores a n × AreWithin p.record (length m.record) a n
+
+-- one access
+module _ (p : Place) (m : Machine) (address size : ℕ) (R W : Type 0) (Loads Stores : ℕ → ℕ → Type 0) (unset : R → ⊥) (free : W → ⊥)
+    (one : (a n : ℕ) → Loads a n ⊎ Stores a n → (a ≡ address) × (n ≡ size)) where
+  inside : (k : Location) → Lies p (length m.record) address size (Some k) → Outside p m Loads Stores → ⊥
   inside (Frame k) at o = let e = one o.0 o.1 o.2 in o.3 (rw (e.0, e.1) at)
   inside (Record k) at o = let e = one o.0 o.1 o.2 in o.4 (rw (e.0, e.1) at)
 
-  load_at : (l : Option Location) (go : Location → Machine) → LoadsAt i m address size → (WritesRecord p i m → ⊥)
-      → Lies p (length m.record) address size l → JudgedAt p i m (reading OutsideAccess l (λ k. Continues (go k)))
+  abbrev Accessed : Outcome → Type 0
+  Accessed o = Judged R W (Outside p m Loads Stores) (InRecord p m Stores) o
+
+  load_at : (l : Option Location) (go : Location → Machine) → Loads address size → (InRecord p m Stores → ⊥)
+      → Lies p (length m.record) address size l → Accessed (reading OutsideAccess l (λ k. Continues (go k)))
   load_at None go is still at = (unset, free, (address, size, inl is, at.0, at.1))
   load_at (Some k) go is still at = (unset, free, inside k at, still)
 
-  store_at : (l : Option Location) (v : ℕ) → IsPlacement p → length m.record ≤ record_room → 0 < size → StoresAt i m address size
-      → Lies p (length m.record) address size l → JudgedAt p i m (reading OutsideAccess l (λ k. stored m k size v))
+  store_at : (l : Option Location) (v : ℕ) → IsPlacement p → length m.record ≤ record_room → 0 < size → Stores address size
+      → Lies p (length m.record) address size l → Accessed (reading OutsideAccess l (λ k. stored m k size v))
   store_at None v place room some is at = (unset, free, (address, size, inr is, at.0, at.1))
   store_at (Some (Frame k)) v place room some is at =
-      let apart : WritesRecord p i m → ⊥ = λ s.
+      let apart : InRecord p m Stores → ⊥ = λ s.
       let e = one s.0 s.1 (inr s.2) in
       let there : AreWithin p.record (length m.record) address size = rw (e.0, e.1) at s.3 in
       never_both p (length m.record) address size place room some at there in
@@ -150,21 +152,37 @@ nothing : ⊥ ⊎ ⊥ → ⊥
 nothing (inl x) = x
 nothing (inr x) = x
 
+-- an instruction that reads the register s, writes d and stores nothing
+abbrev JudgedOne : Place → Machine → ℕ → ℕ → (ℕ → ℕ → Type 0) → Outcome → Type 0
+JudgedOne p m d s Loads o =
+    Judged ((r : ℕ) × (r ≡ s) × (held m.registers r ≡ None)) ((r : ℕ) × (r ≡ d) × (10 ≤ r)) (Outside p m Loads (λ a n. ⊥))
+    (InRecord p m (λ a n. ⊥)) o
+
+maps : (p : Place) (m : Machine) (d s : ℕ) (go : ℕ → Machine)
+    → JudgedOne p m d s (λ a n. ⊥) (reading ReadUnset (held m.registers s) (λ a. writing d (Continues (go a))))
+maps p m d s go =
+    read_first _ _ _ _ (held m.registers s) _ (λ e. (s, refl, e)) (λ a ea.
+    writes_one _ _ _ _ d _ (λ r. set_one m.registers s r.0 a ea r.1 r.2) (λ h. (d, refl, h)) (λ w. omega arith) (λ o. nothing o.2) (λ s. s.2))
+
+loads : (p : Place) (m : Machine) (d base : ℕ) (offset : ℤ) (size : ℕ) (number : ℕ → ℕ)
+    → JudgedOne p m d base (λ t n. IsAddress m base offset t × (n ≡ size)) (loading p m d base offset size number)
+loads p m d base offset size number =
+    read_first _ _ _ _ (held m.registers base) _ (λ e. (base, refl, e)) (λ a ea.
+    write_next _ _ _ _ d _ (λ r. set_one m.registers base r.0 a ea r.1 r.2) (λ h. (d, refl, h)) (λ h.
+    load_at p m (moved a offset) size _ _ (λ t n. IsAddress m base offset t × (n ≡ size)) (λ t n. ⊥)
+    (λ r. set_one m.registers base r.0 a ea r.1 r.2) (λ w. omega arith)
+    (λ t n h. elim h [ inl l ↦ one_address m base a offset size t n ea l | inr l ↦ absurd l ])
+    (access p (length m.record) (moved a offset) size) _ ((a, ea, refl), refl) (λ s. s.2) (lies p _ _ _)))
+
 judged : (p : Place) (i : Insn) (m : Machine) → IsPlacement p → length m.record ≤ record_room → JudgedAt p i m (perform p i m)
 judged p (insns.Alu w op d x) m place room =
     read_first _ _ _ _ (taken m.registers op d) _ (λ e. let t = taken_none op m.registers d e in (d, inl (t.0, refl), t.1)) (λ a ea.
     read_first _ _ _ _ (value m.registers x) _ (λ e. let t = operand_unset x m.registers e in (t.0, inr t.1, t.2)) (λ b eb.
     writes_one _ _ _ _ d _ (λ r. either_set x m.registers b r.0 (λ h. set_one m.registers d r.0 a (taken_some op m.registers d a ea h.0) h.1 r.2) eb r.1 r.2)
     (λ h. (d, refl, h)) (λ w. omega arith) (λ o. nothing o.2) (λ s. s.2)))
-judged p (insns.Negate w d) m place room =
-    read_first _ _ _ _ (held m.registers d) _ (λ e. (d, refl, e)) (λ a ea.
-    writes_one _ _ _ _ d _ (λ r. set_one m.registers d r.0 a ea r.1 r.2) (λ h. (d, refl, h)) (λ w. omega arith) (λ o. nothing o.2) (λ s. s.2))
-judged p (insns.Extend e d s) m place room =
-    read_first _ _ _ _ (held m.registers s) _ (λ e. (s, refl, e)) (λ a ea.
-    writes_one _ _ _ _ d _ (λ r. set_one m.registers s r.0 a ea r.1 r.2) (λ h. (d, refl, h)) (λ w. omega arith) (λ o. nothing o.2) (λ s. s.2))
-judged p (insns.Order o bits d) m place room =
-    read_first _ _ _ _ (held m.registers d) _ (λ e. (d, refl, e)) (λ a ea.
-    writes_one _ _ _ _ d _ (λ r. set_one m.registers d r.0 a ea r.1 r.2) (λ h. (d, refl, h)) (λ w. omega arith) (λ o. nothing o.2) (λ s. s.2))
+judged p (insns.Negate w d) m place room = maps p m d d _
+judged p (insns.Extend e d s) m place room = maps p m d s _
+judged p (insns.Order o bits d) m place room = maps p m d d _
 judged p (insns.Jump offset) m place room = ((λ r. r.1), (λ w. w.1), (λ o. nothing o.2), (λ s. s.2))
 judged p (insns.JumpFar distance) m place room = ((λ r. r.1), (λ w. w.1), (λ o. nothing o.2), (λ s. s.2))
 judged p (insns.Branch w relation d x offset) m place room =
@@ -174,22 +192,12 @@ judged p (insns.Branch w relation d x offset) m place room =
 judged p insns.Exit m place room =
     read_first _ _ _ _ (held m.registers 0) _ (λ e. (0, refl, e)) (λ a ea.
     ((λ r. set_one m.registers 0 r.0 a ea r.1 r.2), (λ w. w.1), (λ o. nothing o.2), (λ s. s.2)))
-judged p (insns.Load size d base offset) m place room =
-    read_first _ _ _ _ (held m.registers base) _ (λ e. (base, refl, e)) (λ a ea.
-    write_next _ _ _ _ d _ (λ r. set_one m.registers base r.0 a ea r.1 r.2) (λ h. (d, refl, h)) (λ h.
-    load_at p (insns.Load size d base offset) m (moved a offset) (size_bytes size) (λ r. set_one m.registers base r.0 a ea r.1 r.2) (λ w. omega arith)
-    (λ t n h. elim h [ inl l ↦ one_address m base a offset (size_bytes size) t n ea l | inr l ↦ absurd l ])
-    (access p (length m.record) (moved a offset) (size_bytes size)) _ ((a, ea, refl), refl) (λ s. s.2) (lies p _ _ _)))
-judged p (insns.LoadSigned bits d base offset) m place room =
-    read_first _ _ _ _ (held m.registers base) _ (λ e. (base, refl, e)) (λ a ea.
-    write_next _ _ _ _ d _ (λ r. set_one m.registers base r.0 a ea r.1 r.2) (λ h. (d, refl, h)) (λ h.
-    load_at p (insns.LoadSigned bits d base offset) m (moved a offset) (signed_bytes bits) (λ r. set_one m.registers base r.0 a ea r.1 r.2) (λ w. omega arith)
-    (λ t n h. elim h [ inl l ↦ one_address m base a offset (signed_bytes bits) t n ea l | inr l ↦ absurd l ])
-    (access p (length m.record) (moved a offset) (signed_bytes bits)) _ ((a, ea, refl), refl) (λ s. s.2) (lies p _ _ _)))
+judged p (insns.Load size d base offset) m place room = loads p m d base offset (size_bytes size) (λ n. n)
+judged p (insns.LoadSigned bits d base offset) m place room = loads p m d base offset (signed_bytes bits) (extended (sign_bits bits) 64)
 judged p (insns.Store size base offset x) m place room =
     read_first _ _ _ _ (held m.registers base) _ (λ e. (base, inl refl, e)) (λ a ea.
     read_first _ _ _ _ (value m.registers x) _ (λ e. let t = operand_unset x m.registers e in (t.0, inr t.1, t.2)) (λ v eb.
-    store_at p (insns.Store size base offset x) m (moved a offset) (size_bytes size)
+    store_at p m (moved a offset) (size_bytes size) _ _ (λ t n. ⊥) (λ t n. IsAddress m base offset t × (n ≡ size_bytes size))
     (λ r. either_set x m.registers v r.0 (λ h. set_one m.registers base r.0 a ea h r.2) eb r.1 r.2) (λ w. w.1)
     (λ t n h. elim h [ inl l ↦ absurd l | inr l ↦ one_address m base a offset (size_bytes size) t n ea l ])
     (access p (length m.record) (moved a offset) (size_bytes size)) v place room (size_some size) ((a, ea, refl), refl) (lies p _ _ _)))

@@ -1,17 +1,19 @@
 -- Both operands of a branch, on either edge.
 use Rattle.std.proofs.Common.{◌≡◌, ℕ, Bool, true, false, cond, eqb, Option, Some, None, arith, inl, inr, ◌⊎◌, ◌&&◌, refl, sym, ◌∙◌, ap, subst}
-use Rattle.std.proofs.lemmas.Bool.{cond_both, eqb-true, and_parts, not-true, true≢false, false≢true}
+use Rattle.std.proofs.lemmas.Bool.{cond_both, eqb-true, and_parts, not-true, true≢false}
+use Rattle.std.proofs.Math.Bool.{not-not}
 use Rattle.std.proofs.lemmas.Nat.{and_comm}
 use Rattle.std.specs.Option.{option_and_then, IsSomeAnd, IfSome}
 use Rattle.std.specs.Prelude.{not}
 use Rattle.bq_word.specs.Word.{bits_of, low, signed, relates}
 use Rattle.bq_word.specs.declared.Width.{Width}
 use Rattle.bq_word.specs.declared.Relation.{Relation}
-use Rattle.bq_word.specs.declared.Relation.TheVariants.{Equal, Greater, GreaterOrEqual, CommonBit, NotEqual, SignedGreater, SignedGreaterOrEqual, Less, LessOrEqual, SignedLess, SignedLessOrEqual}
+use Rattle.bq_word.specs.declared.Relation.TheVariants.{Equal, NotEqual, CommonBit, Less, LessOrEqual, Greater, GreaterOrEqual}
+use Rattle.bq_word.specs.declared.Relation.TheVariants.{SignedLess, SignedLessOrEqual, SignedGreater, SignedGreaterOrEqual}
 use Rattle.bq_range.specs.Interval.{Interval, IsIn, Within, is_single}
 use Rattle.bq_range.specs.Narrow.{narrowed_to, opposite, converse, narrowed_by, is_same, by_common_bit, by_opposite, IsLeft, IsRight, IsLeastRange, IsNarrowing}
 use Rattle.bq_range.proofs.Pieces.{OnLeast, least_like}
-use Rattle.bq_range.proofs.Edges.{AreRanges, turned, relation_least, eqb_turned, leb_not, le_z_not, not_not}
+use Rattle.bq_range.proofs.Edges.{AreRanges, turned, relation_least, eqb_turned, leb_not, le_z_not}
 
 -- a relation asked from the other side
 converse_is : (w : ℕ) (relation : Relation) (x y : ℕ) → relates w (converse relation) y x ≡ relates w relation x y
@@ -60,16 +62,9 @@ LieInside a b o = IfSome o (λ p. Within p.0 a × Within p.1 b)
 
 -- ---- the edge not taken
 
-not_of : (b c : Bool) → c ≡ not b → c ≡ true → b ≡ false
-not_of true c e f = absurd (false≢true (sym e ∙ f))
-not_of false c e f = refl
-
-from_not : (b c : Bool) → c ≡ not b → b ≡ false → c ≡ true
-from_not b c e f = e ∙ ap not f
-
 -- `not` of a test that is itself one
 not_back : (b c : Bool) → b ≡ not c → c ≡ not b
-not_back b c e = sym (not_not c) ∙ ap not (sym e)
+not_back b c e = sym (not-not c) ∙ ap not (sym e)
 
 module _ (width : Width) (a b : Interval) (r : AreRanges (bits_of width) a b) where
   both : (relation : Relation) → (relation ≡ CommonBit → ⊥) → IsNarrowing (Stands (bits_of width) relation true) a b (narrowed_by (bits_of width) relation a b)
@@ -89,7 +84,7 @@ module _ (width : Width) (a b : Interval) (r : AreRanges (bits_of width) a b) wh
   edges relation other true n m e = both relation n
   edges relation other false n m e =
       narrowing_like (Stands (bits_of width) other true) (Stands (bits_of width) relation false) a b (narrowed_by (bits_of width) other a b)
-      (λ x y. not_of _ _ (e x y)) (λ x y. from_not _ _ (e x y)) (both other m)
+      (λ x y s. not-true _ (sym (e x y) ∙ s)) (λ x y s. e x y ∙ ap not s) (both other m)
 
   no_greater : (x y : ℕ) → relates (bits_of width) SignedLessOrEqual x y ≡ not (relates (bits_of width) SignedGreater x y)
   no_greater x y = le_z_not (signed (bits_of width) x) (signed (bits_of width) y)
@@ -97,7 +92,7 @@ module _ (width : Width) (a b : Interval) (r : AreRanges (bits_of width) a b) wh
   pub edge_narrows : (relation : Relation) (taken : Bool) → (relation ≡ CommonBit → ⊥)
       → IsNarrowing (Stands (bits_of width) relation taken) a b (edge (bits_of width) relation taken a b)
   edge_narrows Equal taken n = edges Equal NotEqual taken n (λ e. cc) (λ x y. refl)
-  edge_narrows NotEqual taken n = edges NotEqual Equal taken n (λ e. cc) (λ x y. sym (not_not (eqb (low (bits_of width) x) (low (bits_of width) y))))
+  edge_narrows NotEqual taken n = edges NotEqual Equal taken n (λ e. cc) (λ x y. sym (not-not (eqb (low (bits_of width) x) (low (bits_of width) y))))
   edge_narrows Less taken n = edges Less GreaterOrEqual taken n (λ e. cc) (λ x y. leb_not _ _)
   edge_narrows LessOrEqual taken n = edges LessOrEqual Greater taken n (λ e. cc) (λ x y. not_back _ _ (leb_not _ _))
   edge_narrows Greater taken n = edges Greater LessOrEqual taken n (λ e. cc) (λ x y. leb_not _ _)

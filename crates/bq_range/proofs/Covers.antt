@@ -6,6 +6,7 @@ use Rattle.std.proofs.lemmas.Bool.{cond_both, and_parts, eqb-true, ltb-true}
 use Rattle.std.proofs.lemmas.Int.{ints}
 use Rattle.std.proofs.lemmas.Nat.{pow_pos, mod_below}
 use Rattle.std.proofs.Math.Nat.{mod-eq_of_lt, div-add-mod}
+use Rattle.std.proofs.Math.Pow.{shr_mono}
 use Rattle.bq_word.specs.Word.{operation, low, extended, swapped, bits_of, swap_bits, sign_bits, relates}
 use Rattle.bq_word.specs.declared.Width.{Width}
 use Rattle.bq_word.specs.declared.Width.TheVariants.{W32, W64}
@@ -20,7 +21,7 @@ use Rattle.bq_word.proofs.Bounds.{low_bound, extended_bound, swapped_bound}
 use Rattle.bq_range.specs.Interval.{Interval, IsIn, between, single, is_single, whole, cut}
 use Rattle.bq_range.specs.Table.{operated, negatives, negated, extensions, sign_extended, low_range, swapped_range}
 use Rattle.bq_range.specs.Narrow.{branched}
-use Rattle.bq_range.proofs.Held.{IsIn-whole, pick, pick_le, pick_lt, pick_eq, shr_mono}
+use Rattle.bq_range.proofs.Held.{IsIn-whole, pick, pick_le, pick_lt, pick_eq}
 use Rattle.bq_range.proofs.Rows.{row_holds}
 use Rattle.bq_range.proofs.Edges.{AreRanges}
 use Rattle.bq_range.proofs.Both.{edge, HoldBoth, edge_covers}
@@ -30,8 +31,8 @@ use Rattle.bq_range.proofs.Both.{edge, HoldBoth, edge_covers}
 pub cut_covers : (w : ℕ) (a : Interval) (x : ℕ) → IsIn x a → IsIn (low w x) (cut w a)
 cut_covers w a x h =
     pick_eq (a.lo / 2 ^ w) (a.hi / 2 ^ w) _ _ _
-    (λ e. let l : a.lo / 2 ^ w ≤ x / 2 ^ w = shr_mono a.lo x w h.low in
-    let k : x / 2 ^ w ≤ a.hi / 2 ^ w = shr_mono x a.hi w h.high in
+    (λ e. let l : a.lo / 2 ^ w ≤ x / 2 ^ w = shr_mono w h.low in
+    let k : x / 2 ^ w ≤ a.hi / 2 ^ w = shr_mono w h.high in
     let p : 2 ^ w * (a.lo / 2 ^ w) ≡ 2 ^ w * (x / 2 ^ w) = ap (λ (n : ℕ). 2 ^ w * n) (omega arith) in
     let q : 2 ^ w * (a.hi / 2 ^ w) ≡ 2 ^ w * (x / 2 ^ w) = ap (λ (n : ℕ). 2 ^ w * n) (omega arith) in
     record { low = omega (arith, div-add-mod a.lo (2 ^ w), div-add-mod x (2 ^ w)); high = omega (arith, div-add-mod a.hi (2 ^ w), div-add-mod x (2 ^ w)) })

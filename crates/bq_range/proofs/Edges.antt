@@ -1,6 +1,7 @@
 -- What a branch leaves of its operands is the least range of the words that can be there.
-use Rattle.std.proofs.Common.{◌≡◌, ℕ, ◌+◌, ◌-◌, ◌%◌, ◌^◌, ◌<◌, ◌≤◌, Bool, true, false, cond, eqb, ltb, leb, Option, Some, arith, inl, inr, ◌⊎◌, refl, sym, ◌∙◌, ap}
-use Rattle.std.proofs.lemmas.Bool.{cond_both, cases_lt, cases_eq, ltb-true, ltb-false, eqb-true, eqb-false, eq-eqb, ne_eqb, lt-ltb, le-ltb, le-leb, lt-leb, not-true}
+use Rattle.std.proofs.Common.{◌≡◌, ℕ, ◌+◌, ◌-◌, ◌%◌, ◌^◌, ◌<◌, ◌≤◌, Bool, true, cond, eqb, ltb, leb, Option, Some, arith, inl, inr, ◌⊎◌, refl, sym, ◌∙◌, ap}
+use Rattle.std.proofs.lemmas.Bool.{cond_both, cases_lt, cases_eq, not-true}
+use Rattle.std.proofs.lemmas.Bool.{ltb-true, ltb-false, eqb-true, eqb-false, eq-eqb, ne_eqb, lt-ltb, le-ltb, le-leb, lt-leb}
 use Rattle.std.proofs.Math.Nat.{mod-eq_of_lt}
 use Rattle.std.specs.Prelude.{ℤ, pos, negsuc, not}
 use Rattle.std.specs.Int.Signed.{lt_z, le_z}
@@ -8,17 +9,14 @@ use Rattle.bq_word.specs.Word.{bits_of, low, signed, relates}
 use Rattle.bq_word.specs.declared.Width.{Width}
 use Rattle.bq_word.specs.declared.Width.TheVariants.{W32, W64}
 use Rattle.bq_word.specs.declared.Relation.{Relation}
-use Rattle.bq_word.specs.declared.Relation.TheVariants.{Equal, Greater, GreaterOrEqual, CommonBit, NotEqual, SignedGreater, SignedGreaterOrEqual, Less, LessOrEqual, SignedLess, SignedLessOrEqual}
+use Rattle.bq_word.specs.declared.Relation.TheVariants.{Equal, NotEqual, CommonBit, Less, LessOrEqual, Greater, GreaterOrEqual}
+use Rattle.bq_word.specs.declared.Relation.TheVariants.{SignedLess, SignedLessOrEqual, SignedGreater, SignedGreaterOrEqual}
 use Rattle.bq_range.specs.Interval.{Interval, IsIn, meet, is_single}
 use Rattle.bq_range.specs.Narrow.{below, from, hull, first, last, ahead, behind, sign, narrowed_to, IsLeft}
 use Rattle.bq_range.proofs.Pieces.{OnLeast, below_piece, from_piece, meet_piece, piece_least, hull_least, least_like}
 use Rattle.bq_range.proofs.Places.{place, place_low, place_high, InOrder, before_some, after_some}
 
 -- ---- tests
-
-pub not_not : (b : Bool) → not (not b) ≡ b
-not_not true = refl
-not_not false = refl
 
 pub leb_not : (a b : ℕ) → leb a b ≡ not (ltb b a)
 leb_not a b = elim (cases_lt b a) [ inl k ↦ rw (lt-leb a b k, lt-ltb b a k) refl | inr k ↦ rw (le-leb a b k, le-ltb b a k) refl ]

@@ -1,7 +1,7 @@
 -- What holds of both ranges of a choice holds of the one that a test picks, and other common steps.
 use Rattle.std.proofs.Common.{◌≡◌, ℕ, ◌/◌, ◌^◌, ◌<◌, ◌≤◌, Bool, true, false, cond, eqb, ltb, leb, arith}
 use Rattle.std.proofs.lemmas.Bool.{cond_both, ltb-true, ltb-false, leb-true, leb-false, eqb-true, eqb-false}
-use Rattle.std.proofs.lemmas.Nat.{mul-le, le-div, pow_pos}
+use Rattle.std.proofs.lemmas.Nat.{mul-le, le-div}
 use Rattle.std.proofs.Math.Nat.{div-mul-le_self}
 use Rattle.bq_word.specs.Word.{bits_of}
 use Rattle.bq_word.specs.declared.Width.{Width}
@@ -43,7 +43,3 @@ held_both r d m n f g = cond_both (eqb d 0) m n (λ v. IsIn v r) (λ e. f (eqb-t
 
 pub div_mono : (x y c d : ℕ) → x ≤ y → d ≤ c → 0 < d → x / c ≤ y / d
 div_mono x y c d h k p = le-div (x / c) y d p (omega (arith, div-mul-le_self x c, mul-le (x / c) d (x / c) c (omega arith) k))
-
--- whole parts by one power of two keep their order
-pub shr_mono : (x y n : ℕ) → x ≤ y → x / 2 ^ n ≤ y / 2 ^ n
-shr_mono x y n h = div_mono x y (2 ^ n) (2 ^ n) h (omega arith) (pow_pos n)

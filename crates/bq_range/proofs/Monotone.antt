@@ -1,10 +1,10 @@
 -- Smaller operands leave smaller results, row by row, and ranges of words leave ranges of words.
-use Rattle.std.proofs.Common.{◌≡◌, ℕ, ◌+◌, ◌-◌, ◌*◌, ◌/◌, ◌%◌, ◌^◌, ◌<◌, ◌≤◌, Bool, true, false, cond, eqb, ltb, leb, arith, ap, sym, ◌∙◌, inl, inr, ◌⊎◌, refl, ◌&&◌, ◌||◌}
+use Rattle.std.proofs.Common.{◌≡◌, ℕ, ◌+◌, ◌-◌, ◌*◌, ◌/◌, ◌%◌, ◌^◌, ◌<◌, ◌≤◌, Bool, true, false, cond, eqb, ltb, leb, arith, ap, sym, ◌∙◌, inl, inr, ◌&&◌}
 use Rattle.std.specs.Prelude.{max}
-use Rattle.std.proofs.lemmas.Bool.{cond_both, true≢false, lt-ltb, le-leb, eqb-true, eqb-false, eq-eqb, and_parts}
+use Rattle.std.proofs.lemmas.Bool.{cond_both, true≢false, lt-ltb, le-leb, eqb-true, eqb-false, eq-eqb, and_parts, and_from, or_left, or_right}
 use Rattle.std.proofs.lemmas.Nat.{mul-le, pow_pos, shr_le}
-use Rattle.std.proofs.Math.Bool.{or-true}
 use Rattle.std.proofs.Math.Nat.{div-le_self}
+use Rattle.std.proofs.Math.Pow.{shr_mono}
 use Rattle.bq_word.specs.Word.{operation, bits_of, low, extended, swapped, sign_bits, swap_bits}
 use Rattle.bq_word.specs.declared.SignBits.{SignBits}
 use Rattle.bq_word.specs.declared.SwapBits.{SwapBits}
@@ -14,9 +14,10 @@ use Rattle.bq_word.specs.declared.AluOp.{AluOp}
 use Rattle.bq_word.specs.declared.AluOp.TheVariants.{Add, Sub, Mul, Div, Or, And, ShiftLeft, ShiftRight, Mod, Xor, Mov, ArithmeticShiftRight}
 use Rattle.bq_word.proofs.Bounds.{low_bound, operation_bound, extended_bound, swapped_bound}
 use Rattle.bq_range.specs.Interval.{Interval, IsInterval, IsIn, Within, between, single, is_single, top, whole, cut}
-use Rattle.bq_range.specs.Table.{operated, row, sums, differences, products, quotients, remainders, ones, conjunctions, disjunctions, exclusive_disjunctions, shifted_left, left_shifts, right_shifts, arithmetic_right_shifts, negatives, negated, extensions, sign_extended, low_range, swapped_range}
+use Rattle.bq_range.specs.Table.{operated, row, sums, differences, products, quotients, remainders, ones, shifted_left, left_shifts, right_shifts}
+use Rattle.bq_range.specs.Table.{arithmetic_right_shifts, negatives, negated, extensions, sign_extended, low_range, swapped_range}
 use Rattle.bq_range.specs.Monotone.{IsPart}
-use Rattle.bq_range.proofs.Held.{choose_le, choose_lt, itself, div_mono, shr_mono, words}
+use Rattle.bq_range.proofs.Held.{choose_le, choose_lt, itself, div_mono, words}
 use Rattle.bq_range.proofs.Ones.{ones_above, ones_least, ones_power}
 use Rattle.bq_range.proofs.Rows.{OneSide, one_side, shifts, shifts_by, sides, plain}
 use Rattle.bq_range.proofs.Covers.{cut_covers, cut_bound, operated_covers, negated_covers, sign_extended_covers, low_range_covers, swapped_range_covers}
@@ -208,17 +209,8 @@ module _ (w : ℕ) (a b c d : Interval) (h : Inside w a b c d) where
       (λ s t. small_lt a.hi b.lo _ _ _ (λ v. record { low = omega arith; high = l.high }) (λ v. record { low = omega arith; high = omega (arith, l.high) }))
       (record { low = omega arith; high = l.high })
 
-  conjunctions_within : Within (conjunctions a b) (conjunctions c d)
-  conjunctions_within = record { low = omega arith; high = omega (arith, l.high, r.high) }
-
   ones_within : 2 ^ w ≤ 2 ^ 64 → ones (max a.hi b.hi) ≤ ones (max c.hi d.hi)
   ones_within p = ones_mono (max a.hi b.hi) (max c.hi d.hi) (omega (arith, l.high, r.high)) (omega (arith, p, c_fits, d_fits))
-
-  disjunctions_within : 2 ^ w ≤ 2 ^ 64 → Within (disjunctions a b) (disjunctions c d)
-  disjunctions_within p = record { low = omega (arith, l.low, r.low); high = ones_within p }
-
-  exclusive_within : 2 ^ w ≤ 2 ^ 64 → Within (exclusive_disjunctions a b) (exclusive_disjunctions c d)
-  exclusive_within p = record { low = omega arith; high = ones_within p }
 
   -- a row that asks whether the count is single
   large_single : (u v x : Interval) → (d.lo ≡ d.hi → Within x u) → Within x v → Within x (cond (is_single d) u v)
@@ -239,7 +231,7 @@ module _ (w : ℕ) (a b c d : Interval) (h : Inside w a b c d) where
   right_shifts_within =
       large_single (between (c.lo / 2 ^ (d.lo % w)) (c.hi / 2 ^ (d.lo % w))) (between 0 c.hi) (right_shifts w a b)
       (λ e. let s = same_count e in
-      rw (s.0, s.1) (record { low = shr_mono c.lo a.lo (d.lo % w) l.low; high = shr_mono a.hi c.hi (d.lo % w) l.high }))
+      rw (s.0, s.1) (record { low = shr_mono (d.lo % w) l.low; high = shr_mono (d.lo % w) l.high }))
       (small (is_single b) (between (a.lo / 2 ^ (b.lo % w)) (a.hi / 2 ^ (b.lo % w))) (between 0 a.hi) (between 0 c.hi)
       (λ _. record { low = omega arith; high = omega (arith, shr_le a.hi (b.lo % w), l.high) })
       (λ _. record { low = omega arith; high = l.high }))
@@ -250,8 +242,8 @@ module _ (w : ℕ) (a b c d : Interval) (h : Inside w a b c d) where
 
   test_of : OneSide w a → one_side w a ≡ true
   test_of side = elim side [
-    | inl h ↦ rw (lt-ltb a.hi (2 ^ (w - 1)) h) refl
-    | inr h ↦ rw (le-leb (2 ^ (w - 1)) a.lo h) (or-true (ltb a.hi (2 ^ (w - 1))))
+    | inl h ↦ or_left _ _ (lt-ltb a.hi (2 ^ (w - 1)) h)
+    | inr h ↦ or_right _ _ (le-leb (2 ^ (w - 1)) a.lo h)
   ]
 
   shifts_within : (n : ℕ) → OneSide w c → Within (shifts w a n) (shifts w c n)
@@ -291,12 +283,12 @@ row_within width Add a b c d h = sums_within (bits_of width) a b c d h
 row_within width Sub a b c d h = differences_within (bits_of width) a b c d h
 row_within width Mul a b c d h = products_within (bits_of width) a b c d h.left h.right
 row_within width Div a b c d h = quotients_within (bits_of width) a b c d h
-row_within width Or a b c d h = disjunctions_within (bits_of width) a b c d h (words width)
-row_within width And a b c d h = conjunctions_within (bits_of width) a b c d h
+row_within width Or a b c d h = record { low = omega (arith, h.left.low, h.right.low); high = ones_within (bits_of width) a b c d h (words width) }
+row_within width And a b c d h = record { low = omega arith; high = omega (arith, h.left.high, h.right.high) }
 row_within width ShiftLeft a b c d h = left_shifts_within (bits_of width) a b c d h
 row_within width ShiftRight a b c d h = right_shifts_within (bits_of width) a b c d h
 row_within width Mod a b c d h = remainders_within (bits_of width) a b c d h
-row_within width Xor a b c d h = exclusive_within (bits_of width) a b c d h (words width)
+row_within width Xor a b c d h = record { low = omega arith; high = ones_within (bits_of width) a b c d h (words width) }
 row_within width Mov a b c d h = h.right
 row_within width ArithmeticShiftRight a b c d h = arithmetic_within (bits_of width) a b c d h
 row_within width _ a b c d h = itself (whole (bits_of width))
@@ -314,9 +306,9 @@ cut_within w a c h =
     record { low = least.low; high = greatest.high })
     (λ f. large (eqb (c.lo / 2 ^ w) (c.hi / 2 ^ w)) (between (low w c.lo) (low w c.hi)) (whole w) (whole w)
     (λ t. let e = eqb-true (c.lo / 2 ^ w) (c.hi / 2 ^ w) t in
-    let p = shr_mono c.lo a.lo w within.low in
-    let q = shr_mono a.lo a.hi w ordered in
-    let s = shr_mono a.hi c.hi w within.high in
+    let p = shr_mono w within.low in
+    let q = shr_mono w ordered in
+    let s = shr_mono w within.high in
     absurd (eqb-false (a.lo / 2 ^ w) (a.hi / 2 ^ w) f (omega (arith, e, p, q, s))))
     (λ _. itself (whole w)))
   where
@@ -346,9 +338,6 @@ operated_part width op a b c d h k = record { words = full; within = less }
         (operation_bound w op a.lo b.lo) (row_fits width (cut w a) (cut w b) (cut_bound w a) (cut_bound w b) op)
         (operated_covers width op a b a.lo b.lo (lowest a o) (lowest b p))
 
-    both_true : (x y : Bool) → x ≡ true → y ≡ true → (x && y) ≡ true
-    both_true x y e f = rw (e, f) refl
-
     less : Within (operated (bits_of width) op a b) (operated (bits_of width) op c d)
     less =
         let w = bits_of width in
@@ -358,7 +347,7 @@ operated_part width op a b c d h k = record { words = full; within = less }
         (λ t. let (i, j) = and_parts (is_single c) (is_single d) t in
         let s = is_also_single a c o l (eqb-true c.lo c.hi i) in
         let u = is_also_single b d p r (eqb-true d.lo d.hi j) in
-        absurd (true≢false (sym (both_true (is_single a) (is_single b) s.0 u.0) ∙ f)))
+        absurd (true≢false (sym (and_from (is_single a) (is_single b) s.0 u.0) ∙ f)))
         (λ _. row_within width op (cut w a) (cut w b) (cut w c) (cut w d) (record {
           a_ordered = cut_ordered w a o;
           b_ordered = cut_ordered w b p;
@@ -413,7 +402,7 @@ sign_extended_part from to a c h =
     (λ s. small_lt (cut w a).hi (2 ^ (n - 1)) (cut w a) (whole w) (cut w c) (λ _. k) (λ t. absurd (omega (arith, k.high))))
     (λ s. in_whole w (extensions n w (cut w a)) (extensions_fit n w a)))
 
-order_words : (bits : SwapBits) → 2 ^ swap_bits bits ≤ 2 ^ 64
+pub order_words : (bits : SwapBits) → 2 ^ swap_bits bits ≤ 2 ^ 64
 order_words B16 = omega arith
 order_words _ = omega arith
 

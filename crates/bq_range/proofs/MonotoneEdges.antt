@@ -1,5 +1,5 @@
 -- Smaller operands leave less on each edge of a branch.
-use Rattle.std.proofs.Common.{◌≡◌, ℕ, ◌^◌, ◌<◌, ◌≤◌, Bool, true, ltb, Option, Some, None, arith, sym, subst, inl, inr, ◌&&◌}
+use Rattle.std.proofs.Common.{◌≡◌, ℕ, ◌^◌, ◌<◌, Bool, true, ltb, Option, Some, None, arith, sym, subst, inl, inr, ◌&&◌}
 use Rattle.std.specs.Prelude.{not}
 use Rattle.std.proofs.lemmas.Bool.{cond_both, ltb-true, lt-ltb, and_parts, eqb-true, eq-eqb}
 use Rattle.bq_word.specs.Word.{bits_of, relates}

@@ -63,7 +63,8 @@ least_like P Q (Some r) f g i = record { lo = f r.lo i.lo; hi = f r.hi i.hi; eac
 pub then_piece : (P Q : ℕ → Type 0) (f : Interval → Option Interval) (o : Option Interval) → OnPiece P o
     → ((r : Interval) → r.lo ≤ r.hi → OnPiece (λ x. IsIn x r × Q x) (f r)) → OnPiece (λ x. P x × Q x) (option_and_then f o)
 then_piece P Q f None n h = λ x (p, q). n x p
-then_piece P Q f (Some r) i h = piece_like (λ x. IsIn x r × Q x) (λ x. P x × Q x) (f r) (λ x (k, q). (i.sound x k, q)) (λ x (p, q). (i.complete x p, q)) (h r i.ordered)
+then_piece P Q f (Some r) i h =
+    piece_like (λ x. IsIn x r × Q x) (λ x. P x × Q x) (f r) (λ x (k, q). (i.sound x k, q)) (λ x (p, q). (i.complete x p, q)) (h r i.ordered)
 
 ends : (P : ℕ → Type 0) (r : Interval) → IsPiece P r → P r.lo × P r.hi
 ends P r i = let k : r.lo ≤ r.hi = i.ordered in (i.sound r.lo (record { low = omega arith; high = k }), i.sound r.hi (record { low = k; high = omega arith }))

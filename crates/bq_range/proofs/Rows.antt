@@ -4,6 +4,7 @@ use Rattle.std.specs.Prelude.{bit_or, bit_xor, max, min}
 use Rattle.std.proofs.lemmas.Bool.{lt-ltb, le-ltb, or_cases, ltb-true, leb-true}
 use Rattle.std.proofs.lemmas.Nat.{mul-le, pow_pos, or_lt, xor_lt, and_le_l, and_le_r, le_or_l, le_or_r, shr_le, mod_below}
 use Rattle.std.proofs.Math.Nat.{mod-eq_of_lt, mul-one, div-le_self, mod-le, pow-le-pow_right}
+use Rattle.std.proofs.Math.Pow.{shr_mono}
 use Rattle.bq_word.specs.Word.{operation, bits_of}
 use Rattle.bq_word.proofs.Low.{sub_is, mod_is}
 use Rattle.bq_word.proofs.Bounds.{operation_bound}
@@ -11,8 +12,9 @@ use Rattle.bq_word.specs.declared.Width.{Width}
 use Rattle.bq_word.specs.declared.AluOp.{AluOp}
 use Rattle.bq_word.specs.declared.AluOp.TheVariants.{Add, Sub, Mul, Div, Or, And, ShiftLeft, ShiftRight, Mod, Xor, Mov, ArithmeticShiftRight}
 use Rattle.bq_range.specs.Interval.{Interval, IsIn, between, single, top, whole}
-use Rattle.bq_range.specs.Table.{row, sums, differences, products, quotients, remainders, ones, disjunctions, exclusive_disjunctions, shifted_left, left_shifts, right_shifts, arithmetic_right_shifts}
-use Rattle.bq_range.proofs.Held.{words, IsIn-whole, pick, pick_le, pick_lt, pick_eq, held_both, div_mono, shr_mono}
+use Rattle.bq_range.specs.Table.{row, sums, differences, products, quotients, remainders, ones, disjunctions, exclusive_disjunctions}
+use Rattle.bq_range.specs.Table.{shifted_left, left_shifts, right_shifts, arithmetic_right_shifts}
+use Rattle.bq_range.proofs.Held.{words, IsIn-whole, pick, pick_le, pick_lt, pick_eq, held_both, div_mono}
 use Rattle.bq_range.proofs.Ones.{ones_above, ones_power}
 
 -- a product of numbers below the ends
@@ -29,17 +31,13 @@ shifted_left_holds : (w : ℕ) (a : Interval) (x n : ℕ) → IsIn x a → IsIn 
 shifted_left_holds w a x n h = products_hold w a (single (2 ^ n)) x (2 ^ n) h (record { low = omega arith; high = omega arith })
 
 -- numbers up to z have the bits of `ones z` alone
-or_ones : (x y z : ℕ) → z < 2 ^ 64 → x ≤ z → y ≤ z → bit_or x y ≤ ones z
-or_ones x y z h p q =
+bits_below : (x y z : ℕ) → z < 2 ^ 64 → x ≤ z → y ≤ z → (bit_or x y ≤ ones z) × (bit_xor x y ≤ ones z)
+bits_below x y z h p q =
     let (k, e) = ones_power z in
     let above : z ≤ ones z = ones_above z h in
-    omega (arith, or_lt k x y (omega (arith, pow_pos k)) (omega (arith, pow_pos k)))
-
-xor_ones : (x y z : ℕ) → z < 2 ^ 64 → x ≤ z → y ≤ z → bit_xor x y ≤ ones z
-xor_ones x y z h p q =
-    let (k, e) = ones_power z in
-    let above : z ≤ ones z = ones_above z h in
-    omega (arith, xor_lt k x y (omega (arith, pow_pos k)) (omega (arith, pow_pos k)))
+    let x_fits : x < 2 ^ k = omega (arith, pow_pos k) in
+    let y_fits : y < 2 ^ k = omega (arith, pow_pos k) in
+    (omega (arith, or_lt k x y x_fits y_fits), omega (arith, xor_lt k x y x_fits y_fits))
 
 -- ---- the arithmetic shift: a number without sign and one with it
 
@@ -62,9 +60,9 @@ pub shift_mono : (w x y n : ℕ) → x ≤ y → y < 2 ^ w → (y < 2 ^ (w - 1))
     → operation w ArithmeticShiftRight x n ≤ operation w ArithmeticShiftRight y n
 shift_mono w x y n h k side =
     elim side [
-      | inl below ↦ rw (plain w x n (omega arith), plain w y n below) (shr_mono x y (n % w) h)
+      | inl below ↦ rw (plain w x n (omega arith), plain w y n below) (shr_mono (n % w) h)
       | inr above ↦ rw (negative w x n above (omega arith), negative w y n (omega arith) k)
-          (omega (arith, shr_mono (2 ^ w - 1 - y) (2 ^ w - 1 - x) (n % w) (omega arith)))
+          (omega (arith, shr_mono {a = 2 ^ w - 1 - y} {b = 2 ^ w - 1 - x} (n % w) (omega arith)))
     ]
 
 -- a range on one side of the sign, the test of it, and the range of its ends shifted by one count
@@ -135,14 +133,14 @@ module _ (w : ℕ) (a b : Interval) (x y : ℕ) (p : a.hi < 2 ^ w) (q : b.hi < 2
       (λ s. held_both (between 0 a.hi) y x (x % y) (λ z. record { low = omega arith; high = omega arith })
       (λ z. record { low = omega arith; high = omega (arith, mod-le x y) }))
 
+  bits_hold : 2 ^ w ≤ 2 ^ 64 → (bit_or x y ≤ ones (max a.hi b.hi)) × (bit_xor x y ≤ ones (max a.hi b.hi))
+  bits_hold l = bits_below x y (max a.hi b.hi) (omega arith) (omega arith) (omega arith)
+
   disjunctions_hold : 2 ^ w ≤ 2 ^ 64 → IsIn (bit_or x y) (disjunctions a b)
-  disjunctions_hold l = record {
-    low = omega (arith, le_or_l x y, le_or_r x y);
-    high = or_ones x y (max a.hi b.hi) (omega arith) (omega arith) (omega arith);
-  }
+  disjunctions_hold l = record { low = omega (arith, le_or_l x y, le_or_r x y); high = (bits_hold l).0 }
 
   exclusive_hold : 2 ^ w ≤ 2 ^ 64 → IsIn (bit_xor x y) (exclusive_disjunctions a b)
-  exclusive_hold l = record { low = omega arith; high = xor_ones x y (max a.hi b.hi) (omega arith) (omega arith) (omega arith) }
+  exclusive_hold l = record { low = omega arith; high = (bits_hold l).1 }
 
   left_shifts_hold : IsIn ((x * 2 ^ (y % w)) % 2 ^ w) (left_shifts w a b)
   left_shifts_hold =
@@ -156,7 +154,7 @@ module _ (w : ℕ) (a b : Interval) (x y : ℕ) (p : a.hi < 2 ^ w) (q : b.hi < 2
       pick_eq b.lo b.hi _ _ _
       (λ s. let e : b.lo ≡ y = omega arith in
       subst (λ (c : ℕ). IsIn (x / 2 ^ (c % w)) (between (a.lo / 2 ^ (b.lo % w)) (a.hi / 2 ^ (b.lo % w)))) e
-      (record { low = shr_mono a.lo x (b.lo % w) h.low; high = shr_mono x a.hi (b.lo % w) h.high }))
+      (record { low = shr_mono (b.lo % w) h.low; high = shr_mono (b.lo % w) h.high }))
       (record { low = omega arith; high = omega (arith, shr_le x (y % w)) })
 
   arithmetic_right_shifts_hold : IsIn (operation w ArithmeticShiftRight x y) (arithmetic_right_shifts w a b)

@@ -14,7 +14,7 @@ use Rattle.bq_meaning.specs.Meaning.{target}
 use Rattle.bq_state.specs.Kinds.{StateKinds}
 use Rattle.bq_state.specs.Edges.{refined, along, edges}
 use Rattle.bq_sound.specs.Passes.{note_at, NoteCovers, AllCovered}
-use Rattle.bq_sound.proofs.Among.{among_either}
+use Rattle.forms.proofs.Lists.{among_either}
 
 -- a unit that has a state is one of the notes
 pub note_within : (notes : List (Option StateKinds)) (unit : ℕ) (state : StateKinds) → note_at notes unit ≡ Some state → unit < length notes

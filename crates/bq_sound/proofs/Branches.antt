@@ -26,7 +26,7 @@ use Rattle.bq_state.specs.Kinds.{StateKinds, kind_of, read_kind, with_kind, with
 use Rattle.bq_state.specs.Rules.{transfer, read_operand}
 use Rattle.bq_state.specs.Edges.{narrowed, with_number, with_numbers, refined_by_number, refined_by_register, refined, along, edges}
 use Rattle.bq_sound.proofs.Tags.{Tagged, Num, in_single, tag_at, HoldsNumber, TagHolds, TagsHold, register_holds, narrowed_holds, lengths_hold}
-use Rattle.bq_sound.proofs.Among.{among_left, among_right}
+use Rattle.forms.proofs.Lists.{among_left, among_right}
 use Rattle.bq_sound.proofs.Rules.{same_state, IsNumbered, known-ok, number-ok}
 use Rattle.bq_sound.proofs.Machine.{Common, machine, Performs, GoesOn, Stands, same_holds, goes_on}
 use Rattle.bq_sound.proofs.Operands.{operand_tag, held_is, value_is, number_holds}

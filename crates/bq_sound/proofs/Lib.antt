@@ -1,5 +1,4 @@
 pub mod Words
-pub mod Among
 pub mod Tags
 pub mod Rules
 pub mod Moves

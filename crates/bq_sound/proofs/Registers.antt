@@ -1,5 +1,5 @@
 -- Instructions that work on registers alone.
-use Rattle.std.proofs.Common.{◌≡◌, ℕ, ◌+◌, ◌^◌, ◌<◌, ◌≤◌, refl, ◌∙◌, inl, arith, Some, Ok}
+use Rattle.std.proofs.Common.{◌≡◌, ℕ, ◌+◌, ◌^◌, ◌<◌, refl, ◌∙◌, inl, arith, Some, Ok}
 use Rattle.std.proofs.lemmas.Bool.{lt-ltb}
 use Rattle.bq_word.specs.Word.{bits_of, operation, low, swap_bits, swapped, extended}
 use Rattle.bq_word.specs.declared.Width.{Width}
@@ -25,6 +25,7 @@ use Rattle.bq_meaning.specs.declared.fault.Fault.TheVariants.{ReadUnset}
 use Rattle.bq_range.specs.Interval.{Interval, IsIn, single}
 use Rattle.bq_range.specs.Table.{negated, sign_extended}
 use Rattle.bq_range.proofs.Held.{words}
+use Rattle.bq_range.proofs.Monotone.{order_words}
 use Rattle.bq_range.proofs.Covers.{negated_covers, sign_extended_covers, low_range_covers, swapped_range_covers}
 use Rattle.bq_state.specs.declared.rule.Rule.TheVariants.{WrongKind, AnswerKind}
 use Rattle.bq_state.specs.Kinds.{StateKinds, read_kind}
@@ -107,13 +108,8 @@ low_word swaps.B16 x = omega arith
 low_word swaps.B32 x = omega arith
 low_word swaps.B64 x = omega arith
 
-wide_enough : (bits : SwapBits) → 2 ^ swap_bits bits ≤ 2 ^ 64
-wide_enough swaps.B16 = omega arith
-wide_enough swaps.B32 = omega arith
-wide_enough swaps.B64 = omega arith
-
 swapped_word : (bits : SwapBits) (x : ℕ) → swapped (swap_bits bits) x < 2 ^ 64
-swapped_word bits x = let b = swapped_bound bits x in let c = wide_enough bits in omega (arith, b, c)
+swapped_word bits x = let b = swapped_bound bits x in let c = order_words bits in omega (arith, b, c)
 
 order : (o : ByteOrder) (bits : SwapBits) → Covers (ordered o (swap_bits bits)) (ordered_range o (swap_bits bits))
 order orders.Little bits = record { small = low_word bits; covers = low_range_covers (swap_bits bits) }

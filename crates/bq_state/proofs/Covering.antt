@@ -1,5 +1,6 @@
 -- What covers what.
-use Rattle.std.proofs.Common.{◌≡◌, true, inl, inr, ℕ, ℤ, zero, suc, ◌<◌, arith, List, [], ◌∷◌, Option, Some, length, refl, ap, sym, subst, ◌∙◌, ◌+◌, get_or, set}
+use Rattle.std.proofs.Common.{◌≡◌, true, inl, inr, ℕ, ℤ, zero, suc, ◌<◌, ◌+◌, List, [], ◌∷◌, length, get_or, set, Option, Some}
+use Rattle.std.proofs.Common.{arith, refl, ap, sym, subst, ◌∙◌}
 use Rattle.std.proofs.lemmas.Int.{ints, clamps}
 use Rattle.std.proofs.lemmas.Bool.{cases_Bool, cases_lt}
 use Rattle.std.proofs.lemmas.List.{ext_get_or, get_or_default}
@@ -203,10 +204,6 @@ join_least a b c e h i = record {
 
 pub joined_count : (a b : StateKinds) → length a.kinds ≡ length b.kinds → length (join_states a b).kinds ≡ length a.kinds
 joined_count a b e = lists_count a.lengths b.lengths a.kinds b.kinds e
-
-pub joined_kind : (a b : StateKinds) (r : ℕ) → r < length a.kinds → r < length b.kinds
-    → kind_of (join_states a b) r ≡ join_kinds a.lengths b.lengths (kind_of a r) (kind_of b r)
-joined_kind a b r h k = kind_at a.lengths b.lengths a.kinds b.kinds r h k
 
 -- ---- machines
 

@@ -23,7 +23,9 @@ use Rattle.bq_insn.specs.Insn.{extension_bits, extension_width, size_bytes}
 use Rattle.bq_range.specs.Narrow.{branched}
 use Rattle.bq_state.specs.Offsets.{Span, moved_on, moved_back}
 use Rattle.bq_state.specs.Kinds.{StateKinds, kind_of, as_number, read_kind, with_kind, with_lengths}
-use Rattle.bq_state.specs.Rules.{and_then, known, writable, number, allowed, readable, storable, sum_kind, difference_kind, pointer_kind, operated_kind, is_copy, alu_kind, ordered_range, operand_kind, read_operand, taken_kind, mapped, loaded_state, transfer}
+use Rattle.bq_state.specs.Rules.{and_then, known, writable, number, allowed, readable, storable, transfer}
+use Rattle.bq_state.specs.Rules.{sum_kind, difference_kind, pointer_kind, operated_kind, is_copy, alu_kind, ordered_range}
+use Rattle.bq_state.specs.Rules.{operand_kind, read_operand, taken_kind, mapped, loaded_state}
 use Rattle.bq_state.specs.Edges.{narrowed, with_number, with_numbers, refined_by_number, refined_by_register, refined, along, edges}
 use Rattle.bq_state.specs.Plain.{IsPlainKind}
 use Rattle.bq_state.specs.declared.kind.Kind.{Kind}
@@ -139,16 +141,16 @@ module _ (P : StateKinds → Type 0)
 
   -- ---- branches
 
+  same_keeps : (a b : StateKinds) → P a → Some a ≡ Some b → P b
+  same_keeps a b e h = let same : a ≡ b = cc in subst P same e
+
   lengths_keep : (a b : StateKinds) (d : ℕ) (o : Option Interval) → P a → kind_of a d ≡ Length → option_map (with_lengths a) o ≡ Some b → P b
   lengths_keep a b d None e is h = absurd cc
-  lengths_keep a b d (Some l) e is h = let same : with_lengths a l ≡ b = cc in subst P same (narrows a d l e is)
-
-  put_keeps : (a b : StateKinds) (d : ℕ) (x : Interval) → P a → Some (with_kind a d (Number x)) ≡ Some b → P b
-  put_keeps a b d x e h = let same : with_kind a d (Number x) ≡ b = cc in subst P same (puts a d (Number x) e (inl tt))
+  lengths_keep a b d (Some l) e is h = same_keeps (with_lengths a l) b (narrows a d l e is) h
 
   narrowed_keeps : (a b : StateKinds) (d : ℕ) (x : Interval) (k : Kind) → P a → kind_of a d ≡ k → narrowed a d x k ≡ Some b → P b
   narrowed_keeps a b d x Length e is h = lengths_keep a b d (meet a.lengths x) e is h
-  narrowed_keeps a b d x k e is h = put_keeps a b d x e h
+  narrowed_keeps a b d x k e is h = same_keeps (with_kind a d (Number x)) b (puts a d (Number x) e (inl tt)) h
 
   number_keeps : (a b : StateKinds) (d : ℕ) (o : Option (Interval × Interval)) → P a → with_number a d o ≡ Some b → P b
   number_keeps a b d None e h = absurd cc
@@ -162,9 +164,6 @@ module _ (P : StateKinds → Type 0)
   numbers_keep : (a b : StateKinds) (d s : ℕ) (o : Option (Interval × Interval)) → P a → with_numbers a d s o ≡ Some b → P b
   numbers_keep a b d s None e h = absurd cc
   numbers_keep a b d s (Some p) e h = both_keep b s p.1 (narrowed a d p.0 (kind_of a d)) (λ t i. narrowed_keeps a t d p.0 (kind_of a d) e refl i) h
-
-  same_keeps : (a b : StateKinds) → P a → Some a ≡ Some b → P b
-  same_keeps a b e h = let same : a ≡ b = cc in subst P same e
 
   by_number_keeps : (a b : StateKinds) (w : Width) (r : Relation) (taken : Bool) (d n : ℕ) (k : Kind) → P a → refined_by_number a w r taken d n k ≡ Some b → P b
   by_number_keeps a b w r taken d n (Number x) e h = number_keeps a b d (branched (bits_of w) r taken x (single (low (bits_of w) n))) e h

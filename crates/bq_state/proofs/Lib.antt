@@ -1,7 +1,7 @@
 pub mod Spans
 pub mod Covering
 pub mod Keeps
-mod Entering
+mod Each
 pub mod Counts
 pub mod Plain
 pub mod Ways

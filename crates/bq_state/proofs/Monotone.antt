@@ -3,12 +3,13 @@
 -- unit that covers it (`edges_less`). Both are said of states of eleven kinds whose ranges are of words, as the entry's
 -- is (`entry_full`) and the joins of such states are (`joined_full`). They rest on the law that the rows of ranges are
 -- monotone.
-use Rattle.std.proofs.Common.{◌≡◌, ℕ, ◌+◌, ◌*◌, ◌^◌, ◌<◌, ◌≤◌, List, [], ◌∷◌, ◌++◌, length, Option, Some, None, Bool, true, false, cond, arith, refl, sym, ap, subst, ◌∙◌, inl, inr, get_or}
+use Rattle.std.proofs.Common.{◌≡◌, ℕ, ◌+◌, ◌*◌, ◌^◌, ◌<◌, ◌≤◌, List, [], ◌∷◌, ◌++◌, length, Option, Some, None, Bool, true, false, cond}
+use Rattle.std.proofs.Common.{arith, refl, sym, subst, ◌∙◌, inl, inr}
 use Rattle.std.specs.Prelude.{⊤, min, max, ℤ, pos, negsuc, ◌+ℤ◌, ◌-ℤ◌, int_le, Result, Ok, Err, option_map}
 use Rattle.std.specs.Option.{option_and_then}
 use Rattle.std.proofs.lemmas.Int.{ints}
 use Rattle.std.proofs.lemmas.Bool.{cond_both, cases_eq, cases_lt, cases_Bool, eq-eqb, ne_eqb, lt-ltb, le-ltb, le-leb, lt-leb, and_parts}
-use Rattle.std.proofs.lemmas.List.{get_or-set_same, get_or-set_other, get_or_past, set_past, length-set}
+use Rattle.std.proofs.lemmas.List.{get_or-set_same, get_or-set_other, length-set}
 use Rattle.bq_word.specs.Word.{bits_of, low, modulo, swap_bits, signed_bytes}
 use Rattle.bq_word.specs.declared.Width.{Width}
 use Rattle.bq_word.specs.declared.Width.TheVariants.{W32, W64}
@@ -34,11 +35,15 @@ use Rattle.bq_range.specs.Table.{negated, sign_extended}
 use Rattle.bq_range.specs.Narrow.{branched}
 use Rattle.bq_range.specs.Monotone.{IsPart, LeavesLess, RowsAreMonotone}
 use Rattle.bq_state.specs.Offsets.{Span, SpanWithin, signed_of, limited, is_limited, moved_on, moved_back, fits}
-use Rattle.bq_state.specs.Kinds.{StateKinds, AreLengths, kind_of, as_number, read_kind, with_kind, with_lengths, KindCovers, StateCovers, is_same, join_kinds, join_states, length_kind, entry_state}
+use Rattle.bq_state.specs.Kinds.{StateKinds, AreLengths, kind_of, as_number, read_kind, with_kind, with_lengths, length_kind, entry_state}
+use Rattle.bq_state.specs.Kinds.{KindCovers, StateCovers, is_same, join_kinds, join_states}
 use Rattle.bq_state.specs.Monotone.{IsFullKind, IsFullState, IsAbove, IsRefinedAbove, SomeCovers, AreEdgesAbove, StatesAreOrdered, StatesAreMonotone}
-use Rattle.bq_state.proofs.Entering.{each_entry}
-use Rattle.bq_state.proofs.Covering.{kind_covers_itself, kind_covers_through, within_itself, within_through, state_covers_itself, state_covers_through, join_covers, join_least, joined_count, joined_kind}
-use Rattle.bq_state.specs.Rules.{and_then, known, writable, number, allowed, extent, outside, readable, storable, sum_kind, difference_kind, pointer_kind, operated_kind, is_copy, alu_kind, ordered_range, operand_kind, read_operand, taken_kind, mapped, loaded_state, transfer}
+use Rattle.bq_state.proofs.Each.{each_entry, past, kind_set, set_each, each_joined}
+use Rattle.bq_state.proofs.Covering.{kind_covers_itself, kind_covers_through, within_itself, within_through}
+use Rattle.bq_state.proofs.Covering.{state_covers_itself, state_covers_through, join_covers, join_least, joined_count}
+use Rattle.bq_state.specs.Rules.{and_then, known, writable, number, allowed, extent, outside, readable, storable, transfer}
+use Rattle.bq_state.specs.Rules.{sum_kind, difference_kind, pointer_kind, operated_kind, is_copy, alu_kind, ordered_range}
+use Rattle.bq_state.specs.Rules.{operand_kind, read_operand, taken_kind, mapped, loaded_state}
 use Rattle.bq_state.specs.Edges.{narrowed, with_number, with_numbers, refined_by_number, refined_by_register, refined, along, edges}
 use Rattle.bq_meaning.specs.Meaning.{target}
 use Rattle.bq_state.specs.declared.kind.Kind.{Kind}
@@ -52,7 +57,8 @@ use Rattle.bq_state.specs.declared.rule.Rule.TheVariants.{WrongKind, AnswerKind,
 
 signed_within : (a c : Interval) → a.lo ≤ a.hi → a.hi < 2 ^ 64 → Within a c → SpanWithin (signed_of a) (signed_of c)
 signed_within a c o h l = elim (cases_lt c.hi (2 ^ 63)) [
-  | inl s ↦ rw (lt-ltb c.hi (2 ^ 63) s, lt-ltb a.hi (2 ^ 63) (omega (arith, l.high))) (record { low = omega (arith, ints, l.low); high = omega (arith, ints, l.high) })
+  | inl s ↦ rw (lt-ltb c.hi (2 ^ 63) s, lt-ltb a.hi (2 ^ 63) (omega (arith, l.high)))
+      (record { low = omega (arith, ints, l.low); high = omega (arith, ints, l.high) })
   | inr s ↦ elim (cases_lt c.lo (2 ^ 63)) [
     | inl t ↦ grind (arith, ints, l.low, l.high)
     | inr t ↦ grind (arith, ints, l.low, l.high)
@@ -74,16 +80,18 @@ limited_less s t h =
     rw (x, y) h)
     (λ _. tt)
 
-moved_on_less : (s t : Span) (a b : Interval) → SpanWithin t s → IsPart b a → SpansLess (moved_on s a) (moved_on t b)
-moved_on_less s t a b h p =
+moved_on_less : {s t : Span} {a b : Interval} → SpanWithin t s → IsPart b a → SpansLess (moved_on s a) (moved_on t b)
+moved_on_less {s = s} {t = t} {a = a} {b = b} h p =
     let n = signed_within b a p.words.ordered p.words.words p.within in
-    limited_less (record { lo = s.lo +ℤ (signed_of a).lo; hi = s.hi +ℤ (signed_of a).hi }) (record { lo = t.lo +ℤ (signed_of b).lo; hi = t.hi +ℤ (signed_of b).hi })
+    limited_less (record { lo = s.lo +ℤ (signed_of a).lo; hi = s.hi +ℤ (signed_of a).hi })
+    (record { lo = t.lo +ℤ (signed_of b).lo; hi = t.hi +ℤ (signed_of b).hi })
     (record { low = omega (arith, ints, h.low, n.low); high = omega (arith, ints, h.high, n.high) })
 
-moved_back_less : (s t : Span) (a b : Interval) → SpanWithin t s → IsPart b a → SpansLess (moved_back s a) (moved_back t b)
-moved_back_less s t a b h p =
+moved_back_less : {s t : Span} {a b : Interval} → SpanWithin t s → IsPart b a → SpansLess (moved_back s a) (moved_back t b)
+moved_back_less {s = s} {t = t} {a = a} {b = b} h p =
     let n = signed_within b a p.words.ordered p.words.words p.within in
-    limited_less (record { lo = s.lo -ℤ (signed_of a).hi; hi = s.hi -ℤ (signed_of a).lo }) (record { lo = t.lo -ℤ (signed_of b).hi; hi = t.hi -ℤ (signed_of b).lo })
+    limited_less (record { lo = s.lo -ℤ (signed_of a).hi; hi = s.hi -ℤ (signed_of a).lo })
+    (record { lo = t.lo -ℤ (signed_of b).hi; hi = t.hi -ℤ (signed_of b).lo })
     (record { low = omega (arith, ints, h.low, n.high); high = omega (arith, ints, h.high, n.low) })
 
 -- they fit into as many bytes, or more
@@ -108,10 +116,6 @@ data Less : Kind → Kind → Type 0 where
 
 abbrev Results : Interval → Kind → Kind → Type 0
 Results j k l = KindCovers j k l × IsFullKind l
-
-both_cover : (j : Interval) {k l : Kind} → Both k l → Results j k l
-both_cover j (numbers h) = (h.within, h.words)
-both_cover j (pointers h) = ((refl, h), tt)
 
 -- lengths are words
 length_words : (l : Interval) → AreLengths l → IsInterval l
@@ -212,12 +216,12 @@ moves j r (Some s) (Some t) h = ((refl, h), tt)
 moves j r (Some s) None h = absurd h
 
 sum_follows : (j : Interval) {k l u v : Kind} → Both k l → Both u v → MayFollow j (sum_kind k u) (sum_kind l v)
-sum_follows j (pointers {r = r} {s = s} {t = t} h) (numbers {a = a} {b = b} i) = moves j r (moved_on s a) (moved_on t b) (moved_on_less s t a b h i)
-sum_follows j (numbers {a = a} {b = b} i) (pointers {r = r} {s = s} {t = t} h) = moves j r (moved_on s a) (moved_on t b) (moved_on_less s t a b h i)
+sum_follows j (pointers {r = r} {s = s} {t = t} h) (numbers {a = a} {b = b} i) = moves j r (moved_on s a) (moved_on t b) (moved_on_less h i)
+sum_follows j (numbers {a = a} {b = b} i) (pointers {r = r} {s = s} {t = t} h) = moves j r (moved_on s a) (moved_on t b) (moved_on_less h i)
 sum_follows j h i = tt
 
 difference_follows : (j : Interval) {k l u v : Kind} → Both k l → Both u v → MayFollow j (difference_kind k u) (difference_kind l v)
-difference_follows j (pointers {r = r} {s = s} {t = t} h) (numbers {a = a} {b = b} i) = moves j r (moved_back s a) (moved_back t b) (moved_back_less s t a b h i)
+difference_follows j (pointers {r = r} {s = s} {t = t} h) (numbers {a = a} {b = b} i) = moves j r (moved_back s a) (moved_back t b) (moved_back_less h i)
 difference_follows j h i = tt
 
 pointer_follows : (j : Interval) (w : Width) (op : AluOp) {k l u v : Kind} → Both k l → Both u v → MayFollow j (pointer_kind w op k u) (pointer_kind w op l v)
@@ -227,62 +231,43 @@ pointer_follows j w op h i = tt
 
 -- ---- states
 
-past : (s : StateKinds) (r : ℕ) → length s.kinds ≤ r → kind_of s r ≡ Unset
-past s r h = get_or_past s.kinds r Unset h
-
--- what holds of a kind that is set and of the others holds of all
-set_each : (P : ℕ → Kind → Type 0) (s : StateKinds) (d : ℕ) (l : Kind) → d < length s.kinds → P d l
-    → ((r : ℕ) → (r ≡ d → ⊥) → P r (kind_of s r)) → (r : ℕ) → P r (kind_of (with_kind s d l) r)
-set_each P s d l low here others r = elim (cases_eq r d) [
-  | inl e ↦ subst (λ x. P x (kind_of (with_kind s d l) x)) (sym e) (subst (P d) (sym (get_or-set_same s.kinds d l Unset low)) here)
-  | inr ne ↦ subst (P r) (sym (get_or-set_other s.kinds d r l Unset ne)) (others r ne)
-]
-
-full_put : (s : StateKinds) (d : ℕ) (l : Kind) → d < 11 → IsFullState s → IsFullKind l → IsFullState (with_kind s d l)
-full_put s d l low h f = record {
+full_put : (s : StateKinds) (d : ℕ) (l : Kind) → IsFullState s → IsFullKind l → IsFullState (with_kind s d l)
+full_put s d l h f = record {
   count = length-set s.kinds d l ∙ h.count;
-  kinds = set_each (λ r. IsFullKind) s d l (omega (arith, low, h.count)) f (λ r ne. h.kinds r);
+  kinds = set_each (λ r. IsFullKind) s d l (kind_set IsFullKind s d l f tt) (λ r ne. h.kinds r);
   lengths = h.lengths;
 }
 
 -- with a kind that covers what the smaller state has there
 cover_put : (n s : StateKinds) (d : ℕ) (k : Kind) → StateCovers n s → KindCovers s.lengths k (kind_of s d) → StateCovers (with_kind n d k) s
-cover_put n s d k h c = record { lengths = h.lengths; each = at }
-  where
-    at : (r : ℕ) → KindCovers s.lengths (kind_of (with_kind n d k) r) (kind_of s r)
-    at r = elim (cases_eq r d) [
-      | inl e ↦ elim (cases_lt d (length n.kinds)) [
-        | inl t ↦
-            let here : KindCovers s.lengths (kind_of (with_kind n d k) d) (kind_of s d) = subst (λ x. KindCovers s.lengths x (kind_of s d)) (sym (get_or-set_same n.kinds d k Unset t)) c in
-            subst (λ x. KindCovers s.lengths (kind_of (with_kind n d k) x) (kind_of s x)) (sym e) here
-        | inr g ↦
-            let u : kind_of (with_kind n d k) r ≡ Unset = ap (λ x. get_or x r Unset) (set_past n.kinds d k g) ∙ past n r (omega (arith, e, g)) in
-            subst (λ x. KindCovers s.lengths x (kind_of s r)) (sym u) tt
-      ]
-      | inr ne ↦ subst (λ x. KindCovers s.lengths x (kind_of s r)) (sym (get_or-set_other n.kinds d r k Unset ne)) (h.each r)
-    ]
+cover_put n s d k h c = record {
+  lengths = h.lengths;
+  each = set_each (λ r x. KindCovers s.lengths x (kind_of s r)) n d k
+      (kind_set (λ x. KindCovers s.lengths x (kind_of s d)) n d k c tt) (λ r ne. h.each r);
+}
+
+-- with a kind in the smaller state that is covered there
+covered_put : (n s : StateKinds) (d : ℕ) (l : Kind) → d < 11 → IsFullState s → KindCovers s.lengths (kind_of n d) l
+    → ((r : ℕ) → (r ≡ d → ⊥) → KindCovers s.lengths (kind_of n r) (kind_of s r)) → (r : ℕ)
+    → KindCovers s.lengths (kind_of n r) (kind_of (with_kind s d l) r)
+covered_put n s d l low h c others =
+    set_each (λ r. KindCovers s.lengths (kind_of n r)) s d l
+    (subst (KindCovers s.lengths (kind_of n d)) (sym (get_or-set_same s.kinds d l Unset (omega (arith, low, h.count)))) c) others
 
 -- with less in the smaller state
-covered_put : (n s : StateKinds) (d : ℕ) (l : Kind) → d < length s.kinds → StateCovers n s → KindCovers s.lengths (kind_of n d) l
-    → StateCovers n (with_kind s d l)
-covered_put n s d l low h c = record { lengths = h.lengths; each = set_each (λ r. KindCovers s.lengths (kind_of n r)) s d l low c (λ r ne. h.each r) }
+put_less : (n s : StateKinds) (d : ℕ) (l : Kind) → d < 11 → IsAbove n s → Results s.lengths (kind_of n d) l → IsAbove n (with_kind s d l)
+put_less n s d l low h i =
+    (record { lengths = h.0.lengths; each = covered_put n s d l low h.1 i.0 (λ r ne. h.0.each r) }, full_put s d l h.1 i.1)
 
 put : (n s : StateKinds) (d : ℕ) (k l : Kind) → d < 11 → IsAbove n s → Results s.lengths k l → IsAbove (with_kind n d k) (with_kind s d l)
-put n s d k l low h i = (record { lengths = h.0.lengths; each = each }, full_put s d l low h.1 i.1)
-  where
-    here : KindCovers s.lengths (kind_of (with_kind n d k) d) l
-    here = elim (cases_lt d (length n.kinds)) [
-      | inl t ↦ subst (λ x. KindCovers s.lengths x l) (sym (get_or-set_same n.kinds d k Unset t)) i.0
-      | inr g ↦
-          let u : kind_of (with_kind n d k) d ≡ Unset = ap (λ x. get_or x d Unset) (set_past n.kinds d k g) ∙ past n d g in
-          subst (λ x. KindCovers s.lengths x l) (sym u) tt
-    ]
-
-    others : (r : ℕ) → (r ≡ d → ⊥) → KindCovers s.lengths (kind_of (with_kind n d k) r) (kind_of s r)
-    others r ne = subst (λ x. KindCovers s.lengths x (kind_of s r)) (sym (get_or-set_other n.kinds d r k Unset ne)) (h.0.each r)
-
-    each : (r : ℕ) → KindCovers s.lengths (kind_of (with_kind n d k) r) (kind_of (with_kind s d l) r)
-    each = set_each (λ r. KindCovers s.lengths (kind_of (with_kind n d k) r)) s d l (omega (arith, low, h.1.count)) here others
+put n s d k l low h i = (
+  record {
+    lengths = h.0.lengths;
+    each = covered_put (with_kind n d k) s d l low h.1 (kind_set (λ x. KindCovers s.lengths x l) n d k i.0 tt)
+        (λ r ne. subst (λ x. KindCovers s.lengths x (kind_of s r)) (sym (get_or-set_other n.kinds d r k Unset ne)) (h.0.each r));
+  },
+  full_put s d l h.1 i.1,
+)
 
 -- ---- instructions
 
@@ -460,7 +445,11 @@ module _ (rows : RowsAreMonotone) where
       lengths = within_through n.lengths s.lengths j h.0.lengths w;
       each = λ r. kind_covers_through s.lengths j (kind_of n r) (kind_of s r) (kind_of s r) w (h.0.each r) (kind_covers_itself j (kind_of s r));
     },
-    record { count = h.1.count; kinds = h.1.kinds; lengths = record { least = omega (arith, h.1.lengths.least, w.low); ordered = o; most = omega (arith, h.1.lengths.most, w.high) } },
+    record {
+      count = h.1.count;
+      kinds = h.1.kinds;
+      lengths = record { least = omega (arith, h.1.lengths.least, w.low); ordered = o; most = omega (arith, h.1.lengths.most, w.high) };
+    },
   )
 
   -- ---- one register
@@ -487,7 +476,7 @@ module _ (rows : RowsAreMonotone) where
         let low = is_set s d h.1.count (subst IsNumeral e tt) in
         let was : KindCovers s.lengths (kind_of n d) (Number a) = subst (KindCovers s.lengths (kind_of n d)) (sym e) (h.0.each d) in
         let is = kind_covers_through s.lengths s.lengths (kind_of n d) (Number a) (Number p) (within_itself s.lengths) was i.within in
-        (covered_put n s d (Number p) (omega (arith, low, h.1.count)) h.0 is, full_put s d (Number p) low h.1 i.words)
+        put_less n s d (Number p) low h (is, i.words)
     narrow_stays d p Length e i = lengths_stay p (meet s.lengths p) refl
     narrow_stays d p k e i = absurd i
 
@@ -671,13 +660,11 @@ module _ (rows : RowsAreMonotone) where
 -- ---- the entry, and joins
 
 entry_full : (l : Interval) → AreLengths l → IsFullState (entry_state l)
-entry_full l h = record { count = refl; kinds = each_entry IsFullKind l tt tt length_full words_full tt; lengths = h }
+entry_full l h =
+    record { count = refl; kinds = each_entry IsFullKind l tt tt length_full (record { ordered = omega arith; words = omega arith }) tt; lengths = h }
   where
     length_full : IsFullKind (length_kind l)
     length_full = elim (cases_Bool (is_single l)) [ inl e ↦ rw e (length_words l h) | inr e ↦ rw e tt ]
-
-    words_full : IsFullKind (kind_of (entry_state l) 3)
-    words_full = record { ordered = omega arith; words = omega arith }
 
 joined_words : (a b : Interval) → IsInterval a → IsInterval b → IsInterval (join a b)
 joined_words a b h i = record { ordered = omega (arith, h.ordered, i.ordered); words = omega (arith, h.words, i.words) }
@@ -693,17 +680,15 @@ join_full l m j k x y h i = tt
 joined_full : (a b : StateKinds) → IsFullState a → IsFullState b → IsFullState (join_states a b)
 joined_full a b h i = record {
   count = joined_count a b (h.count ∙ sym i.count) ∙ h.count;
-  kinds = at;
-  lengths = record { least = omega (arith, h.lengths.least, i.lengths.least); ordered = omega (arith, h.lengths.ordered, i.lengths.ordered); most = omega (arith, h.lengths.most, i.lengths.most) };
+  kinds = each_joined IsFullKind a.lengths b.lengths tt
+      (λ j k. join_full a.lengths b.lengths j k (length_words a.lengths h.lengths) (length_words b.lengths i.lengths))
+      a.kinds b.kinds h.kinds i.kinds;
+  lengths = record {
+    least = omega (arith, h.lengths.least, i.lengths.least);
+    ordered = omega (arith, h.lengths.ordered, i.lengths.ordered);
+    most = omega (arith, h.lengths.most, i.lengths.most);
+  };
 }
-  where
-    at : (r : ℕ) → IsFullKind (kind_of (join_states a b) r)
-    at r = elim (cases_lt r 11) [
-      | inl l ↦
-          subst IsFullKind (sym (joined_kind a b r (omega (arith, l, h.count)) (omega (arith, l, i.count))))
-          (join_full a.lengths b.lengths _ _ (length_words a.lengths h.lengths) (length_words b.lengths i.lengths) (h.kinds r) (i.kinds r))
-      | inr g ↦ subst IsFullKind (sym (past (join_states a b) r (omega (arith, g, joined_count a b (h.count ∙ sym i.count), h.count)))) tt
-    ]
 
 joins_above : (n m a b : StateKinds) → IsAbove n a → IsAbove m b → IsAbove (join_states n m) (join_states a b)
 joins_above n m a b h k =

@@ -1,14 +1,13 @@
 -- Where records have one length, states that know no register as that length stay so.
-use Rattle.std.proofs.Common.{◌≡◌, ◌∙◌, ℕ, zero, suc, inl, inr, arith, sym, subst, ap, List, [], ◌∷◌, length, true, refl, get_or}
-use Rattle.std.proofs.lemmas.Bool.{cases_eq, cases_lt, cases_Bool, eq-eqb}
-use Rattle.std.proofs.lemmas.List.{get_or-set_same, get_or-set_other, get_or_past, set_past}
-use Rattle.std.specs.Prelude.{slice_set, min, max, ◌==◌}
+use Rattle.std.proofs.Common.{◌≡◌, ℕ, inl, inr, arith, subst, true, refl}
+use Rattle.std.proofs.lemmas.Bool.{cases_Bool, eq-eqb}
+use Rattle.std.specs.Prelude.{min, max, ◌==◌}
 use Rattle.bq_range.specs.Interval.{Interval, single, join}
-use Rattle.bq_state.specs.Kinds.{StateKinds, kind_of, with_kind, with_lengths, is_same, join_kinds, join_lists, join_states, entry_state}
+use Rattle.bq_state.specs.Kinds.{StateKinds, kind_of, with_kind, with_lengths, is_same, join_kinds, join_states, entry_state}
 use Rattle.bq_state.specs.Plain.{IsPlainKind, IsPlain, StaysPlain}
 use Rattle.bq_state.specs.declared.kind.Kind.{Kind}
-use Rattle.bq_state.specs.declared.kind.Kind.TheVariants.{Unset, Number, Pointer, Length}
-use Rattle.bq_state.proofs.Entering.{each_entry}
+use Rattle.bq_state.specs.declared.kind.Kind.TheVariants.{Number, Pointer, Length}
+use Rattle.bq_state.proofs.Each.{each_entry, kind_set, set_each, each_joined}
 use Rattle.bq_state.proofs.Keeps.{Comes, transfer_keeps, edges_keep}
 
 module _ (n : ℕ) where
@@ -17,20 +16,10 @@ module _ (n : ℕ) where
   comes_plain s k h (inr (r, is)) = subst IsPlainKind is (h.kinds r)
 
   puts : (s : StateKinds) (d : ℕ) (k : Kind) → IsPlain n s → Comes s k → IsPlain n (with_kind s d k)
-  puts s d k h c = record { lengths = h.lengths; kinds = at }
-    where
-      at : (r : ℕ) → IsPlainKind (kind_of (with_kind s d k) r)
-      at r = elim (cases_eq r d) [
-        | inl e ↦ elim (cases_lt r (length s.kinds)) [
-          | inl t ↦
-              let here : get_or (slice_set s.kinds d k) d Unset ≡ k = get_or-set_same s.kinds d k Unset (omega (arith, e, t)) in
-              subst IsPlainKind (sym (ap (kind_of (with_kind s d k)) e ∙ here)) (comes_plain s k h c)
-          | inr g ↦
-              let none : kind_of (with_kind s d k) r ≡ Unset = ap (λ x. get_or x r Unset) (set_past s.kinds d k (omega (arith, e, g))) ∙ get_or_past s.kinds r Unset g in
-              subst IsPlainKind (sym none) tt
-        ]
-        | inr ne ↦ subst IsPlainKind (sym (get_or-set_other s.kinds d r k Unset ne)) (h.kinds r)
-      ]
+  puts s d k h c = record {
+    lengths = h.lengths;
+    kinds = set_each (λ r. IsPlainKind) s d k (kind_set IsPlainKind s d k (comes_plain s k h c) tt) (λ r ne. h.kinds r);
+  }
 
   narrows : (s : StateKinds) (r : ℕ) (l : Interval) → IsPlain n s → kind_of s r ≡ Length → IsPlain n (with_lengths s l)
   narrows s r l h is = absurd (subst IsPlainKind is (h.kinds r))
@@ -42,17 +31,10 @@ module _ (n : ℕ) where
   join_plain l m a Length h i = absurd i
   join_plain l m a b h i = tt
 
-  lists_plain : (l m : Interval) (a b : List Kind) → ((r : ℕ) → IsPlainKind (get_or a r Unset)) → ((r : ℕ) → IsPlainKind (get_or b r Unset)) → (r : ℕ)
-      → IsPlainKind (get_or (join_lists l m a b) r Unset)
-  lists_plain l m [] b h i r = tt
-  lists_plain l m (x ∷ xs) [] h i r = tt
-  lists_plain l m (x ∷ xs) (y ∷ ys) h i zero = join_plain l m x y (h 0) (i 0)
-  lists_plain l m (x ∷ xs) (y ∷ ys) h i (suc r) = lists_plain l m xs ys (λ k. h (suc k)) (λ k. i (suc k)) r
-
   joins : (a b : StateKinds) → IsPlain n a → IsPlain n b → IsPlain n (join_states a b)
   joins a b h i = record {
     lengths = rw (h.lengths, i.lengths) one;
-    kinds = lists_plain a.lengths b.lengths a.kinds b.kinds h.kinds i.kinds;
+    kinds = each_joined IsPlainKind a.lengths b.lengths tt (join_plain a.lengths b.lengths) a.kinds b.kinds h.kinds i.kinds;
   }
     where
       one : join (single n) (single n) ≡ single n

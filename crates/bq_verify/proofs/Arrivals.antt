@@ -11,7 +11,7 @@ use Rattle.bq_state.specs.Kinds.{StateKinds, entry_state}
 use Rattle.bq_state.specs.Rules.{transfer}
 use Rattle.bq_state.specs.Edges.{edges}
 use Rattle.bq_sound.specs.Passes.{note_at}
-use Rattle.bq_sound.proofs.Among.{among_either}
+use Rattle.forms.proofs.Lists.{among_either}
 use Rattle.bq_verify.specs.States.{joined, edges_after, edges_from, leading_to, arriving, AreStates}
 use Rattle.bq_verify.specs.Table.{extended}
 use Rattle.bq_verify.proofs.Notes.{Notes, brought}

@@ -13,7 +13,7 @@ use Rattle.bq_state.specs.Rules.{transfer}
 use Rattle.bq_state.specs.Edges.{edges}
 use Rattle.bq_state.specs.Monotone.{StatesAreOrdered}
 use Rattle.bq_sound.specs.Passes.{note_at, NoteCovers, AllCovered, AllFitLengths, IsFine, Passes}
-use Rattle.bq_sound.proofs.Among.{among_left, among_right}
+use Rattle.forms.proofs.Lists.{among_left, among_right}
 use Rattle.bq_verify.specs.States.{joined, edges_from, leading_to, arriving, AreStates, NoRuleBroken}
 use Rattle.bq_verify.proofs.Notes.{Notes, brought}
 use Rattle.bq_verify.proofs.Forward.{edges_lead}

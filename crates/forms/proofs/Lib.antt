@@ -1,4 +1,6 @@
--- Lemmas on calls that may refuse, and on trees as maps.
+-- Lemmas on calls that may refuse, on what lists have, and on trees as maps.
 pub mod Calls
+pub mod Lists
+pub mod Appended
 pub mod Tests
 pub mod Maps

@@ -1,8 +1,8 @@
 -- A tree of numbered entries, seen as a finite map.
-use Rattle.std.proofs.Common.{◌≡◌, ℕ, cond, List, [], ◌∷◌, length, Option, Some, None, refl, sym, ap, subst, ◌∙◌, T, Ordering}
+use Rattle.std.proofs.Common.{◌≡◌, ℕ, ◌<◌, cond, List, [], ◌∷◌, length, Option, Some, None, refl, sym, ap, subst, ◌∙◌, T, Ordering}
 use Rattle.std.specs.declared.cmp.Ordering.TheVariants.{Less, Equal, Greater}
 use Rattle.std.specs.Ordering.{nat_cmp, is_lt, is_eq}
-use Rattle.std.specs.Cmp.{nat_cmp_total, eq_by_cmp_equiv}
+use Rattle.std.specs.Cmp.{nat_cmp_total, eq_by_cmp_equiv, ranked}
 use Rattle.std.specs.FinMap as fin
 use Rattle.std.specs.FinMap.Entries.{find, is_sorted, below_all}
 use Rattle.std.specs.List.{AllByRecursion}
@@ -15,6 +15,9 @@ less : (o : Ordering) → T (is_lt o) → o ≡ Less
 less Less p = refl
 less Equal p = absurd p
 less Greater p = absurd p
+
+pub less_from : (x y : ℕ) → T (is_lt (nat_cmp x y)) → x < y
+less_from x y h = ranked x y Less (sym (less (nat_cmp x y) h))
 
 module _ {X : Type 0} where
   below : (x : ℕ) (es : List (ℕ × X)) → AllByRecursion (λ y. nat_cmp x y ≡ Less) (keys_of es) → T (below_all nat_cmp x es)
@@ -38,10 +41,14 @@ module _ {X : Type 0} where
   missed x (e ∷ es) h = ap (λ r. cond (is_eq r) (Some e.1) (find nat_cmp x es)) (less (nat_cmp x e.0) (first _ _ h)) ∙ missed x es (second _ _ h)
 
   -- entries in order are the entries of their map
+  pub entries_sorted : (es : List (ℕ × X)) → T (is_sorted nat_cmp es) → fin.entries (fin.from_entries {R = nat_cmp} es) ≡ es
+  entries_sorted es h =
+      ap fin.entries (fin.same_map nat_cmp_total fin.nat_cmp-IsAntisymmetric _ _ (λ q.
+      fin.get-from_entries nat_cmp_total es q ∙ sym (fin.get-from_sorted nat_cmp es q h)))
+      ∙ fin.entries-from_sorted nat_cmp es h
+
   pub entries_found : (es : List (ℕ × X)) → IsStrictlySortedBy nat_cmp (keys_of es) → fin.entries (fin.from_entries {R = nat_cmp} es) ≡ es
-  entries_found es h =
-      ap fin.entries (fin.same_map nat_cmp_total fin.nat_cmp-IsAntisymmetric _ _ (λ q. fin.get-from_entries nat_cmp_total es q ∙ sym (fin.get-from_sorted nat_cmp es q (rises es h))))
-      ∙ fin.entries-from_sorted nat_cmp es (rises es h)
+  entries_found es h = entries_sorted es (rises es h)
 
   pub len_found : (es : List (ℕ × X)) → IsStrictlySortedBy nat_cmp (keys_of es) → fin.len (fin.from_entries {R = nat_cmp} es) ≡ length es
   len_found es h = fin.len-entries _ ∙ ap length (entries_found es h)

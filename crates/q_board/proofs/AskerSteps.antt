@@ -26,7 +26,6 @@ use Rattle.q_board.specs.declared.view.Asking.{Asking}
 use Rattle.q_board.specs.declared.view.Holder.{Holder}
 use Rattle.q_board.specs.declared.view.Holder.TheVariants.{Asker}
 use Rattle.q_board.proofs.Moves.{Allowed, board, at_lt, there, at_get, others, moves}
-use Rattle.q_desk.proofs.Accepted.{same_some}
 
 module _ {A : Type 0} (g : A → ℕ) where
   pub total-append : (l m : List A) → total g (l ++ m) ≡ total g l + total g m
@@ -102,8 +101,7 @@ module _ (lanes : ℕ) (s : State Content Holder) (o : Orderly lanes s) (id : �
   pub asker_moves : (n : ℕ) (hs : List (opt.Option Content)) → k < 8 → get_elem? o.phases at ≡ some p → get_elem? s.views id ≡ some (Asker a)
       → code q ≡ n → hs ≡ map shelf (set o.phases at q)
       → length row ≡ 8 → Balanced now → FitsSlot now k q → ((j : ℕ) (x : Phase) → j < 8 → j ≢ k → FitsSlot a j x → FitsSlot now j x)
-      → Unseen p q
-      → Orderly lanes (board (set s.words at n) hs (set s.views id (Asker now)))
+      → Unseen p q → Orderly lanes (board (set s.words at n) hs (set s.views id (Asker now)))
   asker_moves n hs h is me coded home wide even here else unseen =
       let f = o.fits id (Asker a) me in
       let sits = o.placed id (Asker a) me in
@@ -165,9 +163,7 @@ module _ (lanes id : ℕ) (a : Asking) (k : ℕ) (near : k < 8) where
         keeps,
         tt,
         asker_moves lanes s o id a k p p a.offered a.received a.row (looking a spot w).looks a.opened (looking a spot w).shown w s.homes near t.1 me (sym word)
-            (home_same lanes s o spot p p t.1 refl)
-            f.1
-            f.2
+            (home_same lanes s o spot p p t.1 refl) f.1 f.2
             (slot.0, slot.1, slot.2, (λ e. finished_code p (sym word ∙ (looks_at w spot e).0)))
             (λ i x h else fits. (fits.0, fits.1, fits.2, (λ e. let z = (looks_at w (8 * a.number + i) e).1 in absurd (else (omega arith)))))
             ((λ r. refl), (λ r y e. e), (λ d e. e)),
@@ -217,10 +213,7 @@ module _ (lanes id : ℕ) (a : Asking) (k : ℕ) (near : k < 8) where
         takes spot cell.Vacant,
         home_is lanes s o spot fresh empty is,
         asker_moves lanes s o id a k fresh empty a.offered a.received a.row a.looks (a.opened + 1) a.shown w _ near is me
-            (sym word)
-            (home_set lanes s o spot fresh empty is none refl)
-            f.1
-            f.2
+            (sym word) (home_set lanes s o spot fresh empty is none refl) f.1 f.2
             (no_job, (λ _ e. cc), (λ le. absurd (omega arith)), (λ e. let z = slot.3 e in let d = z.0 in let z' = z.1 in cc))
             (λ i x h else fits. (fits.0, (λ le. fits.1 (omega arith)), (λ le. fits.2 (omega arith)), fits.3))
             ((λ r. refl), (λ r y e. cc), (λ d e. cc)),

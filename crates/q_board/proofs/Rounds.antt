@@ -24,15 +24,26 @@ not_counted found.Finished n = refl
 not_counted (found.Claimed r) n = refl
 
 pub starts : (r : RunnerModel) → Served r 0 0 r
-starts r = record { looks = []; done = []; looked = sym (append-nil r.looks); in_turn = refl; won = refl; finished = sym (append-nil r.finished); as_many = refl; held = refl; next = refl; board = refl; lanes = refl; number = refl }
+starts r = record {
+  looks = [];
+  done = [];
+  looked = sym (append-nil r.looks);
+  in_turn = refl;
+  won = refl;
+  finished = sym (append-nil r.finished);
+  as_many = refl;
+  held = refl;
+  next = refl;
+  board = refl;
+  lanes = refl;
+  number = refl;
+}
 
 module _ {old r₀ r₁ : RunnerModel} {n k i : ℕ} (s : Served old n k r₀) (turned : r₁ ≡ record r₀ { next = (r₀.next + 1) % r₀.lanes }) (here : i ≡ r₀.next) where
   -- one look more, and the jobs that were finished by it
   look_more : (q : RunnerModel) (f : Found) (done : List Finished) (m : ℕ)
       → q ≡ record r₁ { looks = r₁.looks ++ look i f ∷ []; finished = r₁.finished ++ done }
-      → is_ready f ≡ length done
-      → m ≡ k + length done
-      → Served old (n + 1) m q
+      → is_ready f ≡ length done → m ≡ k + length done → Served old (n + 1) m q
   look_more q f done m is ready more =
       let now = is ∙ ap (λ (x : RunnerModel). let y : RunnerModel = record x { looks = x.looks ++ look i f ∷ []; finished = x.finished ++ done } in y) turned in
       subst (λ (x : ℕ). Served old x m q) (sym (add-one n)) (record {

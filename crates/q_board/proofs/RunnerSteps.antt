@@ -26,7 +26,6 @@ use Rattle.q_board.specs.declared.view.Holder.{Holder}
 use Rattle.q_board.specs.declared.view.Holder.TheVariants.{Runner}
 use Rattle.q_board.proofs.Moves.{Allowed, board, at_lt, there, Alike, others, moves}
 use Rattle.q_board.proofs.AskerSteps.{word_is, home_is, home_set, home_same}
-use Rattle.q_desk.proofs.Accepted.{same_some}
 
 pub held_yes : (n : ℕ) (j : Job) → held_by n (claimed n j) ≡ Some j
 held_yes n j = ap (λ b. cond b (Some j) None) (eq-eqb n n refl)
@@ -62,13 +61,10 @@ module _ (lanes : ℕ) (s : State Content Holder) (o : Orderly lanes s) (id : �
   now = record { number = r.number; held = held; finished = done; looks = looks }
 
   pub runner_moves : (n : ℕ) (hs : List (opt.Option Content)) → get_elem? o.phases i ≡ some p → get_elem? s.views id ≡ some (Runner r)
-      → code q ≡ n → hs ≡ map shelf (set o.phases i q)
-      → Alike p q → ((k : ℕ) → k ≢ r.number → held_by k q ≡ held_by k p)
+      → code q ≡ n → hs ≡ map shelf (set o.phases i q) → Alike p q → ((k : ℕ) → k ≢ r.number → held_by k q ≡ held_by k p)
       → get_elem? held i ≡ some (held_by r.number q) → ((k : ℕ) → k ≢ i → get_elem? held k ≡ get_elem? r.held k)
-      → ((d : Finished) → Contains r.finished d → Contains done d)
-      → ((k : ℕ) (j : Job) → q ≡ claimed k j → (p ≡ claimed k j) ⊎ (k ≡ r.number))
-      → ((d : Finished) → q ≡ finished d → (p ≡ finished d) ⊎ Contains done d)
-      → Orderly lanes (board (set s.words i n) hs (set s.views id (Runner now)))
+      → ((d : Finished) → Contains r.finished d → Contains done d) → ((k : ℕ) (j : Job) → q ≡ claimed k j → (p ≡ claimed k j) ⊎ (k ≡ r.number))
+      → ((d : Finished) → q ≡ finished d → (p ≡ finished d) ⊎ Contains done d) → Orderly lanes (board (set s.words i n) hs (set s.views id (Runner now)))
   runner_moves n hs is me coded home same apart here else grows claims ends =
       let f = o.fits id (Runner r) me in
       let sits = o.placed id (Runner r) me in
@@ -104,10 +100,7 @@ module _ (lanes id : ℕ) (r : Running) (i : ℕ) (near : i < lanes) where
             (refl, (λ e. cc), (λ e. cc), (λ e. let e' = e.1 in cc))
             (λ k ne. held_no k r.number j (λ z. ne (sym z)))
             (set_here r.held i (Some j) (at_lt r.held i None (f i (ready j) is)) ∙ ap (λ (y : Option Job). some y) (sym (held_yes r.number j)))
-            (λ k ne. set_else r.held i k (Some j) ne)
-            (λ d c. c)
-            (λ k x e. inr (let y : r.number ≡ k = cc in sym y))
-            (λ d e. cc),
+            (λ k ne. set_else r.held i k (Some j) ne) (λ d c. c) (λ k x e. inr (let y : r.number ≡ k = cc in sym y)) (λ d e. cc),
         ((λ _. (j, f i (ready j) is, refl)), (λ ne. absurd (ne hit))),
       ))
       (λ miss. (
@@ -118,12 +111,7 @@ module _ (lanes id : ℕ) (r : Running) (i : ℕ) (near : i < lanes) where
             (sym word ∙ ap (λ b. either b (3 + r.number) w) (sym (ne_eqb w 1 miss)))
             (home_same lanes s o i p p t.1 refl)
             (refl, (λ e. e), (λ e. e), (λ e. e))
-            (λ k ne. refl)
-            (f i p t.1)
-            (λ k ne. refl)
-            (λ d c. c)
-            (λ k x e. inl e)
-            (λ d e. inl e),
+            (λ k ne. refl) (f i p t.1) (λ k ne. refl) (λ d c. c) (λ k x e. inl e) (λ d e. inl e),
         ((λ hit. absurd (miss hit)), (λ _. refl)),
       ))
 
@@ -140,9 +128,7 @@ module _ (lanes id : ℕ) (r : Running) (i : ℕ) (near : i < lanes) where
             (refl, (λ e. cc), (λ e. cc), (λ e. (d, refl)))
             (λ k ne. sym (held_no k r.number d.job (λ z. ne (sym z))))
             (set_here r.held i None (at_lt r.held i (Some d.job) mine))
-            (λ k ne. set_else r.held i k None ne)
-            (λ e. Contains-append_left r.finished (d ∷ []) e)
-            (λ k x e. cc)
+            (λ k ne. set_else r.held i k None ne) (λ e. Contains-append_left r.finished (d ∷ []) e) (λ k x e. cc)
             (λ e eq. let y : d ≡ e = cc in inr (subst (Contains (r.finished ++ d ∷ [])) y (Contains-push r.finished d))),
         refl,
       )
@@ -160,9 +146,6 @@ module _ (lanes id : ℕ) (r : Running) (i : ℕ) (near : i < lanes) where
             (refl, (λ e. cc), (λ e. cc), (λ e. let z = e.1 in cc))
             (λ k ne. sym (held_no k r.number j (λ z. ne (sym z))))
             (set_here r.held i None (at_lt r.held i (Some j) mine))
-            (λ k ne. set_else r.held i k None ne)
-            (λ d e. e)
-            (λ k x e. cc)
-            (λ d e. cc),
+            (λ k ne. set_else r.held i k None ne) (λ d e. e) (λ k x e. cc) (λ d e. cc),
         refl,
       )

@@ -76,7 +76,22 @@ hands_more b m c (i ∷ js) j h e = (h.0, h.1, hands_more h.0 m c js j h.2 e)
 -- ---- results in
 
 pub begins_receiving : (a : AskerModel) (b : BookState) → Receiving a b 0 0 a b
-begins_receiving a b = record { looks = []; results = []; accepted = []; looked = sym (append-nil a.looks); received = sym (append-nil a.received); offered = refl; slots = refl; behind = λ i h. refl; shown = refl; posts = (refl, refl); journal = sym (append-nil b.desk.journal); balance = omega arith; count = refl; same = (refl, refl) }
+begins_receiving a b = record {
+  looks = [];
+  results = [];
+  accepted = [];
+  looked = sym (append-nil a.looks);
+  received = sym (append-nil a.received);
+  offered = refl;
+  slots = refl;
+  behind = λ i h. refl;
+  shown = refl;
+  posts = (refl, refl);
+  journal = sym (append-nil b.desk.journal);
+  balance = omega arith;
+  count = refl;
+  same = (refl, refl);
+}
 
 pub from_bool_small : (is : Bool) → from_bool is ≤ 1
 from_bool_small true = omega arith
@@ -91,12 +106,8 @@ module _ (a a₁ a₂ : AskerModel) (b b₁ b₂ : BookState) (k n : ℕ) (is : 
   with_place : (looks : List Look) (results accepted : List Finished) (row : List (Option Job))
       → a₂ ≡ record a₁ { looks = a₁.looks ++ looks; received = a₁.received ++ results; row = row }
       → open_slots (8 * a.number) (take (suc k) a.row) ≡ open_slots (8 * a.number) (take k a.row) ++ slots_of looks
-      → ((i : ℕ) → suc k ≤ i → get_elem? row i ≡ get_elem? a₁.row i)
-      → showing is_finished looks ≡ length results
-      → Posts b₁ results accepted b₂
-      → b₂.desk.journal ≡ b₁.desk.journal ++ map post_of accepted
-      → jobs a₂.row + length results ≡ jobs a₁.row
-      → length accepted ≡ from_bool is
+      → ((i : ℕ) → suc k ≤ i → get_elem? row i ≡ get_elem? a₁.row i) → showing is_finished looks ≡ length results → Posts b₁ results accepted b₂
+      → b₂.desk.journal ≡ b₁.desk.journal ++ map post_of accepted → jobs a₂.row + length results ≡ jobs a₁.row → length accepted ≡ from_bool is
       → Receiving a b (suc k) (n + from_bool is) a₂ b₂
   with_place looks results accepted row now slots behind shown posts journal balance count = record {
     looks = r.looks ++ looks;
@@ -118,13 +129,9 @@ module _ (a a₁ a₂ : AskerModel) (b b₁ b₂ : BookState) (k n : ℕ) (is : 
   }
 
   -- nothing was received there
-  with_looks : (looks : List Look)
-      → a₂ ≡ record a₁ { looks = a₁.looks ++ looks }
+  with_looks : (looks : List Look) → a₂ ≡ record a₁ { looks = a₁.looks ++ looks }
       → open_slots (8 * a.number) (take (suc k) a.row) ≡ open_slots (8 * a.number) (take k a.row) ++ slots_of looks
-      → showing is_finished looks ≡ 0
-      → b₂ ≡ b₁
-      → is ≡ false
-      → Receiving a b (suc k) (n + from_bool is) a₂ b₂
+      → showing is_finished looks ≡ 0 → b₂ ≡ b₁ → is ≡ false → Receiving a b (suc k) (n + from_bool is) a₂ b₂
   with_looks looks now slots none same refused =
       with_place looks [] [] a₁.row (now ∙ (λ i. record a₁ { looks = a₁.looks ++ looks; received = sym (append-nil a₁.received) i }))
       slots (λ i h. refl) none (refl, same) (ap (λ (x : BookState). x.desk.journal) same ∙ sym (append-nil b₁.desk.journal))
@@ -160,7 +167,17 @@ module _ (a a₁ a₂ : AskerModel) (b b₁ b₂ : BookState) (k n : ℕ) (is : 
 -- ---- jobs out
 
 abbrev pub begins_offering : (a : AskerModel) (b : BookState) → Offering a b 0 a b
-begins_offering a b = record { handed = []; offered = sym (append-nil a.offered); looked = refl; received = refl; hands = refl; journal = sym (append-nil b.desk.journal); balance = omega arith; count = refl; same = (refl, refl) }
+begins_offering a b = record {
+  handed = [];
+  offered = sym (append-nil a.offered);
+  looked = refl;
+  received = refl;
+  hands = refl;
+  journal = sym (append-nil b.desk.journal);
+  balance = omega arith;
+  count = refl;
+  same = (refl, refl);
+}
 
 pub offers_one : (a a₁ a₂ : AskerModel) (b b₁ b₂ : BookState) (n : ℕ) → Offering a b n a₁ b₁ → HandOutsAreNoted → OffersNext a₁ b₁ true a₂ b₂
     → Offering a b (suc n) a₂ b₂

@@ -254,10 +254,6 @@ module _ (b : BookState) where
   follows-accepted (entry.Post query ran) c f =
       subst (λ (k : ℕ). IsAccepted b (entry.Post k ran) Idles (idle (Some (f.0, ran))) c) f.1 (posted-accepted f.0 ran c f.3)
 
-  -- by its name in the crates above
-  pub follows-next : (e : Entry) (c : BookState) (f : Follows b e c) → IsAccepted b e (deed b e c f) (told b e c f) c
-  follows-next e c f = follows-accepted e c f
-
   -- ---- one book at most
 
   same_next : {A : Type 0} (r : Result (A × BookState) Reason) (x y : A) (c d : BookState) → r ≡ Ok (x, c) → r ≡ Ok (y, d) → c ≡ d

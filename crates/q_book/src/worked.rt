@@ -27,6 +27,7 @@ ghost use Rattle.q_desk.specs.declared.journal.Entry.TheVariants as entry;
 ghost use Rattle.q_book.specs.Books.{record_lengths, registered, asked, stored, delivers, delivered, left, handed_out, posted, room_for_post};
 ghost use Rattle.q_book.specs.Called.{called};
 ghost use Rattle.reasons.specs.declared.Reason.TheVariants.{OutOfMemory as memory};
+ghost use Rattle.q_book.specs.Replays.{IsBookOf, IsOther};
 ghost use Rattle.q_book.specs.Sample.{there, node_there};
 ghost use Rattle.q_book.specs.State.{BookState};
 ghost use Rattle.q_book.specs.declared.answer.Asked.{Asked};
@@ -65,6 +66,10 @@ pub fn worked()
     // The view of a collect that ended goes to its query, and it is told that the query has it.
     ensures returned { (b : BookState) (n : NodeState) (v : ViewMap) (l : Interval) → (delivers b (record (new_desk l) { queries = query 9 Collecting ∷ [] }) (record { outs = []; progress = None; ended = Some (record { tag = 9; what = op_result.Returned v }) }) n).1.desk ≡ record (new_desk l) { queries = query 9 (Ready v) ∷ [] } }
     ensures told { (b : BookState) (n : NodeState) (v : ViewMap) (l : Interval) → (delivers b (record (new_desk l) { queries = query 9 Collecting ∷ [] }) (record { outs = []; progress = None; ended = Some (record { tag = 9; what = op_result.Returned v }) }) n).0.completed ≡ Some (completed.Returned 0) }
+
+    // A book is of one node, and not of another then.
+    ensures of_one_node { (b : BookState) → IsBookOf 1 b → IsBookOf 2 b → ⊥ }
+    ensures not_another { (b : BookState) → IsBookOf 1 b → IsOther 1 b → ⊥ }
 
     // An operation is open under its own tag.
     ensures open { (s : Session) → is_some (fin.get (fin.insert {R = nat_cmp} fin.empty 5 s) 5) ≡ true }

@@ -26,7 +26,7 @@ use Rattle.q_history.specs.Headline.{BookMap, ClusterState}
 use Rattle.q_history.specs.World.{nodes_of, world}
 use Rattle.q_history.specs.Clusters.{Said, put, lift, by_book, at, delivered_as, stepped}
 use Rattle.q_history.specs.Calls.{Takes, IsHistory}
-use Rattle.q_history.proofs.Lists.{same_some}
+use Rattle.q_history.proofs.Lists.{same_Some}
 use Rattle.q_history.proofs.Ops.{insert_same}
 use Rattle.q_history.proofs.World.{node_of, get-nodes, at_live}
 use Rattle.q_history.proofs.Histories.{history_kept}
@@ -48,7 +48,7 @@ module _ {c x : ClusterState} {id : ℕ} (same : c ≡ x) (there : IsThere x id)
 
   -- what an event makes of it is said of its book
   pub turns_to : {b : BookState} → Some b ≡ fin.get c.books id → (f : Doing) → at c id f ≡ f b
-  turns_to {b} has f = ap (λ (o : Option BookState). by_book o f) t.live ∙ ap f (same_some t.book b (sym there_is ∙ sym has))
+  turns_to {b} has f = ap (λ (o : Option BookState). by_book o f) t.live ∙ ap f (same_Some t.book b (sym there_is ∙ sym has))
 
 -- An event of the book b of a node, in a cluster c that comes of events. Contracts see c as x, in which the node is there.
 pub record IsEvent {A : Type 0} (k : BookEvent A) (c x : ClusterState) (id : ℕ) (b : BookState) : Type 0 where

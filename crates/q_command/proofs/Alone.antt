@@ -11,7 +11,7 @@ use Rattle.q_desk.specs.declared.journal.Entry.{Entry}
 use Rattle.q_book.specs.Books.{new_book}
 use Rattle.q_book.specs.Replays.{IsReplay, Replays}
 use Rattle.q_book.specs.State.{BookState}
-use Rattle.q_history.proofs.Lists.{same_some}
+use Rattle.q_history.proofs.Lists.{same_Some}
 use Rattle.q_history.specs.Heads.{founders_for}
 use Rattle.q_gather.specs.Gather.{Agree, AreRefused, Merge}
 use Rattle.q_gather.specs.Gathered.{AgreeOn, AreDistinct}
@@ -27,7 +27,7 @@ at_first : {X : Type 0} (x y : X) (k : ℕ) → slice_get (x ∷ []) k ≡ Some 
 at_first x y k at = let less : k < 1 = slice_get_within (x ∷ []) k y at in omega (arith, less)
 
 is_first : {X : Type 0} (x y : X) (k : ℕ) → slice_get (x ∷ []) k ≡ Some y → x ≡ y
-is_first x y k at = same_some x y (sym (ap (slice_get (x ∷ [])) (at_first x y k at)) ∙ at)
+is_first x y k at = same_Some x y (sym (ap (slice_get (x ∷ [])) (at_first x y k at)) ∙ at)
 
 distinct : (b : BookState) → AreDistinct (b ∷ [])
 distinct b i k x y at there same = at_first b x i at ∙ sym (at_first b y k there)

@@ -13,7 +13,7 @@ use Rattle.q_book.specs.State.{BookState}
 use Rattle.q_replay.specs.Head.{Head}
 use Rattle.q_replay.specs.Spelling.{head_bytes, event_bytes, IsHead, IsWritten}
 use Rattle.q_replay.specs.declared.raw_entry.RawEntry.{RawEntry}
-use Rattle.q_replay.specs.Journal.{written_of, head_of, entries_bytes, journal_of, IsEntry, IsJournalled}
+use Rattle.q_replay.specs.Journal.{written_of, head_of, entries_bytes, journal_of, IsJournalled}
 use Rattle.q_replay.specs.Replayed.{Leads}
 use Rattle.q_replay.proofs.Leading.{all_written, map_many}
 use Rattle.q_command.specs.Beginning.{IsAfter}

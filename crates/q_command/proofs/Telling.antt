@@ -1,8 +1,6 @@
 -- That what is told of a history is true.
-use Rattle.std.proofs.Common.{◌≡◌, ℕ, Bool, cond, List, [], ◌++◌, codes, Option, Some, ap, ◌∙◌, subst, append_assoc}
+use Rattle.std.proofs.Common.{◌≡◌, ℕ, Bool, cond, List, [], ◌++◌, codes, ap, ◌∙◌, subst, append_assoc}
 use Rattle.sc_operations.specs.Sessions.{kind_of, stored}
-use Rattle.sc_operations.specs.declared.session.OperationKind.TheVariants as kind
-use Rattle.sc_view.specs.Views.{ViewMap}
 use Rattle.sc_world.specs.declared.op.Op.{Op}
 use Rattle.sc_world.proofs.EveryHistory.{lawful_regular}
 use Rattle.q_book.specs.State.{BookState}

@@ -2,6 +2,7 @@
 use Rattle.std.proofs.Common.{◌≡◌, ℕ, zero, suc, ◌==◌, Bool, true, List, [], ◌∷◌, Option, Some, None, refl, sym, ap, ◌∙◌, subst, Ok}
 use Rattle.std.proofs.lemmas.List.Quantifiers.{position-Some}
 use Rattle.std.proofs.lemmas.Option.{get_or_from_slice_get}
+pub use Rattle.std.proofs.lemmas.Option.{none-some, same_Some}
 use Rattle.std.specs.Prelude.{◌&&◌, slice_get, slice_set, position}
 use Rattle.std.specs.Cmp.{first_so, second_so, unsigned_Decides}
 pub use Rattle.forms.proofs.Calls.{same_answer, no_refusal, passed, tested-ok}
@@ -25,12 +26,6 @@ use Rattle.q_desk.specs.declared.journal.Entry.TheVariants as entry
 use Rattle.reasons.specs.declared.Reason.TheVariants as reasons
 
 -- ---- answers that were accepted, and reads of lists
-
-pub same_some : {X : Type 0} (x y : X) → Some x ≡ Some y → x ≡ y
-same_some x y h = cc
-
-pub no_some : {X : Type 0} (x : X) → None ≡ Some x → ⊥
-no_some x h = absurd (cc)
 
 pub get_elsewhere : {X : Type 0} (xs : List X) (i : ℕ) (y : X) (k : ℕ) (x : X) → (k ≡ i → ⊥) → slice_get xs k ≡ Some x
     → slice_get (slice_set xs i y) k ≡ Some x
@@ -106,19 +101,19 @@ module _ (d : DeskState) (node : ℕ) where
   job_on-some : (k : ℕ) (q : Query) (p : Phase) (c : Option Certificate) (j : Job) → slice_get d.queries k ≡ Some q → q.phase ≡ p
       → slice_get d.programs q.program ≡ c → desk.job_on node k q (desk.ready_view p) c ≡ Some j → IsReadyJob d node j
   job_on-some k q (Ready view) (Some c) j at is named h =
-      subst (IsReadyJob d node) (same_some _ j h)
+      subst (IsReadyJob d node) (same_Some _ j h)
       (record { query = q; at = at; phase = is; by = refl; program = refl; start = refl; certified = named })
-  job_on-some k q (Ready view) None j at is named h = absurd (no_some j h)
-  job_on-some k q Collecting c j at is named h = absurd (no_some j h)
-  job_on-some k q (Running view) c j at is named h = absurd (no_some j h)
-  job_on-some k q (Answered view ran) c j at is named h = absurd (no_some j h)
+  job_on-some k q (Ready view) None j at is named h = absurd (none-some j h)
+  job_on-some k q Collecting c j at is named h = absurd (none-some j h)
+  job_on-some k q (Running view) c j at is named h = absurd (none-some j h)
+  job_on-some k q (Answered view ran) c j at is named h = absurd (none-some j h)
 
   job_at-some : (k : ℕ) (o : Option Query) (j : Job) → slice_get d.queries k ≡ o → desk.job_at desk.ready_view d node k o ≡ Some j → IsReadyJob d node j
-  job_at-some k None j at h = absurd (no_some j h)
+  job_at-some k None j at h = absurd (none-some j h)
   job_at-some k (Some q) j at h = job_on-some k q q.phase (slice_get d.programs q.program) j at refl refl h
 
   job_from-some : (o : Option ℕ) (j : Job) → desk.job_from d node o ≡ Some j → IsReadyJob d node j
-  job_from-some None j h = absurd (no_some j h)
+  job_from-some None j h = absurd (none-some j h)
   job_from-some (Some k) j h = job_at-some k (slice_get d.queries k) j refl h
 
   pub next_job-some : (j : Job) → desk.next_job d node ≡ Some j → IsReadyJob d node j
@@ -173,6 +168,6 @@ same_running v w h = cc
 -- what was recorded is seen by the query's number alone
 pub posted_one : (d : DeskState) (i j : Job) (ran : Ran) (e f : DeskState) → i.query ≡ j.query → IsPosted d i ran e → IsPosted d j ran f → e ≡ f
 posted_one d i j ran e f same p q =
-    let query : p.query ≡ q.query = same_some p.query q.query (sym p.at ∙ ap (slice_get d.queries) same ∙ q.at) in
+    let query : p.query ≡ q.query = same_Some p.query q.query (sym p.at ∙ ap (slice_get d.queries) same ∙ q.at) in
     let view : p.view ≡ q.view = same_running p.view q.view (sym p.phase ∙ ap (λ (x : Query). x.phase) query ∙ q.phase) in
     sym p.is ∙ ap (λ (k : ℕ). answered d k p.view ran) same ∙ ap (λ (v : ViewMap). answered d j.query v ran) view ∙ q.is

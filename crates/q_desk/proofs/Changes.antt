@@ -3,6 +3,7 @@ use Rattle.std.proofs.Common.{◌≡◌, ℕ, ◌==◌, true, nat_lt, List, [], 
 use Rattle.std.proofs.lemmas.Bool.{eqb-true}
 use Rattle.std.specs.Prelude.{slice_get, slice_set, position}
 use Rattle.std.specs.Cmp.{first_so, second_so}
+use Rattle.forms.proofs.Appended.{slice_get_front}
 use Rattle.forms.proofs.Calls.{same_answer, passed, tested-ok}
 use Rattle.sc_view.specs.Views.{ViewMap}
 use Rattle.sc_msg.specs.declared.message.Message.{Message}
@@ -25,8 +26,8 @@ use Rattle.q_desk.specs.Desks as desk
 use Rattle.q_desk.specs.declared.journal.Entry.{Entry}
 use Rattle.q_desk.specs.declared.journal.Call.TheVariants as call
 use Rattle.q_desk.specs.declared.journal.Entry.TheVariants as entry
-use Rattle.q_desk.proofs.Accepted.{HasNone, Keeps, same_some, no_some, get_elsewhere, found, registered-ok, IsReadyJob, next_job-some, posted-ok}
-use Rattle.q_desk.proofs.Lists.{get-front, get-snoc, get-written}
+use Rattle.q_desk.proofs.Accepted.{HasNone, Keeps, same_Some, none-some, get_elsewhere, found, registered-ok, IsReadyJob, next_job-some, posted-ok}
+use Rattle.q_desk.proofs.Lists.{get-snoc, get-written}
 use Rattle.q_desk.proofs.Running.{collecting_is}
 
 -- ---- what is told of a call
@@ -108,7 +109,7 @@ module _ (d : DeskState) (node : ℕ) (t : Told) where
   has_none k q p o at (readied v r to none) view ran is = let no : Collecting ≡ Answered view ran = sym r.phase ∙ is in absurd (cc)
   has_none k q p o at (recorded j v x told runs fits to none) view ran is = let no : Running v ≡ Answered view ran = sym runs ∙ is in absurd (cc)
   has_none k q p o at (handed j r of to some) view ran is =
-      let one : r.query ≡ q = same_some r.query q (sym r.at ∙ ap (slice_get d.queries) of ∙ at) in
+      let one : r.query ≡ q = same_Some r.query q (sym r.at ∙ ap (slice_get d.queries) of ∙ at) in
       let no : Ready j.view ≡ Answered view ran = sym r.phase ∙ ap (λ (x : Query). x.phase) one ∙ is in
       absurd (cc)
 
@@ -120,14 +121,14 @@ module _ (d : DeskState) (node : ℕ) (t : Told) where
   change_keeps e None lengths (begins new b programs queries) = record {
     lengths = lengths;
     programs = still programs;
-    answers = λ k q view ran h is. still queries k q (get-front d.queries (new ∷ []) k q h);
+    answers = λ k q view ran h is. still queries k q (slice_get_front d.queries (new ∷ []) k q h);
   }
   change_keeps e o lengths (rephased k q p at goes programs queries) = record {
     lengths = lengths;
     programs = still programs;
     answers = λ i x view ran h is.
         still queries i x (get_elsewhere d.queries k (record q { phase = p }) i x
-        (λ here. has_none k q p o at goes view ran (ap (λ (y : Query). y.phase) (same_some q x (sym at ∙ ap (slice_get d.queries) (sym here) ∙ h)) ∙ is)) h);
+        (λ here. has_none k q p o at goes view ran (ap (λ (y : Query). y.phase) (same_Some q x (sym at ∙ ap (slice_get d.queries) (sym here) ∙ h)) ∙ is)) h);
   }
 
   pub after_keeps : (m : Entry) (e : DeskState) (o : Option Job) → IsAfter d node t m e o → Keeps d e
@@ -157,9 +158,9 @@ module _ (d : DeskState) (node : ℕ) (t : Told) (e : DeskState) where
       ]
 
   goes_job : (k : ℕ) (q : Query) (p : Phase) (j : Job) → GoesOver d node k q p t (Some j) → IsReadyJob d node j
-  goes_job k q p j (readied view r to none) = absurd (no_some j (sym none))
-  goes_job k q p j (handed i r of to some) = subst (IsReadyJob d node) (same_some i j (sym some)) r
-  goes_job k q p j (recorded i view ran told runs fits to none) = absurd (no_some j (sym none))
+  goes_job k q p j (readied view r to none) = absurd (none-some j (sym none))
+  goes_job k q p j (handed i r of to some) = subst (IsReadyJob d node) (same_Some i j (sym some)) r
+  goes_job k q p j (recorded i view ran told runs fits to none) = absurd (none-some j (sym none))
 
   -- a job that is handed out is that of a ready query
   pub change_job : (j : Job) → Change d node t e (Some j) → IsReadyJob d node j
@@ -177,7 +178,7 @@ module _ (d : DeskState) (node : ℕ) where
   more_programs c (Some id) r h i p at = subst (λ (z : ℕ × List Certificate). slice_get z.1 i ≡ Some p) (same_answer _ r h) at
   more_programs c None r h i p at =
       let k = passed (nat_lt (length d.programs) table.most_programs) reasons.TableFull _ r h in
-      subst (λ (z : ℕ × List Certificate). slice_get z.1 i ≡ Some p) (same_answer _ r k.1) (get-front d.programs (c ∷ []) i p at)
+      subst (λ (z : ℕ × List Certificate). slice_get z.1 i ≡ Some p) (same_answer _ r k.1) (slice_get_front d.programs (c ∷ []) i p at)
 
   pub registered_after : (program : Certificate) (y : ℕ × DeskState) → desk.registered d program ≡ Ok y
       → IsAfter d node (idle None) (entry.Call (call.Register program)) y.1 None

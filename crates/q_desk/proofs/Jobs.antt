@@ -24,7 +24,7 @@ use Rattle.q_session.specs.Records.{HasRecordsWithin}
 use Rattle.q_desk.specs.Answers.{IsAnswered}
 use Rattle.q_desk.specs.Keeping.{IsDesk, MayAllRun}
 use Rattle.q_desk.proofs.Running.{run-handed, run-answered, run-some}
-use Rattle.q_desk.proofs.Accepted.{IsReadyJob, next_job-some, same_some}
+use Rattle.q_desk.proofs.Accepted.{IsReadyJob, next_job-some, same_Some}
 use Rattle.q_desk.proofs.Keeps.{IsAppended, PhaseFits, desk-appended, desk-running, desk-with_phase}
 
 -- programs may run over views that have records of the lengths for which they were checked
@@ -91,7 +91,7 @@ module _ {s : DeskState} {node : ℕ} {j : Job} {ran : Ran} {queries : List Quer
   pub desk-posted : IsDesk s → IsDesk (record s { queries = queries; journal = journal })
   desk-posted d =
       let kept = desk-with_phase s j.query (Answered p.runs.view ran) d tt (λ q here view r e.
-      let same : p.runs.query ≡ q = same_some p.runs.query q (sym p.runs.at ∙ here) in
+      let same : p.runs.query ≡ q = same_Some p.runs.query q (sym p.runs.at ∙ here) in
       let view-same : p.runs.view ≡ view = cc in
       let ran-same : ran ≡ r = cc in
       rw (← same, ← view-same, ← ran-same) answers) in

@@ -2,6 +2,7 @@
 use Rattle.std.proofs.Common.{◌≡◌, ◌<◌, ◌≤◌, ℕ, List, [], ◌∷◌, ◌++◌, length, Option, Some, None, Ok, refl, sym, ap, subst, ◌∙◌, arith}
 use Rattle.std.proofs.lemmas.List.{length-append, length-set, length_push}
 use Rattle.std.specs.Prelude.{slice_get, slice_set, nat_lt, IfSome}
+use Rattle.forms.proofs.Appended.{slice_get_front}
 use Rattle.bq_range.specs.Interval.{Interval}
 use Rattle.sc_view.specs.Views.{ViewMap}
 use Rattle.bq_check.specs.Certificate.{Certificate}
@@ -19,7 +20,7 @@ use Rattle.q_desk.specs.declared.journal.Entry.{Entry}
 use Rattle.q_desk.specs.Answers.{IsAnswered}
 use Rattle.q_desk.specs.Keeping.{IsDesk}
 use Rattle.q_desk.proofs.Accepted.{same_answer, passed}
-use Rattle.q_desk.proofs.Lists.{get-front, Each, each-snoc, each-written}
+use Rattle.q_desk.proofs.Lists.{Each, each-snoc, each-written}
 
 -- an answer stays right where its program stays
 kept : {s t : DeskState} {q : Query} {view : ViewMap} {ran : Ran} → IsAnswered s q view ran
@@ -121,7 +122,7 @@ desk-grown s c same d is_table = record {
   checked = each-snoc (λ (p : Certificate). p.lengths ≡ s.lengths) s.programs c d.checked same;
   fit = d.fit;
   known = λ k q e. omega (arith, d.known k q e, length-append s.programs (c ∷ []));
-  right = λ k q view ran e f. kept (d.right k q view ran e f) (λ p h. get-front s.programs (c ∷ []) q.program p h);
+  right = λ k q view ran e f. kept (d.right k q view ran e f) (λ p h. slice_get_front s.programs (c ∷ []) q.program p h);
 }
 
 pub desk-registered : (s : DeskState) (qs : List Certificate) (c : Certificate) (id : ℕ) (o : Option ℕ) → registered_at s.programs c o ≡ Ok (id, qs)

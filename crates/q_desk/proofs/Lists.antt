@@ -1,11 +1,6 @@
 -- Reads of lists that were appended to or written.
 use Rattle.std.proofs.Common.{◌≡◌, ◌≢◌, ◌⊎◌, ℕ, zero, suc, List, [], ◌∷◌, ◌++◌, length, slice_get, slice_set, Some, refl, ap, subst, inl, inr, ⊎_elim}
 
-pub get-front : {X : Type 0} (xs ys : List X) (k : ℕ) (x : X) → slice_get xs k ≡ Some x → slice_get (xs ++ ys) k ≡ Some x
-get-front [] ys k x h = absurd (cc)
-get-front (y ∷ xs) ys zero x h = h
-get-front (y ∷ xs) ys (suc k) x h = get-front xs ys k x h
-
 pub get-snoc : {X : Type 0} (xs : List X) (y : X) (k : ℕ) (x : X) → slice_get (xs ++ y ∷ []) k ≡ Some x
     → (slice_get xs k ≡ Some x) ⊎ ((k ≡ length xs) × (y ≡ x))
 get-snoc [] y zero x h = inr (refl, cc)

@@ -17,7 +17,7 @@ use Rattle.q_book.specs.State.{BookState}
 use Rattle.q_history.specs.Headline.{ClusterState}
 use Rattle.q_history.specs.Heads.{founders_for}
 use Rattle.q_history.specs.Clusters.{start, started}
-use Rattle.q_history.proofs.Lists.{same_some, no_some}
+use Rattle.q_history.proofs.Lists.{same_Some, none-some}
 use Rattle.q_history.proofs.Kept.{IsAmong}
 use Rattle.q_gather.specs.Gathered.{HasBook, AreDistinct, AgreeOn}
 use Rattle.q_gather.specs.Gather.{AreReplayed, Agree, IsRefused}
@@ -35,7 +35,7 @@ pub distinct_next : (books : List BookState) (n : ℕ) (x : BookState) → slice
     → DistinctBelow books n → DistinctBelow books (n + 1)
 distinct_next books n x here none below k b less at has = elim (cases_eq k n) [
   | inl same ↦
-      let one : b ≡ x = same_some b x (sym at ∙ ap (slice_get books) same ∙ here) in
+      let one : b ≡ x = same_Some b x (sym at ∙ ap (slice_get books) same ∙ here) in
       none (subst (λ (i : ℕ). HasBook (take i books) x.id) same (subst (λ (y : BookState). HasBook (take k books) y.id) one has))
   | inr away ↦ below k b (omega (arith, less, away)) at has
 ]
@@ -53,8 +53,8 @@ distinct_all books n below past i k a b at there same =
 -- ---- one founder
 
 some_by : (k : Bool) (ids founders : List ℕ) → cond k (Some founders) None ≡ Some ids → ids ≡ founders
-some_by true ids founders h = sym (same_some founders ids h)
-some_by false ids founders h = absurd (no_some ids h)
+some_by true ids founders h = sym (same_Some founders ids h)
+some_by false ids founders h = absurd (none-some ids h)
 
 -- where the books agree, it is on the head of each founder
 module _ {books : List BookState} {version : Version} {config : Config} {ids : List ℕ} (h : HasHead books version config ids) (a : Agree books) where
@@ -85,7 +85,7 @@ nobody_agrees books none (version, config, founders, a) = by_first founders a
         let mine : IsAmong (x ∷ xs) has.book.id = subst (IsAmong (x ∷ xs)) (sym has.of) listed in
         let founders : has.book.founders ≡ Some (x ∷ xs) =
         (agree.heads has.place has.book has.at).1 ∙ (λ i. cond (mine i) (Some (x ∷ xs)) None) in
-        no_some (x ∷ xs) (sym (none has.place has.book has.at) ∙ founders)
+        none-some (x ∷ xs) (sym (none has.place has.book has.at) ∙ founders)
 
 -- where the books agree, they have one version
 pub versions_one : (books : List BookState) (i k : ℕ) (a b : BookState) → Agree books → slice_get books i ≡ Some a → slice_get books k ≡ Some b

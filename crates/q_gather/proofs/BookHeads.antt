@@ -13,7 +13,7 @@ use Rattle.q_desk.specs.declared.journal.Entry.TheVariants as entry
 use Rattle.q_book.specs.State.{BookState}
 use Rattle.q_book.specs.Books.{new_book, entered, record_lengths}
 use Rattle.q_book.specs.Replays.{IsFirst, IsReplay}
-use Rattle.q_history.proofs.Lists.{no_some}
+use Rattle.q_history.proofs.Lists.{none-some}
 use Rattle.q_gather.specs.Beginnings.{IsBeginningOf, IsGivenBy, AreBeginnings, HoldWhatTheyDeliver, MayGather}
 use Rattle.q_gather.proofs.FrontsTraced.{trace_replay}
 use Rattle.q_gather.proofs.FrontsGather.{hold_all}
@@ -41,7 +41,7 @@ head_begun b first h =
     headed_begun b first desk 0 refl (record { first = first; begun = first_on b first desk first b.founders h; replayed = refl })
 
 pub heads_hold : (books : List BookState) → ((k : ℕ) (b : BookState) → slice_get books k ≡ Some b → b.desk.journal ≡ []) → HoldWhatTheyDeliver books
-heads_hold books heads k place b m here at = absurd (no_some (entry.Deliver m) (ap (λ (x : List Entry). slice_get x place) (sym (heads k b here)) ∙ at))
+heads_hold books heads k place b m here at = absurd (none-some (entry.Deliver m) (ap (λ (x : List Entry). slice_get x place) (sym (heads k b here)) ∙ at))
 
 pub head_gives : (version : Version) (config : Config) (id : ℕ) (m : Message) → (entered version config id).1 ≡ m ∷ []
     → IsGivenBy m (entered version config id).0

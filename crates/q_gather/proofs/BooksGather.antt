@@ -5,7 +5,7 @@ use Rattle.sc_msg.specs.declared.message.Message.{Message}
 use Rattle.q_desk.specs.declared.journal.Entry.{Entry}
 use Rattle.q_book.specs.State.{BookState}
 use Rattle.q_history.specs.Headline.{ClusterState}
-use Rattle.q_history.proofs.Lists.{same_some, get_elsewhere}
+use Rattle.q_history.proofs.Lists.{same_Some, get_elsewhere}
 use Rattle.q_cluster.specs.Acts.{book_at}
 use Rattle.q_gather.specs.Merging.{Step, AreOver}
 use Rattle.q_gather.specs.Traces.{IsTraceFrom, entering}
@@ -35,7 +35,7 @@ module _ (books : List BookState) (k : ℕ) (whole : BookState) (mine : slice_ge
     pub placed_set : (i : ℕ) (b : BookState) → slice_get books i ≡ Some b → IsPlaced c (slice_set lists k steps) i b
     placed_set i b here = elim (cases_eq k i) [
       | inl place ↦
-          let one : whole ≡ b = same_some whole b (sym mine ∙ ap (slice_get books) place ∙ here) in
+          let one : whole ≡ b = same_Some whole b (sym mine ∙ ap (slice_get books) place ∙ here) in
           let at = ap (slice_get (slice_set lists k steps)) (sym place) ∙ get-same lists k old steps there in
           (steps, at, left, subst (λ (x : BookState). IsAt c x left steps) one own)
       | inr away ↦

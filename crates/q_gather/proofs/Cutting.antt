@@ -3,6 +3,7 @@ use Rattle.std.proofs.Common.{◌≡◌, ℕ, List, [], ◌∷◌, ◌++◌, ref
 use Rattle.std.specs.Prelude.{length, take, drop, slice_get, Option, Some, None}
 use Rattle.std.proofs.lemmas.Bool.{cases_lt}
 use Rattle.std.proofs.lemmas.Option.{slice_get_read}
+use Rattle.forms.proofs.Appended.{slice_get_front}
 use Rattle.sc_msg.specs.declared.message.Message.{Message}
 use Rattle.sc_node.specs.State.{NodeState}
 use Rattle.q_desk.specs.State.{DeskState}
@@ -15,7 +16,6 @@ use Rattle.q_book.proofs.Followed.{follows_one}
 use Rattle.q_book.proofs.Replays.{replays_later}
 use Rattle.q_gather.proofs.Tracing.{first_same, trace_some}
 use Rattle.q_gather.specs.Beginnings.{IsBeginningOf, IsGivenBy}
-use Rattle.q_gather.proofs.FrontLists.{get-front}
 use Rattle.q_gather.proofs.Senders.{trace_own}
 use Rattle.q_gather.proofs.FrontsTraced.{headed, trace_front}
 
@@ -115,7 +115,7 @@ gives_more m part whole r k g =
       trace = t.1;
       place = g.place;
       step = g.step;
-      at = ap (λ (x : List (Step Message)). slice_get x g.place) front.1 ∙ get-front g.steps front.0 g.place g.step g.at;
+      at = ap (λ (x : List (Step Message)). slice_get x g.place) front.1 ∙ slice_get_front g.steps front.0 g.place g.step g.at;
       gives = g.gives;
     }
 

@@ -36,7 +36,7 @@ use Rattle.q_history.specs.declared.event.ClusterStep.{ClusterStep}
 use Rattle.q_history.specs.Headline.{ClusterState}
 use Rattle.q_history.specs.Clusters.{lift, stepped, live_at, at as at_node, with_job, replies, enters, entered, delivers, delivered_as, posts, posted, finished}
 use Rattle.q_history.specs.Calls.{Answers, AnswersTo, IsHistory}
-use Rattle.q_history.proofs.Lists.{same_some}
+use Rattle.q_history.proofs.Lists.{same_Some}
 use Rattle.q_desk.proofs.Accepted.{Keeps, keeps_itself, answered as with_answer, IsPosted}
 use Rattle.bq_insn.specs.Slots.{spelling}
 use Rattle.q_table.specs.Programs as table
@@ -66,7 +66,7 @@ nothing = record { acc = 0; steps = 0 }
 module _ {programs : List Certificate} {queries : List Query} {j : Job} {q : Query} {view : ViewMap} (o : IsOut programs queries j)
     (at : slice_get queries j.query ≡ Some q) (phase : q.phase ≡ Running view) where
   its_query : o.query ≡ q
-  its_query = same_some o.query q (sym o.at ∙ at)
+  its_query = same_Some o.query q (sym o.at ∙ at)
 
   its_view : view ≡ j.view
   its_view = subst (λ (p : Phase). RunsOver p j.view) (ap (λ (x : Query). x.phase) its_query ∙ phase) o.runs
@@ -147,7 +147,7 @@ module _ (c : ClusterState) (b d : BookState) (ran : Ran) (i j : Job) (up : live
 
   certificate : answered.program ≡ j.certified
   certificate =
-      same_some answered.program j.certified
+      same_Some answered.program j.certified
       (sym answered.named
       ∙ right.keeps.programs by.query.program j.certified
       (ap (λ (x : List Certificate). slice_get x by.query.program) programs ∙ its_certificate o here by.phase))

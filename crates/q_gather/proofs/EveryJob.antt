@@ -15,7 +15,7 @@ use Rattle.q_history.specs.declared.event.ClusterEvent.{ClusterEvent}
 use Rattle.q_history.specs.Headline.{BookMap, ClusterState}
 use Rattle.q_history.specs.Clusters.{with_job, start}
 use Rattle.q_history.specs.Calls.{Reaches, IsHistory}
-use Rattle.q_history.proofs.Lists.{same_some, no_some}
+use Rattle.q_history.proofs.Lists.{same_Some, none-some}
 use Rattle.q_history.proofs.Ops.{each_put}
 use Rattle.q_history.proofs.World.{at_live}
 use Rattle.q_history.proofs.Kept.{IsKept}
@@ -33,7 +33,7 @@ module _ (books : BookMap) (jobs later : List Job) (id : ℕ) (b : BookState) (a
     (others : (q : ℕ) (x : DeskState) → (q ≡ id → ⊥) → AreJobsOf jobs q x → AreJobsOf later q x) where
   put_by : (q : ℕ) (x : BookState) (here : Bool) → (q == id) ≡ here → cond here (Some b) (fin.get books q) ≡ Some x → AreJobsOf later q x.desk
   put_by q x true is at =
-      subst (λ (p : ℕ). AreJobsOf later p x.desk) (sym (eqb-true q id is)) (subst (λ (y : BookState). AreJobsOf later id y.desk) (same_some b x at) new)
+      subst (λ (p : ℕ). AreJobsOf later p x.desk) (sym (eqb-true q id is)) (subst (λ (y : BookState). AreJobsOf later id y.desk) (same_Some b x at) new)
   put_by q x false is at = others q x.desk (eqb-false q id is) (are q x at)
 
   put_jobs : JobsAre (fin.insert books id b) later
@@ -58,8 +58,8 @@ module _ (c : ClusterState) (kept : IsKept c) (are : JobsAre c.books c.jobs) whe
       subst (λ (x : ClusterState). JobsAre x.books x.jobs) is
       (each_put c.books id b (λ q x. AreJobsOf c.jobs q x.desk)
       (record {
-        each = λ number j at by. let k = kept.jobs number j at in absurd (no_some k.book (sym none ∙ ap (fin.get c.books) (sym by) ∙ k.at));
-        all = λ k q v at runs. absurd (no_some q at);
+        each = λ number j at by. let k = kept.jobs number j at in absurd (none-some k.book (sym none ∙ ap (fin.get c.books) (sym by) ∙ k.at));
+        all = λ k q v at runs. absurd (none-some q at);
       })
       are)
   made_jobs d (crashes id b live is) = subst (λ (x : ClusterState). JobsAre x.books x.jobs) is are
@@ -74,10 +74,10 @@ jobs_run (e ∷ es) c d kept are r = jobs_run es r.1 d (step_kept c r.1 e r.0 ke
 -- no founder has a query yet
 start_jobs : (version : Version) (config : Config) (ids : List ℕ) → JobsAre (start version config ids).books []
 start_jobs version config ids id b at = record {
-  each = λ number j here by. absurd (no_some j here);
+  each = λ number j here by. absurd (none-some j here);
   all = λ k q v here runs.
       let new = (every_founder version config ids id b at).is in
-      absurd (no_some q (ap (λ (x : BookState). slice_get x.desk.queries k) new ∙ here));
+      absurd (none-some q (ap (λ (x : BookState). slice_get x.desk.queries k) new ∙ here));
 }
 
 pub history_jobs : (c : ClusterState) → IsHistory c → JobsAre c.books c.jobs

@@ -7,7 +7,7 @@ use Rattle.std.proofs.lemmas.Bool.{eqb-true, cases_eq}
 use Rattle.std.proofs.lemmas.List.Folds.{Any-from_list_any}
 use Rattle.std.proofs.lemmas.Option.{slice_get_within, slice_get_read}
 use Rattle.q_session.specs.declared.job.Job.{Job}
-use Rattle.q_history.proofs.Lists.{same_some}
+use Rattle.q_history.proofs.Lists.{same_Some}
 use Rattle.q_gather.specs.Turns.{IsJobFor}
 
 -- this holds of each element before a place
@@ -16,7 +16,7 @@ Below {X} P xs i = (k : ℕ) (x : X) → k < i → slice_get xs k ≡ Some x →
 
 pub below_next : {X : Type 0} (P : X → Type 0) (xs : List X) (i : ℕ) (x : X) → Below P xs i → slice_get xs i ≡ Some x → P x → Below P xs (i + 1)
 below_next P xs i x below here holds k y less at = elim (cases_eq k i) [
-  | inl same ↦ subst P (same_some x y (sym here ∙ ap (slice_get xs) (sym same) ∙ at)) holds
+  | inl same ↦ subst P (same_Some x y (sym here ∙ ap (slice_get xs) (sym same) ∙ at)) holds
   | inr away ↦ below k y (omega (arith, less, away)) at
 ]
 

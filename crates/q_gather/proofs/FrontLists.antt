@@ -1,8 +1,7 @@
 -- Lists that begin others, and places that are found.
 use Rattle.std.proofs.Common.{◌≡◌, ℕ, zero, suc, List, [], ◌∷◌, ◌++◌, Some, refl, subst, ◌⊎◌, inl, inr, slice_get}
 use Rattle.std.proofs.lemmas.Bool.{cases_eq}
-use Rattle.q_history.proofs.Lists.{no_some}
-pub use Rattle.q_desk.proofs.Lists.{get-front}
+use Rattle.q_history.proofs.Lists.{none-some}
 
 -- one list is the first part of another
 abbrev pub IsFront : {X : Type 0} → List X → List X → Type 0
@@ -25,7 +24,7 @@ module _ {X : Type 0} (y : X) (ys : List X) (R : ℕ → ℕ → Type 0) (one : 
 -- of a relation by which each place has one number
 pub find_place : {X : Type 0} (xs : List X) (R : ℕ → ℕ → Type 0) → ((k : ℕ) (x : X) → slice_get xs k ≡ Some x → (j : ℕ) × R k j)
     → ((k i j : ℕ) → R k i → R k j → i ≡ j) → (j : ℕ) → Found xs R j
-find_place [] R each one j = inr (λ k x h r. no_some x h)
+find_place [] R each one j = inr (λ k x h r. none-some x h)
 find_place (y ∷ ys) R each one j =
     let first = each 0 y refl in
     found_by y ys R one j first.0 first.1 (find_place ys (λ k. R (suc k)) (λ k x h. each (suc k) x h) (λ k a b. one (suc k) a b) j)

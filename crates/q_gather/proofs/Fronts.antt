@@ -3,12 +3,13 @@ use Rattle.std.proofs.Common.{◌≡◌, ℕ, zero, suc, List, [], ◌∷◌, �
 use Rattle.std.specs.Prelude.{Contains, IfSome, slice_get, slice_set}
 use Rattle.std.proofs.lemmas.Bool.{cases_eq}
 use Rattle.std.proofs.lemmas.List.Elements.{Contains-append_left, Contains-append_right, Contains-append_cases}
-use Rattle.q_history.proofs.Lists.{same_some, no_some, get_elsewhere}
+use Rattle.forms.proofs.Appended.{slice_get_front}
+use Rattle.q_history.proofs.Lists.{same_Some, none-some, get_elsewhere}
 use Rattle.q_gather.specs.Merging.{Step, CanGo, AreOver, Merges}
 use Rattle.q_gather.specs.Merging.Merges.{Over, Takes}
 use Rattle.q_gather.proofs.Lists.{get-same, get-written, get_after}
 use Rattle.q_gather.proofs.Merging.{over_at, all_over, same_first}
-use Rattle.q_gather.proofs.FrontLists.{IsFront, get-front, find_place}
+use Rattle.q_gather.proofs.FrontLists.{IsFront, find_place}
 
 -- ---- the steps of lists
 
@@ -43,14 +44,14 @@ module _ {M : Type 0} (lists : List (List (Step M))) (j : ℕ) (s : Step M) (res
   ]
 
   later : (t : Step M) (place : ℕ) → slice_get (s ∷ rest) place ≡ Some t → (s ≡ t) ⊎ HasStep (slice_set lists j rest) j t
-  later t zero there = inl (same_some s t there)
+  later t zero there = inl (same_Some s t there)
   later t (suc place) there = inr (record { steps = rest; at = get-same lists j (s ∷ rest) rest at; place = place; there = there })
 
   -- a step is that one, or still there
   pub has_after : (i : ℕ) (t : Step M) → HasStep lists i t → (s ≡ t) ⊎ HasStep (slice_set lists j rest) i t
   has_after i t h = elim (cases_eq i j) [
     | inl same ↦
-        let steps : h.steps ≡ s ∷ rest = same_some h.steps (s ∷ rest) (sym h.at ∙ ap (slice_get lists) same ∙ at) in
+        let steps : h.steps ≡ s ∷ rest = same_Some h.steps (s ∷ rest) (sym h.at ∙ ap (slice_get lists) same ∙ at) in
         subst (λ (x : ℕ). (s ≡ t) ⊎ HasStep (slice_set lists j rest) x t) (sym same)
         (later t h.place (ap (λ (x : List (Step M)). slice_get x h.place) (sym steps) ∙ h.there))
     | inr away ↦ inr (record { steps = h.steps; at = get_elsewhere lists j rest i h.steps away h.at; place = h.place; there = h.there })
@@ -68,7 +69,7 @@ module _ {M : Type 0} (lists : List (List (Step M))) (j : ℕ) (s : Step M) (res
 pub all_given : {M : Type 0} {given : List M} {lists : List (List (Step M))} → Merges M given lists → (m : M) (i : ℕ) (t : Step M) → HasStep lists i t
     → t.wants ≡ Some m → Contains given m ⊎ IsGiven lists m
 all_given (Over {lists = lists} over) m i t h is =
-    absurd (no_some t (ap (λ (x : List (Step _)). slice_get x h.place) (sym (over_at lists i h.steps over h.at)) ∙ h.there))
+    absurd (none-some t (ap (λ (x : List (Step _)). slice_get x h.place) (sym (over_at lists i h.steps over h.at)) ∙ h.there))
 all_given {M} (Takes {given = given} {lists = lists} j s rest at can then) m i t h is = elim (has_after lists j s rest at i t h) [
   | inl first ↦ inl (subst (λ (o : Option M). IfSome o (Contains given)) (ap (λ (x : Step M). x.wants) first ∙ is) can)
   | inr still ↦ given_back lists j s rest at given m (all_given then m i t still is)
@@ -111,7 +112,7 @@ module _ {M : Type 0} (From : ℕ → ℕ → Type 0) (once : (i k j : ℕ) → 
           steps = p.whole;
           at = ap (slice_get lists) (one k j p.list comes p.comes) ∙ p.at;
           place = h.place;
-          there = ap (λ (x : List (Step M)). slice_get x h.place) p.front.1 ∙ get-front h.steps p.front.0 h.place t h.there;
+          there = ap (λ (x : List (Step M)). slice_get x h.place) p.front.1 ∙ slice_get_front h.steps p.front.0 h.place t h.there;
         }
 
     -- the first step of a list goes
@@ -128,7 +129,7 @@ module _ {M : Type 0} (From : ℕ → ℕ → Type 0) (once : (i k j : ℕ) → 
       -- it is not kept
       module _ (none : (k : ℕ) (steps : List (Step M)) → slice_get kept k ≡ Some steps → From k j → steps ≡ []) where
         no_step : (k : ℕ) (t : Step M) → From k j → HasStep kept k t → ⊥
-        no_step k t comes h = no_some t (ap (λ (x : List (Step M)). slice_get x h.place) (sym (none k h.steps h.at comes)) ∙ h.there)
+        no_step k t comes h = none-some t (ap (λ (x : List (Step M)). slice_get x h.place) (sym (none k h.steps h.at comes)) ∙ h.there)
 
         skipped_front : (k : ℕ) (steps : List (Step M)) → slice_get kept k ≡ Some steps → IsFrontOf (slice_set lists j rest) k steps
         skipped_front k steps here =
@@ -207,10 +208,10 @@ module _ {M : Type 0} (From : ℕ → ℕ → Type 0) (once : (i k j : ℕ) → 
           → Merges M later those) where
         by_list : (k : ℕ) (steps : List (Step M)) → From k j → slice_get kept k ≡ Some steps → Merges M more kept
         by_list k [] comes here =
-            on more kept (skipped (λ i steps now from. same_some steps [] (sym now ∙ ap (slice_get kept) (once i k j from comes) ∙ here)))
+            on more kept (skipped (λ i steps now from. same_Some steps [] (sym now ∙ ap (slice_get kept) (once i k j from comes) ∙ here)))
         by_list k (t ∷ left) comes here =
             let p = f.fronts k (t ∷ left) here in
-            let whole : p.whole ≡ s ∷ rest = same_some p.whole (s ∷ rest) (sym p.at ∙ ap (slice_get lists) (one k p.list j p.comes comes) ∙ at) in
+            let whole : p.whole ≡ s ∷ rest = same_Some p.whole (s ∷ rest) (sym p.at ∙ ap (slice_get lists) (one k p.list j p.comes comes) ∙ at) in
             let parts = same_first t s (left ++ p.front.0) rest (sym p.front.1 ∙ whole) in
             let now : slice_get kept k ≡ Some (s ∷ left) = here ∙ ap (λ (x : Step M). let o : Option (List (Step M)) = Some (x ∷ left) in o) parts.0 in
             let front : IsFront left rest = (p.front.0, sym parts.1) in

@@ -8,7 +8,7 @@ use Rattle.sc_msg.specs.declared.version.Version.{Version}
 use Rattle.q_book.specs.State.{BookState}
 use Rattle.q_book.specs.Replays.{IsReplay}
 use Rattle.q_history.specs.Heads.{founders_for}
-use Rattle.q_history.proofs.Lists.{same_some, no_some}
+use Rattle.q_history.proofs.Lists.{same_Some, none-some}
 use Rattle.q_gather.specs.Merging.{Step, Merges}
 use Rattle.q_gather.specs.Traces.{IsTrace}
 use Rattle.q_gather.specs.Gathered.{AreDistinct, HasBook, AreRight, AgreeOn, AreTraces}
@@ -33,7 +33,7 @@ module _ (books : List BookState) (lists : List Steps) (traces : AreTraces books
   traced k steps at =
       let b = traces.few k steps at in
       let t = traces.each k b.0 b.1 in
-      record { book = b.0; here = b.1; trace = subst (IsTrace b.0) (same_some t.0 steps (sym t.1 ∙ at)) t.2 }
+      record { book = b.0; here = b.1; trace = subst (IsTrace b.0) (same_Some t.0 steps (sym t.1 ∙ at)) t.2 }
 
   -- what a step gives, a book gives
   given_among : (m : Message) → IsGiven lists m → IsGivenAmong m books
@@ -95,11 +95,11 @@ module _ (wholes parts : List BookState) (distinct : AreDistinct wholes) (begun 
 
   from_once : (i k j : ℕ) → IsFrom i j → IsFrom k j → i ≡ k
   from_once i k j a b =
-      begun.distinct i k a.part b.part a.at b.at (a.same ∙ ap (λ (x : BookState). x.id) (same_some a.whole b.whole (sym a.there ∙ b.there)) ∙ sym b.same)
+      begun.distinct i k a.part b.part a.at b.at (a.same ∙ ap (λ (x : BookState). x.id) (same_Some a.whole b.whole (sym a.there ∙ b.there)) ∙ sym b.same)
 
   from_one : (k i j : ℕ) → IsFrom k i → IsFrom k j → i ≡ j
   from_one k i j a b =
-      distinct i j a.whole b.whole a.there b.there (sym a.same ∙ ap (λ (x : BookState). x.id) (same_some a.part b.part (sym a.at ∙ b.at)) ∙ b.same)
+      distinct i j a.whole b.whole a.there b.there (sym a.same ∙ ap (λ (x : BookState). x.id) (same_Some a.part b.part (sym a.at ∙ b.at)) ∙ b.same)
 
   module _ (lists held : List Steps) (traces : AreTraces wholes lists) (own : AreTraces parts held) where
     a_front : (k : ℕ) (steps : Steps) → slice_get held k ≡ Some steps → IsFrontOf IsFrom from_once from_one lists k steps
@@ -159,7 +159,7 @@ traced_more : (b : BookState) (bs : List BookState) (steps : Steps) (lists : Lis
 traced_more b bs steps lists t rest = record { each = each_more; few = few_more }
   where
     each_more : (k : ℕ) (x : BookState) → slice_get (b ∷ bs) k ≡ Some x → (own : Steps) × (slice_get (steps ∷ lists) k ≡ Some own) × IsTrace x own
-    each_more zero x here = (steps, refl, subst (λ (y : BookState). IsTrace y steps) (same_some b x here) t)
+    each_more zero x here = (steps, refl, subst (λ (y : BookState). IsTrace y steps) (same_Some b x here) t)
     each_more (suc k) x here = rest.each k x here
 
     few_more : (k : ℕ) (own : Steps) → slice_get (steps ∷ lists) k ≡ Some own → (x : BookState) × (slice_get (b ∷ bs) k ≡ Some x)
@@ -168,7 +168,7 @@ traced_more b bs steps lists t rest = record { each = each_more; few = few_more 
 
 -- each book that is a replay has its steps
 pub all_traced : (books : List BookState) → ((k : ℕ) (b : BookState) → slice_get books k ≡ Some b → IsReplay b) → (lists : List Steps) × AreTraces books lists
-all_traced [] replays = ([], record { each = λ k b here. absurd (no_some b here); few = λ k steps at. absurd (no_some steps at) })
+all_traced [] replays = ([], record { each = λ k b here. absurd (none-some b here); few = λ k steps at. absurd (none-some steps at) })
 all_traced (b ∷ bs) replays =
     let t = trace_some b (replays 0 b refl) in
     let rest = all_traced bs (λ k x here. replays (suc k) x here) in

@@ -6,7 +6,7 @@ use Rattle.sc_node.specs.State.{NodeState}
 use Rattle.q_desk.specs.State.{DeskState}
 use Rattle.q_desk.specs.declared.journal.Entry.{Entry}
 use Rattle.q_desk.specs.declared.journal.Entry.TheVariants as entry
-use Rattle.q_desk.proofs.Accepted.{same_some, no_some, Keeps}
+use Rattle.q_desk.proofs.Accepted.{same_Some, none-some, Keeps}
 use Rattle.q_book.specs.State.{BookState}
 use Rattle.q_book.specs.Books.{new_book}
 use Rattle.q_book.specs.Replays.{IsReplay}
@@ -87,23 +87,23 @@ trace_replay b steps t = record {
 -- ---- steps and entries
 
 wants_it : (e : Entry) (m : Message) → wants e ≡ Some m → e ≡ entry.Deliver m
-wants_it (entry.Deliver x) m h = ap entry.Deliver (same_some x m h)
-wants_it e m h = absurd (no_some m h)
+wants_it (entry.Deliver x) m h = ap entry.Deliver (same_Some x m h)
+wants_it e m h = absurd (none-some m h)
 
 -- a step that wants a message is that of an entry which delivers it
 from_entry : (es : List Entry) (b c : BookState) (steps : Steps) → IsTraceFrom b es steps c → (k : ℕ) (s : Step Message) (m : Message)
     → slice_get steps k ≡ Some s → s.wants ≡ Some m → slice_get es k ≡ Some (entry.Deliver m)
-from_entry [] b c steps t k s m h is = absurd (no_some s (ap (λ (x : Steps). slice_get x k) (sym t.0) ∙ h))
+from_entry [] b c steps t k s m h is = absurd (none-some s (ap (λ (x : Steps). slice_get x k) (sym t.0) ∙ h))
 from_entry (e ∷ es) b c steps t zero s m h is =
-    let first : step_of b e ≡ s = same_some (step_of b e) s (ap (λ (x : Steps). slice_get x 0) (sym t.3) ∙ h) in
+    let first : step_of b e ≡ s = same_Some (step_of b e) s (ap (λ (x : Steps). slice_get x 0) (sym t.3) ∙ h) in
     λ i. Some (wants_it e m (ap (λ (x : Step Message). x.wants) first ∙ is) i)
 from_entry (e ∷ es) b c steps t (suc k) s m h is = from_entry es t.0 c t.2 t.4 k s m (ap (λ (x : Steps). slice_get x (suc k)) (sym t.3) ∙ h) is
 
 -- and an entry that delivers a message has such a step
 from_step : (es : List Entry) (b c : BookState) (steps : Steps) → IsTraceFrom b es steps c → (k : ℕ) (m : Message) → slice_get es k ≡ Some (entry.Deliver m)
     → (s : Step Message) × (slice_get steps k ≡ Some s) × (s.wants ≡ Some m)
-from_step [] b c steps t k m h = absurd (no_some (entry.Deliver m) h)
-from_step (e ∷ es) b c steps t zero m h = (step_of b e, ap (λ (x : Steps). slice_get x 0) t.3, ap wants (same_some e (entry.Deliver m) h))
+from_step [] b c steps t k m h = absurd (none-some (entry.Deliver m) h)
+from_step (e ∷ es) b c steps t zero m h = (step_of b e, ap (λ (x : Steps). slice_get x 0) t.3, ap wants (same_Some e (entry.Deliver m) h))
 from_step (e ∷ es) b c steps t (suc k) m h =
     let r = from_step es t.0 c t.2 t.4 k m h in
     (r.0, ap (λ (x : Steps). slice_get x (suc k)) t.3 ∙ r.1, r.2)
@@ -115,7 +115,7 @@ module _ (b : BookState) (rest : Steps) where
       → (k : ℕ) (s : Step Message) (m : Message) → slice_get (entering b founders ++ rest) k ≡ Some s → s.wants ≡ Some m
       → (place : ℕ) × (slice_get es place ≡ Some (entry.Deliver m))
   entry_by (Some ids) es at k s m h is = (k, at k s m h is)
-  entry_by None es at zero s m h is = absurd (no_some m (ap (λ (x : Step Message). x.wants) (same_some _ s h) ∙ is))
+  entry_by None es at zero s m h is = absurd (none-some m (ap (λ (x : Step Message). x.wants) (same_Some _ s h) ∙ is))
   entry_by None es at (suc k) s m h is = (k, at k s m h is)
 
   step_by : (founders : Option (List ℕ)) (k : ℕ) (s : Step Message) → slice_get rest k ≡ Some s

@@ -9,7 +9,7 @@ use Rattle.q_history.specs.declared.event.ClusterEvent.{ClusterEvent}
 use Rattle.q_history.specs.declared.event.ClusterStep.{ClusterStep}
 use Rattle.q_history.specs.Headline.{ClusterState}
 use Rattle.q_history.specs.Calls.{Follows}
-use Rattle.q_history.proofs.Lists.{same_some, no_some}
+use Rattle.q_history.proofs.Lists.{same_Some, none-some}
 use Rattle.q_gather.specs.Merging.{CanGo, AreOver, Merges}
 use Rattle.q_gather.specs.Merging.Merges.{Over, Takes}
 use Rattle.q_gather.specs.Traces.{IsTraceFrom}
@@ -79,7 +79,7 @@ module _ {books : List BookState} {c later : ClusterState} {numbers : NumberList
             let before = next_is g.under_way k at now.step now.rest can old in
             idle k b before.0 among at before.1
         | inr new ↦
-            let one : n.book ≡ b = same_some n.book b (sym n.at ∙ ap (slice_get books) (sym new.0) ∙ at) in
+            let one : n.book ≡ b = same_Some n.book b (sym n.at ∙ ap (slice_get books) (sym new.0) ∙ at) in
             idle k b ev among at (subst (λ (x : BookState). IsNextOf c x ev) one n.next)
       ]
 
@@ -115,9 +115,9 @@ no_more (e ∷ es) n h = absurd (omega (arith, h))
 
 -- the node of a book that has taken all entries has no step left
 taken_over : (c : ClusterState) (whole : BookState) (left : List Entry) (steps : Steps) → IsAt c whole left steps → HasTaken c whole → steps ≡ []
-taken_over c whole left steps (Away absent none is t) taken = absurd (no_some taken.book (sym absent ∙ taken.at))
+taken_over c whole left steps (Away absent none is t) taken = absurd (none-some taken.book (sym absent ∙ taken.at))
 taken_over c whole left steps (There b here t) taken =
-    let same : taken.book ≡ b = same_some taken.book b (sym taken.at ∙ here) in
+    let same : taken.book ≡ b = same_Some taken.book b (sym taken.at ∙ here) in
     let long : length b.desk.journal ≡ length b.desk.journal + length left =
     ap (λ (x : BookState). length x.desk.journal) (sym same) ∙ taken.all ∙ trace_length left b steps whole t in
     over_by left (no_more left (length b.desk.journal) long) t
@@ -132,7 +132,7 @@ module _ {books : List BookState} {c : ClusterState} {numbers : NumberList} (g :
       all_over g.left (λ k steps at.
       let b = g.under_way.few k steps at in
       let p = g.under_way.at k b.0 b.1 in
-      same_some steps p.0 (sym at ∙ p.1) ∙ taken_over c b.0 p.2 p.0 p.3 (taken k b.0 b.1))
+      same_Some steps p.0 (sym at ∙ p.1) ∙ taken_over c b.0 p.2 p.0 p.3 (taken k b.0 b.1))
 
   -- where all entries are taken, the books are merged
   pub merged : HaveTaken c books → IsMerged books c

@@ -1,8 +1,8 @@
 -- The jobs of every history: each is that of a query which runs or was answered, and each query that runs has one.
 use Rattle.std.proofs.Common.{◌≡◌, ℕ, List, [], ◌∷◌, ◌++◌, length, Option, Some, None, refl, sym, ap, ◌∙◌, subst, ◌⊎◌, inl, inr, slice_get, slice_set}
 use Rattle.std.proofs.lemmas.Bool.{cases_eq}
+use Rattle.forms.proofs.Appended.{slice_get_front, slice_get_last}
 use Rattle.sc_view.specs.Views.{ViewMap}
-use Rattle.sc_world.proofs.Histories.{slice_get_front, slice_get_last}
 use Rattle.bq_check.specs.Certificate.{Certificate}
 use Rattle.q_session.specs.declared.query.Phase.{Phase}
 use Rattle.q_session.specs.declared.query.Phase.TheVariants.{Collecting, Ready, Running, Answered}
@@ -11,7 +11,7 @@ use Rattle.q_session.specs.declared.job.Job.{Job}
 use Rattle.q_desk.specs.State.{DeskState}
 use Rattle.q_desk.proofs.Changes.{Told, Begins, GoesOver, readied, handed, recorded, Change, stays, grows, begins, rephased}
 use Rattle.q_history.specs.Clusters.{with_job}
-use Rattle.q_history.proofs.Lists.{same_some, no_some, get_snoc, get_elsewhere}
+use Rattle.q_history.proofs.Lists.{same_Some, none-some, get_snoc, get_elsewhere}
 use Rattle.q_history.proofs.Kept.{which_job}
 use Rattle.q_gather.specs.Turns.{IsJobFor}
 use Rattle.q_gather.proofs.Lists.{get-same, get_after}
@@ -66,7 +66,7 @@ record AreOn (queries : List Query) (id : ℕ) (o : Option Job) (programs : List
 module _ (d e : DeskState) (id : ℕ) (t : Told) where
   -- all are as they were
   still_on : AreOn d.queries id None e.programs d.queries
-  still_on = record { stay = on_itself d.queries; run = λ k q v at runs. inl at; out = λ j some. absurd (no_some j some) }
+  still_on = record { stay = on_itself d.queries; run = λ k q v at runs. inl at; out = λ j some. absurd (none-some j some) }
 
   -- one begins
   begins_on : (q : Query) → Begins t q → AreOn d.queries id None e.programs (d.queries ++ q ∷ [])
@@ -76,7 +76,7 @@ module _ (d e : DeskState) (id : ℕ) (t : Told) where
       | inl old ↦ inl old
       | inr same ↦ let no : Collecting ≡ Running v = sym b.phase ∙ ap (λ (x : Query). x.phase) same ∙ runs in absurd (cc)
     ];
-    out = λ j some. absurd (no_some j some);
+    out = λ j some. absurd (none-some j some);
   }
 
   -- one is in another phase
@@ -90,7 +90,7 @@ module _ (d e : DeskState) (id : ℕ) (t : Told) where
     goes_runs : GoesOver d id k q p t o → (v : ViewMap) → RunsOver q.phase v → RunsOver p v
     goes_runs (readied view h to none) v r = absurd (subst (λ (x : Phase). RunsOver x v) h.phase r)
     goes_runs (handed j h of to some) v r =
-        let one : q ≡ h.query = same_some q h.query (sym at ∙ ap (slice_get d.queries) (sym of) ∙ h.at) in
+        let one : q ≡ h.query = same_Some q h.query (sym at ∙ ap (slice_get d.queries) (sym of) ∙ h.at) in
         absurd (subst (λ (x : Phase). RunsOver x v) (ap (λ (x : Query). x.phase) one ∙ h.phase) r)
     goes_runs (recorded j view ran told is fits to none) v r = subst (λ (x : Phase). RunsOver x v) (sym to) (subst (λ (x : Phase). RunsOver x v) is r)
 
@@ -100,10 +100,10 @@ module _ (d e : DeskState) (id : ℕ) (t : Told) where
     goes_run (recorded j view ran told is fits to none) v runs = let no : Answered view ran ≡ Running v = sym to ∙ runs in absurd (cc)
 
     goes_out : GoesOver d id k q p t o → (j : Job) → o ≡ Some j → (j.node ≡ id) × IsOut e.programs later j
-    goes_out (readied view h to none) j some = absurd (no_some j (sym none ∙ some))
-    goes_out (recorded i view ran told is fits to none) j some = absurd (no_some j (sym none ∙ some))
+    goes_out (readied view h to none) j some = absurd (none-some j (sym none ∙ some))
+    goes_out (recorded i view ran told is fits to none) j some = absurd (none-some j (sym none ∙ some))
     goes_out (handed i h of to its) j some =
-        let one : h.query ≡ q = same_some h.query q (sym h.at ∙ ap (slice_get d.queries) of ∙ at) in
+        let one : h.query ≡ q = same_Some h.query q (sym h.at ∙ ap (slice_get d.queries) of ∙ at) in
         let out : IsOut e.programs later i = record {
           query = new;
           at = ap (slice_get later) of ∙ get-same d.queries k q new at;
@@ -112,12 +112,12 @@ module _ (d e : DeskState) (id : ℕ) (t : Told) where
           certified = ap (λ (x : List Certificate). slice_get x i.program) programs ∙ h.certified;
           runs = subst (λ (x : Phase). RunsOver x i.view) (sym to) refl;
         } in
-        subst (λ (x : Job). (x.node ≡ id) × IsOut e.programs later x) (same_some i j (sym its ∙ some)) (h.by, out)
+        subst (λ (x : Job). (x.node ≡ id) × IsOut e.programs later x) (same_Some i j (sym its ∙ some)) (h.by, out)
 
     goes_stay : GoesOver d id k q p t o → (i : ℕ) (x : Query) → slice_get d.queries i ≡ Some x → IsOn later i x
     goes_stay goes i x here = elim (cases_eq i k) [
       | inl same ↦
-          let one : q ≡ x = same_some q x (sym at ∙ ap (slice_get d.queries) (sym same) ∙ here) in
+          let one : q ≡ x = same_Some q x (sym at ∙ ap (slice_get d.queries) (sym same) ∙ here) in
           let stays : slice_get later i ≡ Some new = ap (slice_get later) same ∙ get-same d.queries k q new at in
           subst (IsOn later i) one (record { query = new; at = stays; program = refl; start = refl; runs = goes_runs goes })
       | inr away ↦ on_itself later i x (get_elsewhere d.queries k new i x away here)
@@ -149,9 +149,9 @@ module _ (jobs : List Job) where
       record { number = h.number; is = record { job = h.is.job; at = at; by = h.is.by; of = h.is.of } }
 
   new_job : (o : Option Job) (j : Job) → o ≡ Some j → HasJob (with_job jobs o) j.node j.query
-  new_job None j some = absurd (no_some j some)
+  new_job None j some = absurd (none-some j some)
   new_job (Some i) j some =
-      let same : i ≡ j = same_some i j some in
+      let same : i ≡ j = same_Some i j some in
       record { number = length jobs; is = record { job = i; at = slice_get_last jobs i; by = λ k. (same k).node; of = λ k. (same k).query } }
 
 -- ---- an accepted call

@@ -1,6 +1,6 @@
 -- The program of each query that was answered is known; so the answers that a beginning records are right where those
 -- of the whole book are.
-use Rattle.std.proofs.Common.{◌≡◌, ℕ, ◌==◌, true, List, [], ◌∷◌, Option, Some, None, refl, sym, ap, ◌∙◌, subst, inl, inr, slice_get}
+use Rattle.std.proofs.Common.{◌≡◌, ℕ, ◌==◌, true, List, [], ◌∷◌, Option, Some, sym, ap, ◌∙◌, subst, inl, inr, slice_get}
 use Rattle.sc_view.specs.Views.{ViewMap}
 use Rattle.sc_world.proofs.Steps.{and_right}
 use Rattle.bq_check.specs.Certificate.{Certificate}
@@ -13,7 +13,7 @@ use Rattle.q_desk.specs.State.{DeskState}
 use Rattle.q_desk.specs.Desks as desk
 use Rattle.q_desk.specs.Answers.{AnswersAreRight}
 use Rattle.q_desk.specs.declared.journal.Entry.{Entry}
-use Rattle.q_desk.proofs.Accepted.{same_some, no_some, Keeps}
+use Rattle.q_desk.proofs.Accepted.{same_Some, none-some, Keeps}
 use Rattle.q_desk.proofs.Changes.{Told, GoesOver, readied, handed, recorded, Change, IsNew, fresh, moved, change_queries}
 use Rattle.q_desk.proofs.Own.{some_program}
 use Rattle.q_book.specs.State.{BookState}
@@ -69,7 +69,7 @@ replays_known [] b c r known = subst (λ (x : BookState). AreKnown x.desk) (sym 
 replays_known (e ∷ es) b c r known = replays_known es r.0 c r.2 (follows_known b r.0 known e r.1)
 
 replay_known : (b : BookState) → IsReplay b → AreKnown b.desk
-replay_known b r = replays_known b.desk.journal _ b r.replayed (λ k q view ran at is. absurd (no_some q at))
+replay_known b r = replays_known b.desk.journal _ b r.replayed (λ k q view ran at is. absurd (none-some q at))
 
 -- ---- right answers
 
@@ -77,5 +77,5 @@ pub right_part : (part whole : BookState) → IsReplay part → Keeps part.desk 
 right_part part whole r keeps right k q view ran at is =
     let a = right k q view ran (keeps.answers k q view ran at is) is in
     let had = replay_known part r k q view ran at is in
-    let same : had.0 ≡ a.program = same_some had.0 a.program (sym (keeps.programs q.program had.0 had.1) ∙ a.named) in
+    let same : had.0 ≡ a.program = same_Some had.0 a.program (sym (keeps.programs q.program had.0 had.1) ∙ a.named) in
     record { program = a.program; named = had.1 ∙ ap (λ (x : Certificate). let o : Option Certificate = Some x in o) same; right = a.right }

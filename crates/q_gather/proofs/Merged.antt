@@ -13,7 +13,7 @@ use Rattle.q_history.specs.declared.event.ClusterEvent.{ClusterEvent}
 use Rattle.q_history.specs.Headline.{ClusterState}
 use Rattle.q_history.specs.Clusters.{start}
 use Rattle.q_history.specs.Calls.{Reaches}
-use Rattle.q_history.proofs.Lists.{same_some, no_some}
+use Rattle.q_history.proofs.Lists.{same_Some, none-some}
 use Rattle.q_history.proofs.Kept.{IsKept}
 use Rattle.q_history.proofs.Histories.{history_kept}
 use Rattle.q_history.proofs.EveryBook.{history_books}
@@ -48,15 +48,15 @@ module _ (c : ClusterState) (whole : BookState) (steps others : Steps) where
 
   at_one : (es fs : List Entry) → IsAt c whole es steps → IsAt c whole fs others → steps ≡ others
   at_one es fs (Away absent none is t) (Away gone nobody so u) = trace_one whole steps others t u
-  at_one es fs (Away absent none is t) (There d at u) = absurd (no_some d (sym absent ∙ at))
-  at_one es fs (There b at t) (Away absent none is u) = absurd (no_some b (sym absent ∙ at))
-  at_one es fs (There b here t) (There d at u) = there_one b d es fs (same_some b d (sym here ∙ at)) t u
+  at_one es fs (Away absent none is t) (There d at u) = absurd (none-some d (sym absent ∙ at))
+  at_one es fs (There b at t) (Away absent none is u) = absurd (none-some b (sym absent ∙ at))
+  at_one es fs (There b here t) (There d at u) = there_one b d es fs (same_Some b d (sym here ∙ at)) t u
 
 -- ---- lists that are written back
 
 set_back : {X : Type 0} (xs : List X) (k : ℕ) (x y : X) → slice_get xs k ≡ Some y → slice_set (slice_set xs k x) k y ≡ xs
-set_back [] k x y h = absurd (no_some y h)
-set_back (z ∷ zs) zero x y h = ap (λ (w : _). w ∷ zs) (sym (same_some z y h))
+set_back [] k x y h = absurd (none-some y h)
+set_back (z ∷ zs) zero x y h = ap (λ (w : _). w ∷ zs) (sym (same_Some z y h))
 set_back (z ∷ zs) (suc k) x y h = ap (λ (ws : List _). z ∷ ws) (set_back zs k x y h)
 
 abbrev no_steps : BookState → Steps
@@ -93,9 +93,9 @@ module _ (books : List BookState) (distinct : AreDistinct books) (c later : Clus
 
     -- behind its new book these are left
     is_left : (left : List Entry) (steps : Steps) → IsAt later has.book left steps → IsTraceFrom d left steps has.book
-    is_left left steps (Away absent none is t) = absurd (no_some d (sym absent ∙ ap (book_at later) has.of ∙ turn.book))
+    is_left left steps (Away absent none is t) = absurd (none-some d (sym absent ∙ ap (book_at later) has.of ∙ turn.book))
     is_left left steps (There b at t) =
-        subst (λ (x : BookState). IsTraceFrom x left steps has.book) (same_some b d (sym at ∙ ap (book_at later) has.of ∙ turn.book)) t
+        subst (λ (x : BookState). IsTraceFrom x left steps has.book) (same_Some b d (sym at ∙ ap (book_at later) has.of ∙ turn.book)) t
 
     elsewhere : (i : ℕ) (b : BookState) → (i ≡ has.place → ⊥) → slice_get books i ≡ Some b → IsPlaced c lists i b
     elsewhere i b away here =
@@ -235,7 +235,7 @@ module _ (books : List BookState) (c : ClusterState) (g : IsGathered books c) (d
               let p = way.1.at k b here in
               let q = first.at k b here in
               let t = own.1.each k b here in
-              let same : t.0 ≡ p.0 = same_some t.0 q.0 (sym t.1 ∙ q.1) ∙ at_one begin b q.0 p.0 q.2 p.2 q.3 p.3 in
+              let same : t.0 ≡ p.0 = same_Some t.0 q.0 (sym t.1 ∙ q.1) ∙ at_one begin b q.0 p.0 q.2 p.2 q.3 p.3 in
               (p.0, p.1, subst (IsTrace b) same t.2);
           few = way.1.few;
         };

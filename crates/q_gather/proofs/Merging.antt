@@ -5,7 +5,7 @@ use Rattle.std.proofs.lemmas.Bool.{cases_eq}
 use Rattle.std.proofs.lemmas.List.{set_comm}
 use Rattle.std.proofs.lemmas.List.Elements.{Contains-append_left, Contains-append_right, Contains-append_cases}
 use Rattle.std.proofs.lemmas.Option.{get_or_from_slice_get, slice_get_within, slice_get-get_or}
-use Rattle.q_history.proofs.Lists.{same_some, get_elsewhere}
+use Rattle.q_history.proofs.Lists.{same_Some, get_elsewhere}
 use Rattle.q_gather.specs.Merging.{Step, CanGo, AreOver, Merges}
 use Rattle.q_gather.specs.Merging.Merges.{Over, Takes}
 
@@ -58,7 +58,7 @@ module _ {M : Type 0} (given : List M) (lists : List (List (Step M))) (j : ℕ) 
   by_one : slice_get lists k ≡ Some (s ∷ rest) → j ≡ k → Merges M (given ++ t.gives) (slice_set lists j left)
       → Merges M (given ++ s.gives) (slice_set lists k rest)
   by_one at same then =
-      let parts = same_first t s left rest (same_some (t ∷ left) (s ∷ rest) (sym there ∙ ap (slice_get lists) same ∙ at)) in
+      let parts = same_first t s left rest (same_Some (t ∷ left) (s ∷ rest) (sym there ∙ ap (slice_get lists) same ∙ at)) in
       subst (λ (x : Step M). Merges M (given ++ x.gives) (slice_set lists k rest)) parts.0
       (subst (λ (x : List (Step M)). Merges M (given ++ t.gives) (slice_set lists k x)) parts.1
       (subst (λ (x : ℕ). Merges M (given ++ t.gives) (slice_set lists x left)) same then))

@@ -3,12 +3,12 @@ use Rattle.std.proofs.Common.{◌≡◌, ◌<◌, ℕ, Bool, true, false, cond, 
 use Rattle.std.specs.Prelude.{bytes_eq, length, Option, Some, None, is_some, slice_get}
 use Rattle.std.proofs.lemmas.Option.{slice_get_within}
 use Rattle.std.proofs.lemmas.Slice.Eq.{bytes_eq-Decides}
+use Rattle.forms.proofs.Appended.{slice_get_front, slice_get_last}
 use Rattle.sc_msg.specs.declared.message.Message.{Message}
 use Rattle.sc_msg.specs.declared.version.Version.TheVariants.{Second}
 use Rattle.sc_msg.specs.Messages.{message_bytes, IsMessage}
-use Rattle.sc_world.proofs.Histories.{slice_get_front, slice_get_last}
 use Rattle.q_desk.proofs.Lists.{get-snoc}
-use Rattle.q_history.proofs.Lists.{no_some, get_snoc}
+use Rattle.q_history.proofs.Lists.{none-some, get_snoc}
 use Rattle.q_gather.specs.Numbers.{NumberList, number_of, added, IsLeastNumber, AreNumbers}
 use Rattle.q_gather.proofs.Table.{none_there}
 
@@ -18,7 +18,7 @@ OneSpelling = (m n : Message) → IsMessage Second m → IsMessage Second n → 
 
 -- of two alternatives
 last_by : (b : Bool) (k : ℕ) (rest more want : Option ℕ) → cond b (Some k) rest ≡ None → (rest ≡ None → more ≡ want) → cond b (Some k) more ≡ want
-last_by true k rest more want h f = absurd (no_some k (sym h))
+last_by true k rest more want h f = absurd (none-some k (sym h))
 last_by false k rest more want h f = f h
 
 first_by : (b : Bool) (k n : ℕ) (rest more : Option ℕ) → cond b (Some k) rest ≡ Some n → (rest ≡ Some n → more ≡ Some n) → cond b (Some k) more ≡ Some n
@@ -35,7 +35,7 @@ number_last bytes other n (e ∷ es) none =
 
 -- what is found stays found
 number_first : (bytes other : List ℕ) (n k : ℕ) (es : NumberList) → number_of bytes es ≡ Some k → number_of bytes (es ++ (other, n) ∷ []) ≡ Some k
-number_first bytes other n k [] h = absurd (no_some k h)
+number_first bytes other n k [] h = absurd (none-some k h)
 number_first bytes other n k (e ∷ es) h =
     first_by (bytes_eq bytes e.0) e.1 k (number_of bytes es) (number_of bytes (es ++ (other, n) ∷ [])) h (λ rest. number_first bytes other n k es rest)
 
@@ -93,4 +93,4 @@ module _ (one : OneSpelling) (sent : List Message) (es : NumberList) (are : AreN
   numbers_on = by_test (is_some (number_of (message_bytes Second m) es)) refl
 
 pub no_numbers : AreNumbers [] []
-no_numbers m legal k at = absurd (no_some m at)
+no_numbers m legal k at = absurd (none-some m at)

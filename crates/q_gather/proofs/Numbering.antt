@@ -9,7 +9,7 @@ use Rattle.sc_msg.specs.declared.version.Version.TheVariants.{Second}
 use Rattle.sc_msg.specs.Messages.{message_bytes, IsMessage}
 use Rattle.q_book.specs.State.{BookState}
 use Rattle.q_history.specs.Headline.{ClusterState}
-use Rattle.q_history.proofs.Lists.{same_some}
+use Rattle.q_history.proofs.Lists.{same_Some}
 use Rattle.q_cluster.specs.Acts.{book_at}
 use Rattle.q_gather.specs.Numbers.{NumberList, added, AreNumbers}
 use Rattle.q_gather.specs.Gathering.{HasTaken}
@@ -48,5 +48,5 @@ taken_test {b = b} {n = n} {m = m} c whole at is are = go (nat_eq n m) refl
     go true same = record { book = b; at = sym at; all = sym is ∙ eqb-true n m same ∙ are }
     go false other =
         λ h.
-        let one : h.book ≡ b = same_some h.book b (sym h.at ∙ sym at) in
+        let one : h.book ≡ b = same_Some h.book b (sym h.at ∙ sym at) in
         eqb-false n m other (is ∙ ap (λ (x : BookState). length x.desk.journal) (sym one) ∙ h.all ∙ sym are)

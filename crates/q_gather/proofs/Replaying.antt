@@ -8,7 +8,7 @@ use Rattle.std.proofs.lemmas.Option.{slice_get-map, slice_get-get_or, slice_get_
 use Rattle.spelling.proofs.Codes.{all_push}
 use Rattle.q_book.specs.State.{BookState}
 use Rattle.q_history.specs.Headline.{ClusterState}
-use Rattle.q_history.proofs.Lists.{same_some, no_some}
+use Rattle.q_history.proofs.Lists.{same_Some, none-some}
 use Rattle.q_replay.specs.Journal.{journal_of, IsJournalled}
 use Rattle.q_replay.specs.Replayed.{IsFault}
 use Rattle.q_replay.specs.declared.fault.ReplayFault.{ReplayFault}
@@ -73,8 +73,8 @@ replayed_one {books = books} {others = others} one r s = books_one one books oth
 -- each of the journals is that of a book
 journal_at : (books : List BookState) → AllByRecursion IsJournalled books → (k : ℕ) (bytes : List ℕ) → slice_get (map journal_of books) k ≡ Some bytes
     → (b : BookState) × IsJournalled b × (journal_of b ≡ bytes)
-journal_at [] all k bytes at = absurd (no_some bytes at)
-journal_at (x ∷ xs) all zero bytes at = (x, all.0, same_some (journal_of x) bytes at)
+journal_at [] all k bytes at = absurd (none-some bytes at)
+journal_at (x ∷ xs) all zero bytes at = (x, all.0, same_Some (journal_of x) bytes at)
 journal_at (x ∷ xs) all (suc k) bytes at = journal_at xs all.1 k bytes at
 
 module _ (one : OneBook) (none : NoFault) {journals : List (List ℕ)} {books : List BookState} (r : AreReplayed journals books) where
@@ -117,7 +117,7 @@ module _ (one : OneBook) (none : NoFault) (first : OneFault) (journals : List (L
   one_faulty : (p q : ℕ) (f g : ReplayFault) → IsFaulty journals p f → IsFaulty journals q g → Journal p f ≡ Journal q g
   one_faulty p q f g x y =
       let place : p ≡ q = one_place p q f g x y in
-      let bytes : x.bytes ≡ y.bytes = same_some x.bytes y.bytes (sym x.at ∙ ap (slice_get journals) place ∙ y.at) in
+      let bytes : x.bytes ≡ y.bytes = same_Some x.bytes y.bytes (sym x.at ∙ ap (slice_get journals) place ∙ y.at) in
       let fault : f ≡ g = first y.bytes f g (subst (λ (b : List ℕ). IsFault b f) bytes x.is) y.is x.known y.known in
       λ i. Journal (place i) (fault i)
 

@@ -14,7 +14,7 @@ use Rattle.sc_world.specs.Worlds.{Outcome, of_begun, of_left, of_delivered, by_n
 use Rattle.sc_world.proofs.Inverts.{stores-ok, collects-ok, leaves-ok, delivers-ok}
 use Rattle.q_desk.specs.declared.journal.Entry.{Entry}
 use Rattle.q_desk.proofs.Changes.{Told}
-use Rattle.q_desk.proofs.Accepted.{same_some, no_some, same_answer, passed}
+use Rattle.q_desk.proofs.Accepted.{same_Some, none-some, same_answer, passed}
 use Rattle.q_book.specs.State.{BookState}
 use Rattle.q_book.specs.Books as book
 use Rattle.q_book.specs.Replays.{Follows, IsFirst}
@@ -61,7 +61,7 @@ did_own b (Delivers m) t n d =
     subst (λ (z : Told). IsOwn b.node z.outs n) d.2 (of_outcome b.node _ y (delivers-ok m b.node y (ap (by_node of_delivered) d.1)) refl own)
 did_own b Idles t n d =
     subst (λ (z : Told). IsOwn b.node z.outs n) d.1
-    (record { stays = ap (λ (x : NodeState). x.id) (sym d.0); own = λ k m h. absurd (no_some m h) })
+    (record { stays = ap (λ (x : NodeState). x.id) (sym d.0); own = λ k m h. absurd (none-some m h) })
 
 entry_own : (b c : BookState) (e : Entry) → Follows b e c → IsOwn b.node (sends b e) c.node
 entry_own b c e f =
@@ -72,9 +72,9 @@ entry_own b c e f =
 
 from_own : (es : List Entry) (b c : BookState) (steps : List (Step Message)) → IsTraceFrom b es steps c → (id : ℕ) → b.node.id ≡ id
     → (k : ℕ) (t : Step Message) → slice_get steps k ≡ Some t → AreOwn id t.gives
-from_own [] b c steps r id named k t h = absurd (no_some t (ap (λ (x : List (Step Message)). slice_get x k) (sym r.0) ∙ h))
+from_own [] b c steps r id named k t h = absurd (none-some t (ap (λ (x : List (Step Message)). slice_get x k) (sym r.0) ∙ h))
 from_own (e ∷ es) b c steps r id named zero t h =
-    let first : step_of b e ≡ t = same_some (step_of b e) t (ap (λ (x : List (Step Message)). slice_get x 0) (sym r.3) ∙ h) in
+    let first : step_of b e ≡ t = same_Some (step_of b e) t (ap (λ (x : List (Step Message)). slice_get x 0) (sym r.3) ∙ h) in
     subst (λ (x : Step Message). AreOwn id x.gives) first (subst (λ (x : ℕ). AreOwn x (sends b e)) named (entry_own b r.0 e r.1).own)
 from_own (e ∷ es) b c steps r id named (suc k) t h =
     from_own es r.0 c r.2 r.4 id ((entry_own b r.0 e r.1).stays ∙ named) k t (ap (λ (x : List (Step Message)). slice_get x (suc k)) (sym r.3) ∙ h)
@@ -90,7 +90,7 @@ all_by : (b : BookState) (rest : List (Step Message)) (founders : Option (List �
     → ((k : ℕ) (t : Step Message) → slice_get rest k ≡ Some t → AreOwn b.id t.gives) → (k : ℕ) (t : Step Message)
     → slice_get (entering b founders ++ rest) k ≡ Some t → AreOwn b.id t.gives
 all_by b rest (Some ids) own k t h = own k t h
-all_by b rest None own zero t h = subst (λ (x : Step Message). AreOwn b.id x.gives) (same_some _ t h) (one_own b.id Enter)
+all_by b rest None own zero t h = subst (λ (x : Step Message). AreOwn b.id x.gives) (same_Some _ t h) (one_own b.id Enter)
 all_by b rest None own (suc k) t h = own k t h
 
 pub trace_own : (b : BookState) (steps : List (Step Message)) → IsTrace b steps → (k : ℕ) (t : Step Message) → slice_get steps k ≡ Some t → AreOwn b.id t.gives

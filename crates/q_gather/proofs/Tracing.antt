@@ -9,7 +9,7 @@ use Rattle.q_desk.specs.declared.journal.Entry.{Entry}
 use Rattle.q_book.specs.State.{BookState}
 use Rattle.q_book.specs.Books as book
 use Rattle.q_book.specs.Replays.{Replays, IsFirst, IsReplay}
-use Rattle.q_history.proofs.Lists.{same_some, no_some}
+use Rattle.q_history.proofs.Lists.{same_Some, none-some}
 use Rattle.q_book.proofs.Followed.{follows_one}
 use Rattle.q_gather.specs.Merging.{Step}
 use Rattle.q_gather.specs.Traces.{step_of, IsTraceFrom, entering, IsTrace}
@@ -54,10 +54,10 @@ trace_some b r =
 -- lists that have the same at each place
 same_lists : {X : Type 0} (xs ys : List X) → ((k : ℕ) → slice_get xs k ≡ slice_get ys k) → xs ≡ ys
 same_lists [] [] at = refl
-same_lists [] (y ∷ ys) at = absurd (no_some y (at 0))
-same_lists (x ∷ xs) [] at = absurd (no_some x (sym (at 0)))
+same_lists [] (y ∷ ys) at = absurd (none-some y (at 0))
+same_lists (x ∷ xs) [] at = absurd (none-some x (sym (at 0)))
 same_lists (x ∷ xs) (y ∷ ys) at =
-    let head = same_some x y (at 0) in
+    let head = same_Some x y (at 0) in
     let rest = same_lists xs ys (λ k. at (suc k)) in
     λ i. head i ∷ rest i
 

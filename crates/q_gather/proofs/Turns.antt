@@ -13,7 +13,7 @@ use Rattle.q_history.specs.declared.event.ClusterEvent.{ClusterEvent}
 use Rattle.q_history.specs.declared.event.ClusterEvent.TheVariants as event
 use Rattle.q_history.specs.Headline.{ClusterState}
 use Rattle.q_history.specs.Calls.{IsHistory}
-use Rattle.q_history.proofs.Lists.{same_some, no_some}
+use Rattle.q_history.proofs.Lists.{same_Some, none-some}
 use Rattle.q_history.proofs.Histories.{history_next}
 use Rattle.q_cluster.specs.Acts.{book_at}
 use Rattle.q_gather.specs.Merging.{Step, CanGo}
@@ -166,7 +166,7 @@ module _ {books : List BookState} {c : ClusterState} {lists : List Steps} (u : I
     pub next_is : slice_get lists k ≡ Some (s ∷ rest) → (ev : ClusterEvent) × IsNextOf c whole ev
     next_is at =
         let p = u.at k whole mine in
-        next_by p.2 (subst (IsAt c whole p.2) (same_some p.0 (s ∷ rest) (sym p.1 ∙ at)) p.3)
+        next_by p.2 (subst (IsAt c whole p.2) (same_Some p.0 (s ∷ rest) (sym p.1 ∙ at)) p.3)
 
   -- ---- after the turn
 
@@ -207,7 +207,7 @@ step_goes {books} {c} {lists} u k s rest at can =
     let b = u.few k (s ∷ rest) at in
     let ev = next_is u k b.1 s rest can at in
     let t = turn_of u k b.1 ev.0 ev.1 in
-    let parts = same_first t.step s t.rest rest (same_some (t.step ∷ t.rest) (s ∷ rest) (sym t.at ∙ at)) in (
+    let parts = same_first t.step s t.rest rest (same_Some (t.step ∷ t.rest) (s ∷ rest) (sym t.at ∙ at)) in (
       ev.0,
       subst (λ (x : Step Message). Goes books c lists k x rest ev.0) parts.0
           (subst (λ (x : Steps). Goes books c lists k t.step x ev.0) parts.1 (turn_goes u k b.1 ev.0 t)),
@@ -240,9 +240,9 @@ module _ (c later : ClusterState) where
   pub less_left : (books : List BookState) (k : ℕ) (whole : BookState) → slice_get books k ≡ Some whole
       → ((i : ℕ) (b : BookState) → slice_get books i ≡ Some b → (i ≡ k → ⊥) → left_of later b ≡ left_of c b) → left_of later whole < left_of c whole
       → all_left later books < all_left c books
-  less_left [] k whole at others less = absurd (no_some whole at)
+  less_left [] k whole at others less = absurd (none-some whole at)
   less_left (b ∷ bs) zero whole at others less =
-      let own : left_of later b < left_of c b = subst (λ (x : BookState). left_of later x < left_of c x) (sym (same_some b whole at)) less in
+      let own : left_of later b < left_of c b = subst (λ (x : BookState). left_of later x < left_of c x) (sym (same_Some b whole at)) less in
       let rest : all_left later bs ≡ all_left c bs = same_left bs (λ i x h. others (suc i) x h (λ e. absurd (cc))) in
       omega (arith, own, rest)
   less_left (b ∷ bs) (suc k) whole at others less =

@@ -7,7 +7,7 @@ use Rattle.std.proofs.lemmas.Option.{slice_get_within, slice_get_read}
 use Rattle.q_book.specs.State.{BookState}
 use Rattle.q_history.specs.declared.event.ClusterEvent.{ClusterEvent}
 use Rattle.q_history.specs.Headline.{ClusterState}
-use Rattle.q_history.proofs.Lists.{same_some}
+use Rattle.q_history.proofs.Lists.{same_Some}
 use Rattle.q_gather.specs.declared.rounds.Rounds.{Rounds}
 use Rattle.q_gather.specs.Gathering.{Finds, IsNextOf, IsNextAmong, AreIdle, AreWaiting, IsNextWithin}
 
@@ -49,7 +49,7 @@ module _ (c : ClusterState) (books : List BookState) where
     idle_by : (old : List ℕ) → IsIdle c own → AreIdle c books old → (k : ℕ) (b : BookState) (ev : ClusterEvent) (t : Bool) → nat_eq place k ≡ t
         → cond t true (list_any (nat_eq k) old) ≡ true → slice_get books k ≡ Some b → IsNextOf c b ev → ⊥
     idle_by old idle known k b ev true is among at next =
-        let same : own ≡ b = same_some own b (sym here ∙ ap (slice_get books) (eqb-true place k is) ∙ at) in
+        let same : own ≡ b = same_Some own b (sym here ∙ ap (slice_get books) (eqb-true place k is) ∙ at) in
         idle ev (subst (λ (x : BookState). IsNextOf c x ev) (sym same) next)
     idle_by old idle known k b ev false is among at next = known k b ev among at next
 
@@ -65,7 +65,7 @@ module _ (c : ClusterState) (books : List BookState) where
     none_at : IsIdle c own → IsNextWithin c books place (place + 1) None
     none_at idle k b ev low high at next =
         let same : place ≡ k = omega (arith, low, high) in
-        let one : own ≡ b = same_some own b (sym here ∙ ap (slice_get books) same ∙ at) in
+        let one : own ≡ b = same_Some own b (sym here ∙ ap (slice_get books) same ∙ at) in
         idle ev (subst (λ (x : BookState). IsNextOf c x ev) (sym one) next)
 
     -- what is found of it

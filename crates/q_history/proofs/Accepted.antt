@@ -22,7 +22,7 @@ use Rattle.sc_world.proofs.Ends.{moved_open}
 use Rattle.q_desk.proofs.Changes.{Told, left, began, took}
 use Rattle.q_book.specs.State.{BookState}
 use Rattle.q_book.proofs.Followed.{Deed, Leaves, Collects, Stores, Delivers, Idles, NodeDid}
-use Rattle.q_history.proofs.Lists.{no_some}
+use Rattle.q_history.proofs.Lists.{none-some}
 use Rattle.q_history.proofs.Ops.{IsOnward, after_onward}
 
 -- ---- an event of a node
@@ -56,7 +56,7 @@ module _ (w : WorldState) (n : NodeState) (r : Outcome) where
   module _ (id : ℕ) where
     -- an event that moves no operation
     pub still_onward : (e : WorldEvent) → r.progress ≡ None → IsOnward w.ops (after w e id r).ops
-    still_onward e still = after_onward w e id r (λ o in' k some by tagged. absurd (no_some k (sym still ∙ some)))
+    still_onward e still = after_onward w e id r (λ o in' k some by tagged. absurd (none-some k (sym still ∙ some)))
 
     -- a message that is delivered moves an operation that has not ended
     delivery_onward : (e : WorldEvent) (o : Option Message) → IsLinked w → fin.get w.nodes id ≡ Some n → delivers o n ≡ Ok r

@@ -19,7 +19,7 @@ use Rattle.sc_world.specs.Regular.{HasReturned}
 use Rattle.sc_world.specs.Ledgers.{recorded, stopped}
 use Rattle.sc_world.specs.Worlds as world
 use Rattle.sc_world.proofs.Finite.{get-insert_same}
-use Rattle.sc_world.proofs.Steps.{among-right}
+use Rattle.forms.proofs.Lists.{among_right}
 use Rattle.sc_world.proofs.EveryHistory.{IsLawful, step_lawful, lawful_ends}
 use Rattle.q_session.specs.declared.ran.Ran.{Ran}
 use Rattle.q_session.specs.declared.job.Job.{Job}
@@ -32,7 +32,7 @@ use Rattle.q_history.specs.Headline.{ClusterState}
 use Rattle.q_history.specs.World.{nodes_of, world as world_in}
 use Rattle.q_history.specs.Heads.{IsHeaded}
 use Rattle.q_history.specs.Clusters.{live_at, with_job}
-use Rattle.q_history.proofs.Lists.{same_some, no_some}
+use Rattle.q_history.proofs.Lists.{same_Some, none-some}
 use Rattle.q_history.proofs.Ops.{IsOnward, onward_itself, insert_same}
 use Rattle.q_history.proofs.World.{node_of, get-nodes, world_live, at_live}
 use Rattle.q_history.proofs.Accepted.{begun_op_by, outcome, Acted, ledger, act_step, act_onward, still_onward}
@@ -46,7 +46,7 @@ module _ (c : ClusterState) (kept : IsKept c) where
   -- the book that is there keeps what another keeps
   keeps_here : (id : ℕ) (b later : BookState) → fin.get c.books id ≡ Some b → Keeps b.desk later.desk → (x : BookState) → fin.get c.books id ≡ Some x
       → Keeps x.desk later.desk
-  keeps_here id b later at keeps x here = subst (λ (z : BookState). Keeps z.desk later.desk) (same_some b x (sym at ∙ here)) keeps
+  keeps_here id b later at keeps x here = subst (λ (z : BookState). Keeps z.desk later.desk) (same_Some b x (sym at ∙ here)) keeps
 
   -- the node is put in again as it was
   same_world : (id : ℕ) (b : BookState) → fin.get c.books id ≡ Some b → IsLawful (world_of (fin.insert (nodes_of c.books) id b.node) c.past)
@@ -67,7 +67,7 @@ module _ (c : ClusterState) (kept : IsKept c) where
   -- a founder is there, so a node that enters is none
   no_founder : (id : ℕ) (b : Bool) → set.contains (set.from_list {R = nat_cmp} c.past.founders) id ≡ b → fin.get c.books id ≡ None
       → (let o : Option (List ℕ) = None in o) ≡ cond b (Some c.past.founders) None
-  no_founder id true is none = let k = kept.founders id is in absurd (no_some k.0 (sym none ∙ k.1))
+  no_founder id true is none = let k = kept.founders id is in absurd (none-some k.0 (sym none ∙ k.1))
   no_founder id false is none = refl
 
   entered_head : (id : ℕ) → fin.get c.books id ≡ None → IsHeaded c id (book.entered c.version c.past.config id).0
@@ -82,9 +82,9 @@ module _ (c : ClusterState) (kept : IsKept c) where
       let e : WorldEvent = world_event.Enter id in
       let b : BookState = (book.entered c.version c.past.config id).0 in
       let absent : fin.get (nodes_of c.books) id ≡ None = get-nodes c.books id ∙ ap (option_map node_of) none in
-      put_desk c kept (recorded c.past e id r.outs None None) id b (λ x at. absurd (no_some x (sym none ∙ at)))
+      put_desk c kept (recorded c.past e id r.outs None None) id b (λ x at. absurd (none-some x (sym none ∙ at)))
       (lawful_next e id r (ap (world.enters w id) absent)) (still_onward w r.node r id e refl) (entered_head id none)
-      (record { tied = λ i q at. absurd (no_some q at); right = λ i q view ran at is. absurd (no_some q at) })
+      (record { tied = λ i q at. absurd (none-some q at); right = λ i q view ran at is. absurd (none-some q at) })
 
   crash_kept : (id : ℕ) (b : BookState) → live_at c id ≡ Some b → IsStep c (record c { past = stopped c.past id })
   crash_kept id b is =
@@ -126,8 +126,8 @@ module _ (c : ClusterState) (kept : IsKept c) where
       (record {
         lawful = same_world id b (at_live c id b live);
         onward = onward_itself c.past.ops;
-        begun = λ a is. absurd (no_some a is);
-        returned = λ x view is what. absurd (no_some x is);
+        begun = λ a is. absurd (none-some a is);
+        returned = λ x view is what. absurd (none-some x is);
       })
   acted_by id b live (Some e) r h =
       let w' : WorldState = world.after w e id r in
@@ -139,7 +139,7 @@ module _ (c : ClusterState) (kept : IsKept c) where
         begun = λ begun_op is.
             let o : Op = record { node = id; tag = begun_op.tag; begin = world.clock w; end = None; session = begun_op.session } in (
               o,
-              among-right o (map (world.advanced id (world.clock w) r.progress) w.ops) (world.op_begun id (world.clock w) r.begun)
+              among_right o (map (world.advanced id (world.clock w) r.progress) w.ops) (world.op_begun id (world.clock w) r.begun)
                   (subst (λ (x : Option BegunOp). Among o (world.op_begun id (world.clock w) x)) (sym is) (inl refl)),
               refl,
               refl,
@@ -168,7 +168,7 @@ module _ (c : ClusterState) (kept : IsKept c) where
     -- the job whose answer is recorded has its program at this desk
     due_known : (j : Job) → IsKnown c.books j → j.node ≡ k.id → slice_get k.book.desk.programs j.program ≡ Some j.certified
     due_known j known by =
-        ap (λ (x : BookState). slice_get x.desk.programs j.program) (same_some k.book known.book (sym at ∙ ap (fin.get c.books) (sym by) ∙ known.at))
+        ap (λ (x : BookState). slice_get x.desk.programs j.program) (same_Some k.book known.book (sym at ∙ ap (fin.get c.books) (sym by) ∙ known.at))
         ∙ known.certified
 
     owes : Owes c.past.ops p.ops did.onward k.id k.book.desk told

@@ -25,7 +25,7 @@ use Rattle.q_history.specs.World.{world as world_in}
 use Rattle.q_history.specs.Heads.{IsHeaded}
 use Rattle.q_history.specs.Clusters.{start}
 use Rattle.q_history.specs.Calls.{Follows, Reaches}
-use Rattle.q_history.proofs.Lists.{no_some}
+use Rattle.q_history.proofs.Lists.{none-some}
 use Rattle.q_history.proofs.World.{nodes-empty}
 use Rattle.q_history.proofs.Founders.{IsFounder, founder_nodes, every_founder, founder_there}
 use Rattle.q_history.proofs.Kept.{HasView, IsDeskOf, IsKept, IsStep, stays_itself, stays_on}
@@ -51,12 +51,12 @@ run_kept (e ∷ es) c d kept r =
 -- ---- what is said of answers
 
 pub returned_held : (k : OperationKind) (end : Option ℕ) (view : Option ViewMap) (v : ViewMap) → returned_by k end view ≡ Some v → view ≡ Some v
-returned_held (kind.Store e) end view v h = absurd (no_some v h)
-returned_held kind.Collect None view v h = absurd (no_some v h)
+returned_held (kind.Store e) end view v h = absurd (none-some v h)
+returned_held kind.Collect None view v h = absurd (none-some v h)
 returned_held kind.Collect (Some place) view v h = h
 
 has_view : (o : Op) (p : Phase) (view : ViewMap) → HasView o p → view_of p ≡ Some view → returned o ≡ Some view
-has_view o Collecting view h is = absurd (no_some view is)
+has_view o Collecting view h is = absurd (none-some view is)
 has_view o (Ready v) view h is = h ∙ is
 has_view o (Running v) view h is = h ∙ is
 has_view o (Answered v ran) view h is = h ∙ is
@@ -99,7 +99,7 @@ module _ (version : Version) (config : Config) (ids : List ℕ) where
   founder_desk : (id : ℕ) (b : BookState) → IsFounder version config ids id b → IsDeskOf [] id b.desk
   founder_desk id b f =
       subst (λ (x : BookState). IsDeskOf [] id x.desk) f.is
-      (record { tied = λ i q at. absurd (no_some q at); right = λ i q view ran at is. absurd (no_some q at) })
+      (record { tied = λ i q at. absurd (none-some q at); right = λ i q view ran at is. absurd (none-some q at) })
 
   pub start_kept : IsKept c
   start_kept = record {
@@ -107,7 +107,7 @@ module _ (version : Version) (config : Config) (ids : List ℕ) where
     headed = λ id b at. founder_head id b (every_founder version config ids id b at);
     founders = λ id listed. founder_there version config ids ids fin.empty id (inr listed);
     desks = λ id b at. founder_desk id b (every_founder version config ids id b at);
-    jobs = λ k j at. absurd (no_some j at);
+    jobs = λ k j at. absurd (none-some j at);
   }
 
   -- ---- what is said of all that events make of founders

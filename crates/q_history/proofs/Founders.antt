@@ -15,7 +15,7 @@ use Rattle.q_book.specs.Books.{new_book}
 use Rattle.q_history.specs.Headline.{BookMap}
 use Rattle.q_history.specs.World.{nodes_of}
 use Rattle.q_history.specs.Clusters.{books_with}
-use Rattle.q_history.proofs.Lists.{no_some}
+use Rattle.q_history.proofs.Lists.{none-some}
 use Rattle.q_history.proofs.Ops.{insert_get, insert_has, each_put}
 use Rattle.q_history.proofs.World.{nodes-insert}
 use Rattle.q_history.proofs.Kept.{IsAmong}
@@ -50,7 +50,7 @@ module _ (version : Version) (config : Config) (ids : List ℕ) where
       (each_put books p (founder_book p) IsFounder (record { listed = listed p (among_first p qs); is = refl }) old) id b at
 
   nowhere : (id : ℕ) (b : BookState) → fin.get (fin.empty {R = nat_cmp}) id ≡ Some b → IsFounder id b
-  nowhere id b at = absurd (no_some b (sym (fin.get-empty nat_cmp id) ∙ at))
+  nowhere id b at = absurd (none-some b (sym (fin.get-empty nat_cmp id) ∙ at))
 
   pub every_founder : (id : ℕ) (b : BookState) → fin.get (books_with version config ids fin.empty ids) id ≡ Some b → IsFounder id b
   every_founder = all_founders ids fin.empty (λ i in'. in') nowhere

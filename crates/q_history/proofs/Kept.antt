@@ -30,7 +30,7 @@ use Rattle.q_history.specs.World.{nodes_of, world}
 use Rattle.q_history.specs.Heads.{founders_for, IsHeaded}
 use Rattle.q_history.specs.Calls.{Answers}
 use Rattle.q_history.specs.Clusters.{with_job}
-use Rattle.q_history.proofs.Lists.{same_some, get_snoc}
+use Rattle.q_history.proofs.Lists.{same_Some, get_snoc}
 use Rattle.q_history.proofs.Ops.{IsOnward, insert_get, insert_has, each_put}
 use Rattle.q_history.proofs.World.{world_put}
 use Rattle.q_history.proofs.Called.{past_in, With}
@@ -158,7 +158,7 @@ module _ (ops later : List Op) (onward : IsOnward ops later) (id : ℕ) where
     moved_tied : (n : ℕ) (q : Query) (p : Phase) → slice_get d.queries n ≡ Some q → GoesOver d node n q p t o → IsTied later id (record q { phase = p })
     moved_tied n q p at (readied view r to none) = subst (λ (x : Phase). IsTied later id (record q { phase = x })) (sym to) (owes.returned q view r)
     moved_tied n q p at (handed j r of to some) =
-        let one : r.query ≡ q = same_some r.query q (sym r.at ∙ ap (slice_get d.queries) of ∙ at) in
+        let one : r.query ≡ q = same_Some r.query q (sym r.at ∙ ap (slice_get d.queries) of ∙ at) in
         rephased_tied q (Ready j.view) (Running j.view) p (sym (ap (λ (x : Query). x.phase) one) ∙ r.phase) (λ x h. h) to (k.tied n q at)
     moved_tied n q p at (recorded j view ran told runs fits to none) =
         rephased_tied q (Running view) (Answered view ran) p runs (λ x h. h) to (k.tied n q at)

@@ -16,9 +16,10 @@ use Rattle.sc_world.specs.Worlds.{clock, Outcome, advanced, op_begun, after}
 use Rattle.sc_world.specs.Records.{Among}
 use Rattle.sc_world.specs.Operations.{returned_by, returned}
 use Rattle.sc_world.proofs.Finite.{get-insert}
-use Rattle.sc_world.proofs.Steps.{among-left, among-image, advance_op}
+use Rattle.forms.proofs.Lists.{among_left}
+use Rattle.sc_world.proofs.Steps.{among-image, advance_op}
 use Rattle.sc_world.proofs.Telling.{same_start}
-use Rattle.q_history.proofs.Lists.{same_some}
+use Rattle.q_history.proofs.Lists.{same_Some}
 
 -- the operation is there later, and what it returned it returned for good
 pub record IsLater (ops : List Op) (o : Op) : Type 0 where
@@ -59,7 +60,7 @@ insert_has m k v q x false is at = (x, insert_get m k v q false is ∙ at)
 module _ {X : Type 0} (m : fin.FinMap nat_cmp X) (k : ℕ) (v : X) (P : ℕ → X → Type 0) where
   each_by : (q : ℕ) (x : X) (here : Bool) → (q == k) ≡ here → P k v → ((p : ℕ) (y : X) → fin.get m p ≡ Some y → P p y)
       → cond here (Some v) (fin.get m q) ≡ Some x → P q x
-  each_by q x true is new old at = subst (λ (p : ℕ). P p x) (sym (eqb-true q k is)) (subst (P k) (same_some v x at) new)
+  each_by q x true is new old at = subst (λ (p : ℕ). P p x) (sym (eqb-true q k is)) (subst (P k) (same_Some v x at) new)
   each_by q x false is new old at = old q x at
 
   -- what is true of each entry, and of one that is put in, is true of each then
@@ -87,7 +88,7 @@ module _ (w : WorldState) (e : WorldEvent) (q : ℕ) (r : Outcome) where
       let moved : Op → Op = advanced q (clock w) r.progress in
       record {
         op = moved o;
-        among = among-left (moved o) (map moved w.ops) (op_begun q (clock w) r.begun) (among-image moved o w.ops in');
+        among = among_left (moved o) (map moved w.ops) (op_begun q (clock w) r.begun) (among-image moved o w.ops in');
         by = k.node;
         tagged = k.tag;
         returned = kept_view r.progress o running;

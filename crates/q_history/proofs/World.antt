@@ -15,7 +15,7 @@ use Rattle.q_book.specs.State.{BookState}
 use Rattle.q_history.specs.Headline.{BookMap, ClusterState}
 use Rattle.q_history.specs.World.{nodes_of, world as world_in}
 use Rattle.q_history.specs.Clusters.{put, live, live_at}
-use Rattle.q_history.proofs.Lists.{no_some}
+use Rattle.q_history.proofs.Lists.{none-some}
 
 abbrev pub node_of : BookState → NodeState
 node_of b = b.node
@@ -67,12 +67,12 @@ pub world_live : (c : ClusterState) (id : ℕ) → world.live_at (world_in c) id
 world_live c id = ap (world.live (set.contains c.past.crashed id)) (get-nodes c.books id) ∙ live_node (set.contains c.past.crashed id) (fin.get c.books id)
 
 live-some : (crashed : Bool) (o : Option BookState) (b : BookState) → live crashed o ≡ Some b → o ≡ Some b
-live-some true o b h = absurd (no_some b h)
-live-some false None b h = absurd (no_some b h)
+live-some true o b h = absurd (none-some b h)
+live-some false None b h = absurd (none-some b h)
 live-some false (Some x) b h = go x.node.gone refl
   where
     go : (gone : Bool) → x.node.gone ≡ gone → Some x ≡ Some b
-    go true is = absurd (no_some b (ap (λ (g : Bool). let o : Option BookState = cond g None (Some x) in o) (sym is) ∙ h))
+    go true is = absurd (none-some b (ap (λ (g : Bool). let o : Option BookState = cond g None (Some x) in o) (sym is) ∙ h))
     go false is = ap (λ (g : Bool). let o : Option BookState = cond g None (Some x) in o) (sym is) ∙ h
 
 -- a book of a node that is there is a book

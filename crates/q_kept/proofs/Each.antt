@@ -1,9 +1,8 @@
 -- What holds of each letter that goes again.
-use Rattle.std.proofs.Common.{◌≡◌, ℕ, Bool, true, false, not, List, [], ◌∷◌, ◌++◌, map, filter, cond, refl, sym, subst, Option, Some, None, inl, inr}
-use Rattle.std.specs.Prelude.{if◌then◌else◌}
+use Rattle.std.proofs.Common.{◌≡◌, ℕ, Bool, true, not, List, [], ◌∷◌, ◌++◌, map, filter, refl, sym, subst, Option, Some, None, inl, inr}
 use Rattle.std.specs.FinSet as set
 use Rattle.std.specs.List.{AllByRecursion, AllZip, flat_map}
-use Rattle.std.proofs.lemmas.Bool.{not-true}
+use Rattle.std.proofs.lemmas.Bool.{cond_both, not-true}
 use Rattle.forms.specs.Lists.{Among}
 use Rattle.sc_msg.specs.declared.message.Body.{Body}
 use Rattle.sc_msg.specs.declared.message.Body.TheVariants.{Enter, Join, Leave}
@@ -28,19 +27,12 @@ all_flat_map : {X Y : Type 0} (P : X → Type 0) (Q : Y → Type 0) (f : X → L
 all_flat_map P Q f g [] h = tt
 all_flat_map P Q f g (x ∷ xs) h = all_both Q (f x) (flat_map f xs) (g x h.0) (all_flat_map P Q f g xs h.1)
 
-all_if : {X : Type 0} (P : X → Type 0) (xs : List X) (b : Bool) → (b ≡ true → AllByRecursion P xs) → AllByRecursion P (if b then xs else [])
-all_if P xs true g = g refl
-all_if P xs false g = tt
-
 -- what a filter keeps is among the elements, and passes the test
-filter_one : {X : Type 0} (P : X → Type 0) (x : X) (xs : List X) (b : Bool) → (b ≡ true → P x) → AllByRecursion P xs → AllByRecursion P (cond b (x ∷ xs) xs)
-filter_one P x xs true g h = (g refl, h)
-filter_one P x xs false g h = h
-
 all_filter : {X : Type 0} (P : X → Type 0) (test : X → Bool) (xs : List X) → ((x : X) → Among x xs → test x ≡ true → P x) → AllByRecursion P (filter test xs)
 all_filter P test [] g = tt
 all_filter P test (x ∷ xs) g =
-    filter_one P x (filter test xs) (test x) (g x (inl refl)) (all_filter P test xs (λ y among. g y (inr among)))
+    let others = all_filter P test xs (λ y among. g y (inr among)) in
+    cond_both (test x) (x ∷ filter test xs) (filter test xs) (AllByRecursion P) (λ passes. (g x (inl refl) passes, others)) (λ _. others)
 
 -- ---- to whom
 
@@ -74,9 +66,10 @@ module _ (n : NodeState) (nodes : List ℕ) where
         let test = λ (q : Question). is_kept n q.looks q.message.body in
         let kept = λ (q : Question). Among q questions × (test q ≡ true) in
         all_flat_map kept Asked (due_of v n nodes)
-        (λ q h. all_if Asked (map (message_to q.message) (targets n nodes q.message.body)) (is_due v q)
+        (λ q h. cond_both (is_due v q) (map (message_to q.message) (targets n nodes q.message.body)) [] (AllByRecursion Asked)
         (λ e. all_map (IsFor n nodes q.message.body) Asked (message_to q.message)
-        (λ to k. record { question = q; given = h.0; kept = h.1; due = e; message = refl; to = k }) (targets n nodes q.message.body) (for_each q.message.body)))
+        (λ to k. record { question = q; given = h.0; kept = h.1; due = e; message = refl; to = k }) (targets n nodes q.message.body) (for_each q.message.body))
+        (λ _. tt))
         (filter test questions) (all_filter kept test questions (λ q among t. (among, t)))
 
     goes_one : (a : Addressed) (l : Letter) → Asked a → Spells v a l → GoesAgain v n nodes questions l

@@ -3,7 +3,7 @@ use Rattle.std.proofs.Common.{◌≡◌, ℕ, ◌≤◌, Bool, true, false, List
 use Rattle.std.proofs.Common.{refl, sym, ap, ◌∙◌, append_assoc, append-nil, take-append-drop}
 use Rattle.std.proofs.lemmas.List.{take_all, take-append-le}
 use Rattle.std.proofs.lemmas.List.Concat.{flat_map-append}
-use Rattle.std.proofs.KnownBytes.{Appends-nil, Appends-trans}
+use Rattle.std.proofs.KnownBytes.{Appends-trans}
 use Rattle.std.specs.Prelude.{if◌then◌else◌}
 use Rattle.std.specs.List.{flat_map}
 use Rattle.std.specs.Io.KnownBytes.{Appends}
@@ -11,16 +11,13 @@ use Rattle.q_kept.specs.Recording.{AppendsPart}
 
 -- ---- beginnings that are appended
 
-pub part_none : (known : Option (List ℕ)) (bytes : List ℕ) → AppendsPart known known bytes
-part_none known bytes = record { part = []; rest = bytes; parts = refl; appended = Appends-nil known }
-
-pub part_all : (old new : Option (List ℕ)) (bytes : List ℕ) → Appends old new bytes → AppendsPart old new bytes
-part_all old new bytes h = record { part = bytes; rest = []; parts = append-nil bytes; appended = h }
+pub part_all : {old new : Option (List ℕ)} {bytes : List ℕ} → Appends old new bytes → AppendsPart old new bytes
+part_all {old} {new} {bytes} h = record { part = bytes; rest = []; parts = append-nil bytes; appended = h }
 
 -- a beginning behind all of what came before
-pub part_behind : (first old new : Option (List ℕ)) (before bytes : List ℕ) → Appends first old before → AppendsPart old new bytes
+pub part_behind : {first old new : Option (List ℕ)} (before : List ℕ) {bytes : List ℕ} → Appends first old before → AppendsPart old new bytes
     → AppendsPart first new (before ++ bytes)
-part_behind first old new before bytes h p = record {
+part_behind {first} {old} {new} before h p = record {
   part = before ++ p.part;
   rest = p.rest;
   parts = append_assoc before p.part p.rest ∙ ap (λ l. before ++ l) p.parts;
@@ -28,8 +25,8 @@ part_behind first old new before bytes h p = record {
 }
 
 -- a beginning of bytes that have more behind them
-pub part_more : (old new : Option (List ℕ)) (bytes more : List ℕ) → AppendsPart old new bytes → AppendsPart old new (bytes ++ more)
-part_more old new bytes more p = record {
+pub part_more : {old new : Option (List ℕ)} {bytes : List ℕ} (more : List ℕ) → AppendsPart old new bytes → AppendsPart old new (bytes ++ more)
+part_more more p = record {
   part = p.part;
   rest = p.rest ++ more;
   parts = sym (append_assoc p.part p.rest more) ∙ ap (λ l. l ++ more) p.parts;
@@ -41,7 +38,8 @@ part_more old new bytes more p = record {
 module _ {X : Type 0} (bytes_of : X → List ℕ) (head : List ℕ) where
   -- what is there and what lacks are the journal
   pub there_and_lacking : (begun : Bool) (n : ℕ) (es : List X) → (begun ≡ false → n ≡ 0)
-      → (if begun then head ++ flat_map bytes_of (take n es) else []) ++ ((if begun then [] else head) ++ flat_map bytes_of (drop n es)) ≡ head ++ flat_map bytes_of es
+      → (if begun then head ++ flat_map bytes_of (take n es) else []) ++ ((if begun then [] else head) ++ flat_map bytes_of (drop n es))
+      ≡ head ++ flat_map bytes_of es
   there_and_lacking true n es h =
       append_assoc head (flat_map bytes_of (take n es)) (flat_map bytes_of (drop n es))
       ∙ ap (λ l. head ++ l) (sym (flat_map-append bytes_of (take n es) (drop n es)) ∙ ap (flat_map bytes_of) (take-append-drop n es))

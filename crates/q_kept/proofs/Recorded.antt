@@ -1,39 +1,24 @@
 -- What stands in the file after a call, where so much of a journal stood there before.
-use Rattle.std.proofs.Common.{◌≡◌, ℕ, arith, true, false, Bool, List, [], ◌++◌, length, Option, refl, sym, ap, ◌∙◌, subst}
-use Rattle.std.specs.Prelude.{Result, Ok, Err, if◌then◌else◌}
+use Rattle.std.proofs.Common.{◌≡◌, ℕ, arith, true, false, Bool, List, ◌++◌, length, Option, refl, sym, ap, ◌∙◌, subst, Result, Ok, Err}
 use Rattle.std.specs.Io.KnownBytes.{Appends}
-use Rattle.std.proofs.KnownBytes.{Appends-nil, Appends-trans}
-use Rattle.q_desk.specs.declared.journal.Entry.{Entry}
+use Rattle.std.proofs.KnownBytes.{Appends-trans}
 use Rattle.q_book.specs.State.{BookState}
-use Rattle.q_replay.specs.Spelling.{head_bytes, event_bytes}
-use Rattle.q_replay.specs.Journal.{written_of, head_of, journal_of}
+use Rattle.q_replay.specs.Spelling.{head_bytes}
+use Rattle.q_replay.specs.Journal.{head_of, journal_of}
 use Rattle.q_kept.specs.State.{RecorderState}
 use Rattle.q_kept.specs.Recording.{AppendsPart, Breaks, Grows, IsRecorded, Records, RecordsAll, lacking_bytes, recorded_bytes}
 use Rattle.q_kept.specs.declared.fault.Unrecorded.{Unrecorded}
 use Rattle.q_kept.specs.declared.fault.Unrecorded.TheVariants.{Failed, OutOfMemory}
-use Rattle.q_kept.proofs.Parts.{part_none, part_all, part_behind, there_and_lacking, there_whole}
-use Rattle.q_kept.proofs.GrownJournals.{recorded_stays}
-
--- nothing is written yet
-pub recorded_none : (first : Option (List ℕ)) (b : BookState) (r : RecorderState) → r.file ≡ first → r.begun ≡ false → r.written ≡ 0 → IsRecorded first b r
-recorded_none first b r file begun written = record {
-  beginning = subst (λ (f : Option (List ℕ)). AppendsPart first f (journal_of b)) (sym file) (part_none first (journal_of b));
-  whole = λ _. subst (λ (f : Option (List ℕ)). Appends first f (recorded_bytes r b)) (sym file) (subst (Appends first first) (sym (nothing r.begun _ begun)) (Appends-nil first));
-  within = omega (arith, written);
-  unbegun = λ _. written;
-}
-  where
-    nothing : (b : Bool) (bytes : List ℕ) → b ≡ false → (if b then bytes else []) ≡ []
-    nothing true bytes e = absurd (cc)
-    nothing false bytes e = refl
+use Rattle.q_kept.proofs.Parts.{part_all, part_behind, there_and_lacking, there_whole}
+use Rattle.q_kept.proofs.GrownJournals.{journal_entry, recorded_stays}
 
 module _ (first : Option (List ℕ)) (b : BookState) (old : RecorderState) (i : IsRecorded first b old) where
   parts : recorded_bytes old b ++ lacking_bytes old b ≡ journal_of b
-  parts = there_and_lacking (λ (e : Entry). event_bytes b.version (written_of e)) (head_bytes (head_of b)) old.begun old.written b.desk.journal i.unbegun
+  parts = there_and_lacking (journal_entry b) (head_bytes (head_of b)) old.begun old.written b.desk.journal i.unbegun
 
   -- what was there and what lacked are the journal
   whole-all : (file : Option (List ℕ)) → old.broken ≡ false → Appends old.file file (lacking_bytes old b) → Appends first file (journal_of b)
-  whole-all file sound appended = subst (Appends first file) parts (Appends-trans first old.file file (recorded_bytes old b) (lacking_bytes old b) (i.whole sound) appended)
+  whole-all file sound appended = subst (Appends first file) parts (Appends-trans first old.file file _ _ (i.whole sound) appended)
 
   recorded-all : (new : RecorderState) → RecordsAll old b new → IsRecorded first b new
   recorded-all new r =
@@ -41,9 +26,9 @@ module _ (first : Option (List ℕ)) (b : BookState) (old : RecorderState) (i : 
       let written : new.written ≡ length b.desk.journal = ap (λ (x : RecorderState). x.written) r.counted in
       let all : Appends first new.file (journal_of b) = whole-all new.file r.sound r.appended in
       let same : recorded_bytes new b ≡ journal_of b =
-      there_whole (λ (e : Entry). event_bytes b.version (written_of e)) (head_bytes (head_of b)) new.begun new.written b.desk.journal begun (omega (arith, written)) in
+      there_whole (journal_entry b) (head_bytes (head_of b)) new.begun new.written b.desk.journal begun (omega (arith, written)) in
       record {
-        beginning = part_all first new.file (journal_of b) all;
+        beginning = part_all all;
         whole = λ _. subst (Appends first new.file) (sym same) all;
         within = omega (arith, written);
         unbegun = λ unbegun. absurd (cc (begun, unbegun));
@@ -56,7 +41,7 @@ module _ (first : Option (List ℕ)) (b : BookState) (old : RecorderState) (i : 
       let written : new.written ≡ old.written = ap (λ (x : RecorderState). x.written) r.broken in
       let broken : new.broken ≡ true = ap (λ (x : RecorderState). x.broken) r.broken in
       record {
-        beginning = subst (AppendsPart first new.file) parts (part_behind first old.file new.file (recorded_bytes old b) (lacking_bytes old b) (i.whole sound) r.appended);
+        beginning = subst (AppendsPart first new.file) parts (part_behind (recorded_bytes old b) (i.whole sound) r.appended);
         whole = λ sound. absurd (cc (broken, sound));
         within = omega (arith, written, i.within);
         unbegun = λ unbegun. written ∙ i.unbegun (sym begun ∙ unbegun);

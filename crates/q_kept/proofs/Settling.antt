@@ -18,8 +18,8 @@ use Rattle.q_kept.specs.State.{RecorderState}
 use Rattle.q_kept.specs.Recording.{Grows, IsRecorded, Records, RecordsAll}
 use Rattle.q_kept.specs.declared.fault.Unrecorded.{Unrecorded}
 use Rattle.q_kept.specs.declared.fault.Unrecorded.TheVariants.{Failed, OutOfMemory}
-use Rattle.q_kept.specs.Giving.{Gives, outbox}
-use Rattle.q_kept.specs.Settling.{GivesNone, GivesWritten, Pumps}
+use Rattle.q_kept.specs.Giving.{Gives, Outbox, outbox}
+use Rattle.q_kept.specs.Settling.{GivesWritten, Pumps}
 use Rattle.q_kept.specs.declared.letter.Letter.{Letter}
 use Rattle.q_kept.specs.declared.question.Question.{Question}
 
@@ -70,23 +70,21 @@ stays_broken old new b Failed r t = r.before t
 stays_broken old new b OutOfMemory r t = r.1
 
 -- one that records is not broken
-pub is_sound : (old new : RecorderState) (b : BookState) → RecordsAll old b new → old.broken ≡ true → ⊥
-is_sound old new b r t = let e : true ≡ false = sym t ∙ r.sound in absurd (cc)
+pub is_sound : {old new : RecorderState} {b : BookState} → RecordsAll old b new → old.broken ≡ true → ⊥
+is_sound r t = let e : true ≡ false = sym t ∙ r.sound in absurd (cc)
+
+-- what waits and what is counted stay, over what was given before
+pub same_outbox : (qs : List Question) {had has : List Message} {u w : Unsent} → has ≡ had → w ≡ u → outbox has qs w ≡ outbox had qs u
+same_outbox qs waits counts = λ i. outbox (waits i) qs (counts i)
 
 -- what was given after the book's journal was recorded, of a book that was b before the pump, c after it, and is d
-pub gives_written : (r r' : RecorderState) (b c d : BookState) (had pumped has : List Message) (qs asks : List Question) (u w x : Unsent) (ls : List Letter)
-    → Grows b c → d ≡ c → RecordsAll r c r'
-    → ((first : Option (List ℕ)) (e : BookState) → Grows e c → IsRecorded first e r → Appends first r'.file (journal_of c)) → pumped ≡ had → w ≡ u
-    → Gives c.version (outbox pumped qs w) ls (outbox has asks x) → GivesWritten r b d (outbox had qs u) ls r' (outbox has asks x)
-gives_written r r' b c d had pumped has qs asks u w x ls grows same records whole waits counts gives =
-    subst (λ (y : BookState). GivesWritten r b y (outbox had qs u) ls r' (outbox has asks x)) (sym same)
+pub gives_written : {r r' : RecorderState} {b c d : BookState} {old pumped new : Outbox} {ls : List Letter} → Grows b c → d ≡ c → RecordsAll r c r'
+    → ((first : Option (List ℕ)) (e : BookState) → Grows e c → IsRecorded first e r → Appends first r'.file (journal_of c)) → pumped ≡ old
+    → Gives c.version pumped ls new → GivesWritten r b d old ls r' new
+gives_written {r} {r'} {b} {c} {d} {old} {pumped} {new} {ls} grows same records whole waits gives =
+    subst (λ (x : BookState). GivesWritten r b x old ls r' new) (sym same)
     (record {
       written = records;
       whole = λ first h. whole first b grows h;
-      given = subst (λ o. Gives c.version o ls (outbox has asks x)) (λ i. outbox (waits i) qs (counts i)) gives;
+      given = subst (λ (o : Outbox). Gives c.version o ls new) waits gives;
     })
-
--- nothing was given
-pub gives_none : (r r' : RecorderState) (c : BookState) (had has : List Message) (qs : List Question) (u w : Unsent) (e : Unrecorded) → Records r c (Err e) r'
-    → has ≡ had → w ≡ u → GivesNone r c (outbox had qs u) r' (outbox has qs w)
-gives_none r r' c had has qs u w e records waits counts = record { why = e; unwritten = records; same = λ i. outbox (waits i) qs (counts i) }

@@ -1,5 +1,5 @@
 -- How a conversation at the console goes.
-use Rattle.std.specs.Prelude.{◌≡◌, ℕ, List, [], ◌∷◌, ◌++◌, Option, Some, None, Result, Ok, Err}
+use Rattle.std.specs.Prelude.{◌≡◌, ℕ, List, Option, Some, None, Result, Ok, Err}
 use Rattle.std.specs.Io.KnownBytes.{Appends}
 use Rattle.q_outside.specs.Counts.{one_more}
 use Rattle.q_node.specs.Console.{Converses, IsSaidTo}

@@ -5,7 +5,7 @@ use Rattle.std.proofs.lemmas.Bool.{and_parts, eqb-true, eq-eqb, cases_lt, both_w
 use Rattle.std.proofs.lemmas.Option.{slice_get_within}
 use Rattle.sc_world.specs.Records.{Among, AreDistinct}
 use Rattle.sc_world.specs.declared.op.Op.{Op}
-use Rattle.q_history.proofs.Lists.{same_some, no_some}
+use Rattle.q_history.proofs.Lists.{same_Some, none-some}
 use Rattle.q_nodes.specs.Found.{AreFiled}
 use Rattle.q_nodes.proofs.Turns.{place_of}
 
@@ -32,7 +32,7 @@ module _ (ops : List Op) (i : ℕ) (op : Op) (old new : Key → Option ℕ) (dis
       put (o.node, o.tag) ∙ ap (λ b. cond b (Some i) (old (o.node, o.tag))) same ∙ ap Some place
   filed_one k o less there false other =
       let away : k ≡ i → ⊥ = λ e.
-      let one : o ≡ op = same_some o op (sym there ∙ ap (slice_get ops) e ∙ at) in
+      let one : o ≡ op = same_Some o op (sym there ∙ ap (slice_get ops) e ∙ at) in
       both_ways _ other (subst (λ (x : Op). same_key (op.node, op.tag) (x.node, x.tag) ≡ true) (sym one) (key_again (op.node, op.tag))) in
       let before : k < i = elim (cases_lt k i) [
         | inl l ↦ l
@@ -59,17 +59,17 @@ module _ (ops : List Op) (find : Key → Option ℕ) (node tag : ℕ) (filed : A
       (there.0, there.1, subst (λ (n : ℕ). find (n, tag) ≡ Some there.0) by (subst (λ (t : ℕ). find (o.node, t) ≡ Some there.0) tagged found))
 
   pub not_filed : None ≡ find (node, tag) → (o : Op) → Among o ops → o.node ≡ node → o.tag ≡ tag → ⊥
-  not_filed none o among by tagged = let there = at_place o among by tagged in no_some there.0 (none ∙ there.2)
+  not_filed none o among by tagged = let there = at_place o among by tagged in none-some there.0 (none ∙ there.2)
 
   module _ {place : ℕ} (is : Some place ≡ find (node, tag)) where
     stands_there : (o : Op) → Among o ops → o.node ≡ node → o.tag ≡ tag → slice_get ops place ≡ Some o
     stands_there o among by tagged =
         let there = at_place o among by tagged in
-        ap (slice_get ops) (same_some place there.0 (is ∙ there.2)) ∙ there.1
+        ap (slice_get ops) (same_Some place there.0 (is ∙ there.2)) ∙ there.1
 
     pub past_all : slice_get ops place ≡ None → (o : Op) → Among o ops → o.node ≡ node → o.tag ≡ tag → ⊥
-    past_all none o among by tagged = no_some o (sym none ∙ stands_there o among by tagged)
+    past_all none o among by tagged = none-some o (sym none ∙ stands_there o among by tagged)
 
     -- the operation at the place is each of this node and tag
     pub is_that : {op : Op} → slice_get ops place ≡ Some op → (o : Op) → Among o ops → o.node ≡ node → o.tag ≡ tag → o ≡ op
-    is_that {op} at o among by tagged = same_some o op (sym (stands_there o among by tagged) ∙ at)
+    is_that {op} at o among by tagged = same_Some o op (sym (stands_there o among by tagged) ∙ at)

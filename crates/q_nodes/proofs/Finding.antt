@@ -13,7 +13,7 @@ use Rattle.q_session.specs.declared.query.Query.{Query}
 use Rattle.q_book.specs.State.{BookState}
 use Rattle.q_cluster.specs.Acts.{book_at}
 use Rattle.q_history.specs.Headline.{ClusterState}
-use Rattle.q_history.proofs.Lists.{same_some}
+use Rattle.q_history.proofs.Lists.{same_Some}
 use Rattle.q_script.specs.declared.call_line.CallLine.TheVariants as line
 use Rattle.q_nodes.specs.Found.{IsOnly}
 use Rattle.q_nodes.specs.Faults.{no_such_node}
@@ -29,8 +29,8 @@ pub program_is : (c : ClusterState) (node id : ℕ) (code : List ℕ) (b : BookS
     → MatchBool is (IsProgramOf c node id code) (IsProgramOf c node id code → ⊥)
 program_is c node id code b p true at has spelled = record { book = b; at = sym at; program = p; numbered = sym has; spelled = spelled }
 program_is c node id code b p false at has other = λ h.
-    let same : b ≡ h.book = same_some b h.book (at ∙ h.at) in
-    let one : h.program ≡ p = same_some h.program p (sym h.numbered ∙ ap (λ (x : BookState). slice_get x.desk.programs id) (sym same) ∙ sym has) in
+    let same : b ≡ h.book = same_Some b h.book (at ∙ h.at) in
+    let one : h.program ≡ p = same_Some h.program p (sym h.numbered ∙ ap (λ (x : BookState). slice_get x.desk.programs id) (sym same) ∙ sym has) in
     other (h.spelled ∙ ap (λ (x : Certificate). spelling x.text) one)
 
 -- ---- stores
@@ -78,8 +78,8 @@ module _ {c : ClusterState} {node query : ℕ} {x : Query} (s : StandsAt c node 
   -- the query that stands there is the one that is looked for
   that_query : (q : Query) → IsQueryOf c node query program start q → x ≡ q
   that_query q h =
-      let same : s.book ≡ h.book = same_some s.book h.book (s.at ∙ h.at) in
-      same_some x q (sym s.numbered ∙ ap (λ (y : BookState). slice_get y.desk.queries query) same ∙ h.numbered)
+      let same : s.book ≡ h.book = same_Some s.book h.book (s.at ∙ h.at) in
+      same_Some x q (sym s.numbered ∙ ap (λ (y : BookState). slice_get y.desk.queries query) same ∙ h.numbered)
 
   pub other_program : (x.program ≡ program → ⊥) → (q : Query) → IsQueryOf c node query program start q → ⊥
   other_program other q h = other (ap (λ (y : Query). y.program) (that_query q h) ∙ h.names)

@@ -3,7 +3,7 @@ use Rattle.std.proofs.Common.{◌≡◌, ℕ, ◌+◌, ◌<◌, ◌≤◌, List,
 use Rattle.std.proofs.lemmas.Bool.{cases_lt}
 use Rattle.std.proofs.lemmas.Option.{slice_get_within}
 use Rattle.q_book.specs.State.{BookState}
-use Rattle.q_history.proofs.Lists.{same_some}
+use Rattle.q_history.proofs.Lists.{same_Some}
 use Rattle.q_nodes.specs.Books.{AreBooksOf}
 use Rattle.q_book.specs.Replays.{IsBookOf}
 
@@ -18,7 +18,7 @@ book_next books n b below at is k x lt at_k =
       | inl before ↦ below k x before at_k
       | inr behind ↦
           let e : k ≡ n = omega (arith, lt, behind) in
-          let same : b ≡ x = same_some b x (sym at ∙ subst (λ (i : ℕ). slice_get books i ≡ Some x) e at_k) in
+          let same : b ≡ x = same_Some b x (sym at ∙ subst (λ (i : ℕ). slice_get books i ≡ Some x) e at_k) in
           subst (λ (i : ℕ). IsBookOf (i + 1) x) (sym e) (subst (IsBookOf (n + 1)) same is)
     ]
 

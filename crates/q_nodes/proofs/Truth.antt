@@ -15,7 +15,7 @@ use Rattle.q_history.specs.Calls.{IsHistory, Reaches}
 use Rattle.q_history.specs.Clusters.{start}
 use Rattle.q_history.specs.Headline as headline
 use Rattle.q_history.specs.Headline.{ClusterState}
-use Rattle.q_history.proofs.Lists.{same_some, no_some}
+use Rattle.q_history.proofs.Lists.{same_Some, none-some}
 use Rattle.q_gather.specs.Gather.{GathersBooks}
 use Rattle.q_script.specs.declared.call_line.CallLine.TheVariants as line
 use Rattle.q_nodes.specs.Headline.{AnswersAreTrue, IsTrueAnswer}
@@ -39,10 +39,10 @@ cluster_of_books script c books gathers founded = record { history = gathers.gat
 -- ---- its answers
 
 answered_by : (p : Phase) (ran : Ran) → Some ran ≡ answer_in p → (view : ViewMap) × (p ≡ Answered view ran)
-answered_by Collecting ran e = absurd (no_some ran (sym e))
-answered_by (Ready view) ran e = absurd (no_some ran (sym e))
-answered_by (Running view) ran e = absurd (no_some ran (sym e))
-answered_by (Answered view r) ran e = (view, ap (Answered view) (same_some r ran (sym e)))
+answered_by Collecting ran e = absurd (none-some ran (sym e))
+answered_by (Ready view) ran e = absurd (none-some ran (sym e))
+answered_by (Running view) ran e = absurd (none-some ran (sym e))
+answered_by (Answered view r) ran e = (view, ap (Answered view) (same_Some r ran (sym e)))
 
 -- each recorded answer of every history is true
 abbrev pub EveryAnswer : Type 0

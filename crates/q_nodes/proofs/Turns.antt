@@ -5,7 +5,7 @@ use Rattle.std.proofs.lemmas.List.{take_more}
 use Rattle.std.proofs.lemmas.Slice.Zip.{all_zipped_more}
 use Rattle.std.proofs.lemmas.Option.{slice_get_read}
 use Rattle.sc_world.specs.Records.{Among}
-use Rattle.q_history.proofs.Lists.{same_some, no_some}
+use Rattle.q_history.proofs.Lists.{same_Some, none-some}
 
 -- one more of each, where the first list is gone through
 pub turn_next : {A B : Type 0} (P : A → B → Type 0) (xs : List A) (i : ℕ) (x : A) (ys : List B) {new : List B} {y : B} → i < length xs
@@ -17,10 +17,10 @@ turn_next {A} {B} P xs i x ys {new} {y} inside read pushed before now =
 
 pub turn_at : {A B : Type 0} (P : A → B → Type 0) (xs : List A) (ys : List B) (k : ℕ) (x : A) (y : B) → AllZip P xs ys → slice_get xs k ≡ Some x
     → slice_get ys k ≡ Some y → P x y
-turn_at P [] ys k x y h at_x at_y = absurd (no_some x at_x)
+turn_at P [] ys k x y h at_x at_y = absurd (none-some x at_x)
 turn_at P (a ∷ xs) [] k x y h at_x at_y = absurd h
 turn_at {A} {B} P (a ∷ xs) (b ∷ ys) zero x y h at_x at_y =
-    subst (λ (z : A). P z y) (same_some a x at_x) (subst (λ (z : B). P a z) (same_some b y at_y) h.0)
+    subst (λ (z : A). P z y) (same_Some a x at_x) (subst (λ (z : B). P a z) (same_Some b y at_y) h.0)
 turn_at P (a ∷ xs) (b ∷ ys) (suc k) x y h at_x at_y = turn_at P xs ys k x y h.1 at_x at_y
 
 -- the same of elements as they are read

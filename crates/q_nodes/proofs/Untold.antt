@@ -11,7 +11,7 @@ use Rattle.q_book.specs.State.{BookState}
 use Rattle.q_cluster.specs.Acts.{book_at}
 use Rattle.q_history.specs.Headline.{ClusterState}
 use Rattle.q_history.proofs.Histories.{history_kept}
-use Rattle.q_history.proofs.Lists.{no_some, same_some}
+use Rattle.q_history.proofs.Lists.{none-some, same_Some}
 use Rattle.q_gather.specs.Gather.{Agree, AreRefused, GathersBooks}
 use Rattle.q_gather.specs.declared.fault.GatherFault.{GatherFault}
 use Rattle.q_gather.specs.declared.fault.GatherFault.TheVariants.{Journal, IdUsed, BadFounders, NeverSent, OutOfMemory}
@@ -61,8 +61,8 @@ no_fault books OutOfMemory agree h e = absurd (cc)
 
 all_listed : (t : Bool) (ids few : List ℕ) → (let o : Option (List ℕ) = cond t (Some ids) None in o) ≡ Some few
     → ids ≡ few
-all_listed true ids few is = same_some ids few is
-all_listed false ids few is = absurd (no_some few is)
+all_listed true ids few is = same_Some ids few is
+all_listed false ids few is = absurd (none-some few is)
 
 module _ (s : ClusterScript) (b : BookState) (one : s.nodes ≡ 1) (config : s.config ≡ b.config)
     (founders : b.founders ≡ Some (1 ∷ [])) where

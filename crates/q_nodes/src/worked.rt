@@ -91,7 +91,6 @@ pub fn worked_texts()
 
 /// What calls of books come to.
 pub fn worked_calls()
-    ensures of_one_node { (b : BookState) → IsBookOf 1 b → IsBookOf 2 b → ⊥ }
     ensures no_such_store { (tag : ℕ) → ((b c : BookState) (a : Started) → IsBookOf 1 b → stored b (value_bytes 7) ≡ Ok (a, c) → ⊥) → BeginsStore 1 (value_bytes 7) (outcome.Stored tag) → ⊥ }
     ensures no_such_program { (program : Certificate) → ((b c : BookState) → IsBookOf 1 b → registered b program ≡ Ok (0, c) → ⊥) → Registers 1 program (outcome.Registered 0) → ⊥ }
 {}

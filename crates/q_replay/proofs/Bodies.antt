@@ -1,6 +1,6 @@
 -- Bodies that are those of no event of their kind.
-use Rattle.std.proofs.Common.{◌≡◌, ℕ, ◌<◌, List, ◌++◌, length, Option, Result, Err, refl, sym, ap, ◌∙◌, arith, length-append}
-use Rattle.std.specs.Prelude.{IfErr}
+use Rattle.std.proofs.Common.{◌≡◌, ℕ, ◌<◌, List, ◌++◌, length, Option, Result, refl, sym, ap, ◌∙◌, arith, length-append}
+use Rattle.std.specs.Prelude.{IfErr, IsErrAnd}
 use Rattle.bq_insn.specs.declared.insn.Insn.{Insn}
 use Rattle.bq_insn.specs.Slots.{spelling, IsText}
 use Rattle.bq_insn.specs.declared.fault.DecodeFault.{DecodeFault}
@@ -90,16 +90,18 @@ module _ (version : Version) {body : List ℕ} where
           ∙ ap (λ (l : List ℕ). number_bytes 4 (length (spelling t)) ++ l) texts
 
       -- a part was refused
-      module _ {A : Type 0} (r : Result A ReadFault) {e : ReadFault} (failed : r ≡ Err e) where
-        pub text_refused : (d : DecodeFault) → e ≡ of_text d → ((t : List Insn) → IsText t → front ≡ spelling t → d ≡ texts.OutOfMemory)
+      module _ {A : Type 0} (r : Result A ReadFault) where
+        part_refused : {F : Type 0} (of : F → ReadFault) (out d : F) → of out ≡ OutOfMemory → IsErrAnd r (λ e. e ≡ of d)
+            → ((t : List Insn) (ns : List (Option StateKinds)) → IsText t → IsNotes (notes_form version) ns → Registered version body t ns → d ≡ out)
             → IfErr r (λ f. f ≡ Form → IsNoBody version 2 body)
-        text_refused d of all =
-            passed (IsNoBody version 2 body) r e failed
-            (λ form. no_register (λ t ns p q h. part_fault of_text texts.OutOfMemory d e refl of form (all t p (notes_follow t ns p h).0)))
+        part_refused of out d memory failed all =
+            passed (IsNoBody version 2 body) r failed (λ e told form. no_register (λ t ns p q h. part_fault of out d e memory told form (all t ns p q h)))
 
-        pub notes_refused : (d : NotesFault) → e ≡ of_notes d
+        pub text_refused : (d : DecodeFault) → IsErrAnd r (λ e. e ≡ of_text d)
+            → ((t : List Insn) → IsText t → front ≡ spelling t → d ≡ texts.OutOfMemory) → IfErr r (λ f. f ≡ Form → IsNoBody version 2 body)
+        text_refused d failed all = part_refused of_text texts.OutOfMemory d refl failed (λ t ns p q h. all t p (notes_follow t ns p h).0)
+
+        pub notes_refused : (d : NotesFault) → IsErrAnd r (λ e. e ≡ of_notes d)
             → ((ns : List (Option StateKinds)) → IsNotes (notes_form version) ns → behind ≡ notes_bytes (notes_form version) ns → d ≡ notes.OutOfMemory)
             → IfErr r (λ f. f ≡ Form → IsNoBody version 2 body)
-        notes_refused d of all =
-            passed (IsNoBody version 2 body) r e failed
-            (λ form. no_register (λ t ns p q h. part_fault of_notes notes.OutOfMemory d e refl of form (all ns q (notes_follow t ns p h).1)))
+        notes_refused d failed all = part_refused of_notes notes.OutOfMemory d refl failed (λ t ns p q h. all ns q (notes_follow t ns p h).1)

@@ -32,7 +32,7 @@ use Rattle.q_replay.specs.Taking.{of_book, Beginning, Taking}
 use Rattle.q_replay.specs.declared.fault.ReplayFault.TheVariants as fault
 use Rattle.q_replay.specs.declared.refusal.Refusal.{Refusal}
 use Rattle.q_replay.specs.declared.refusal.Refusal.TheVariants.{Mismatch, OutOfMemory}
-use Rattle.q_replay.proofs.Lists.{same_some, no_refusal}
+use Rattle.q_replay.proofs.Lists.{same_Some, no_refusal}
 use Rattle.q_replay.proofs.Posting.{job_runs, own_posts}
 use Rattle.q_book.proofs.Followed.{is_posted, posted-accepted}
 use Rattle.q_replay.proofs.Entries.{OneLongest, OneAnswer, right_one, takes_as}
@@ -68,7 +68,7 @@ unbegun h f (Err OutOfMemory) is told = tt
 pub answer_same : OneAnswer → (b : BookState) (k : ℕ) (f : Finished) (other : Ran) → IsFinished f → running_job b.desk b.id k ≡ Some f.job
     → IsAnswering b (entry.Post k other) → f.ran ≡ other
 answer_same one b k f other right runs a =
-    let same : a.0 ≡ f.job = same_some a.0 f.job (sym a.1 ∙ runs) in
+    let same : a.0 ≡ f.job = same_Some a.0 f.job (sym a.1 ∙ runs) in
     right_one one f.job f.ran other right (subst (λ (x : Job). IsRight x.certified x.view x.start other) same a.2)
 
 -- where some job's answer is recorded, so is that of the query's own job

@@ -24,7 +24,7 @@ use Rattle.q_replay.specs.declared.raw_entry.RawEntry.TheVariants as written
 use Rattle.q_desk.specs.Desks.{running_job}
 use Rattle.q_replay.specs.Journal.{written_of, IsCertifiedEntry, IsEntry}
 use Rattle.q_replay.specs.Replayed.{IsAnswering, Takes}
-use Rattle.q_replay.proofs.Lists.{same_some}
+use Rattle.q_replay.proofs.Lists.{same_Some}
 use Rattle.q_desk.proofs.Accepted.{Keeps}
 use Rattle.q_desk.proofs.Own.{job_by}
 use Rattle.q_replay.proofs.Posting.{posted_runs, posted_at_query}
@@ -109,7 +109,7 @@ answering s t b (entry.Post query ran) f later right =
     let keeps = (follows-accepted s (entry.Post query ran) t f).keeps in
     let named : slice_get b.desk.programs p.query.program ≡ Some run.program =
     later.programs p.query.program run.program (keeps.programs p.query.program run.program run.named) in
-    let same : a.program ≡ run.program = same_some a.program run.program (sym a.named ∙ named) in
+    let same : a.program ≡ run.program = same_Some a.program run.program (sym a.named ∙ named) in
     let own : IsRight run.program p.view p.query.start ran = subst (λ (c : Certificate). IsRight c p.view p.query.start ran) same a.right in
     subst (Answers s ran) f.1 (job_by s.id j.query p.query p.view run.program, run.is, own)
 answering s t b e f later right = tt

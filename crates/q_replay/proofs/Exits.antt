@@ -1,6 +1,5 @@
 -- What the exit of a `?` says.
-use Rattle.std.proofs.Common.{◌≡◌, Result, Ok, Err, subst, sym}
-use Rattle.std.specs.Prelude.{IfErr, OnErr}
+use Rattle.std.proofs.Common.{◌≡◌, Result, Ok, Err, IfErr, IsErrAnd, OnErr}
 use Rattle.q_replay.specs.declared.read.ReadFault.{ReadFault}
 use Rattle.q_replay.specs.declared.read.ReadFault.TheVariants.{Form}
 
@@ -14,7 +13,7 @@ no_form (Ok a) p = tt
 no_form (Err e) p = λ is. p
 
 -- where it is one of form
-pub passed : {A : Type 0} (P : Type 0) (r : Result A ReadFault) (e : ReadFault) → r ≡ Err e → (e ≡ Form → P) → IfErr r (λ d. d ≡ Form → P)
-passed {A = A} P r e is says =
-    let Q : Result A ReadFault → Type 0 = λ s. IfErr s (λ d. d ≡ Form → P) in
-    subst Q (sym is) says
+pub passed : {A : Type 0} {Q : ReadFault → Type 0} (P : Type 0) (r : Result A ReadFault) → IsErrAnd r Q
+    → ((e : ReadFault) → Q e → e ≡ Form → P) → IfErr r (λ d. d ≡ Form → P)
+passed P (Ok a) told says = tt
+passed P (Err e) told says = says e told

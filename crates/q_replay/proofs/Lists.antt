@@ -2,7 +2,7 @@
 use Rattle.std.proofs.Common.{◌≡◌, ◌≢◌, ◌≤◌, ℕ, length, arith, List, [], ◌∷◌, refl}
 pub use Rattle.spelling.proofs.Codes.{all_push}
 pub use Rattle.q_desk.proofs.Lists.{get-same}
-pub use Rattle.q_desk.proofs.Accepted.{same_some, no_some, same_answer, no_refusal}
+pub use Rattle.q_desk.proofs.Accepted.{same_Some, none-some, same_answer, no_refusal}
 
 pub no_cons : (x : ℕ) (xs : List ℕ) → [] ≡ x ∷ xs → ⊥
 no_cons x xs h = absurd (cc)

@@ -19,7 +19,7 @@ use Rattle.q_desk.proofs.Accepted.{answered, IsPosted}
 use Rattle.q_desk.proofs.Own.{job_by, some_program, same_bytes, same_number, own_fits}
 use Rattle.q_table.specs.Programs.{is_same_text}
 use Rattle.bq_insn.specs.Slots.{spelling}
-use Rattle.q_replay.proofs.Lists.{same_some, no_some, get-same}
+use Rattle.q_replay.proofs.Lists.{same_Some, none-some, get-same}
 
 -- ---- jobs of queries that run
 
@@ -42,14 +42,14 @@ module _ (d : DeskState) (node k : ℕ) where
   job_of-runs : (q : Query) (p : Phase) (c : Option Certificate) (j : Job) → slice_get d.queries k ≡ Some q → q.phase ≡ p
       → slice_get d.programs q.program ≡ c → job_on node k q (running_view p) c ≡ Some j → Runs d node k j
   job_of-runs q (Running view) (Some c) j at is named h =
-      record { query = q; view = view; program = c; at = at; phase = is; named = named; is = same_some _ j h }
-  job_of-runs q (Running view) None j at is named h = absurd (no_some j h)
-  job_of-runs q Collecting c j at is named h = absurd (no_some j h)
-  job_of-runs q (Ready view) c j at is named h = absurd (no_some j h)
-  job_of-runs q (Answered view ran) c j at is named h = absurd (no_some j h)
+      record { query = q; view = view; program = c; at = at; phase = is; named = named; is = same_Some _ j h }
+  job_of-runs q (Running view) None j at is named h = absurd (none-some j h)
+  job_of-runs q Collecting c j at is named h = absurd (none-some j h)
+  job_of-runs q (Ready view) c j at is named h = absurd (none-some j h)
+  job_of-runs q (Answered view ran) c j at is named h = absurd (none-some j h)
 
   job_at-runs : (o : Option Query) (j : Job) → slice_get d.queries k ≡ o → job_at running_view d node k o ≡ Some j → Runs d node k j
-  job_at-runs None j at h = absurd (no_some j h)
+  job_at-runs None j at h = absurd (none-some j h)
   job_at-runs (Some q) j at h = job_of-runs q q.phase (slice_get d.programs q.program) j at refl refl h
 
   pub job_runs : (j : Job) → running_job d node k ≡ Some j → Runs d node k j

@@ -1,10 +1,8 @@
 -- How long the parts of heads and events are.
-use Rattle.std.proofs.Common.{◌≡◌, ℕ, ◌+◌, ◌*◌, ◌^◌, ◌<◌, ◌≤◌, List, [], ◌∷◌, length, Option, Some, None, refl, arith, length-append}
+use Rattle.std.proofs.Common.{◌≡◌, ℕ, ◌+◌, ◌*◌, ◌^◌, ◌<◌, ◌≤◌, List, [], ◌∷◌, length, Option, Some, None, arith, length-append}
 use Rattle.std.specs.List.{flat_map, AllByRecursion}
 use Rattle.bq_insn.specs.declared.insn.Insn.{Insn}
-use Rattle.bq_insn.specs.Insn.{insn_bytes}
-use Rattle.bq_insn.specs.Slots.{slots_of, slots, units, spelling, IsText}
-use Rattle.bq_insn.proofs.Reading.{length-insn_bytes}
+use Rattle.bq_insn.specs.Slots.{spelling, IsText}
 use Rattle.bq_insn.proofs.Unique.{length-spelling}
 use Rattle.bq_state.specs.declared.kind.Kind.{Kind}
 use Rattle.bq_state.specs.Kinds.{StateKinds}

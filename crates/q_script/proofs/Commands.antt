@@ -1,11 +1,12 @@
 -- The table has all commands, and each word is that of one command.
-use Rattle.std.proofs.Common.{◌≡◌, ◌≢◌, ℕ, Bool, true, true≢false, false, cond, eqb, not, List, [], ◌∷◌, Option, Some, None, refl, ap, sym, ◌∙◌, inl, inr, ◌⊎◌}
+use Rattle.std.proofs.Common.{◌≡◌, ◌≢◌, ℕ, Bool, true, false, cond, eqb, not, List, [], ◌∷◌, Option, Some, None, refl, ap, sym, ◌∙◌, inl, inr, ◌⊎◌}
 use Rattle.std.specs.Prelude.{MatchOption, find}
 use Rattle.std.specs.Str.{bytes_eq}
 use Rattle.std.specs.List.{list_all}
-use Rattle.std.proofs.lemmas.Bool.{and_parts, eq-eqb, not-true}
+use Rattle.std.proofs.lemmas.Bool.{eqb-false, not-true}
 use Rattle.std.proofs.lemmas.Option.{none-some}
 use Rattle.std.proofs.lemmas.Slice.Eq.{bytes_eq-Decides}
+use Rattle.spelling.proofs.Lists.{all_passed}
 use Rattle.q_script.specs.declared.command.TheConstants as consts
 use Rattle.q_script.specs.declared.command.Command.{Command}
 use Rattle.q_script.specs.declared.command.Command.TheVariants.{Program}
@@ -50,9 +51,7 @@ abbrev are_not : ℕ → List ℕ → Bool
 are_not c s = list_all (λ d. not (eqb d c)) s
 
 lacks_by_test : (c : ℕ) (s : List ℕ) → are_not c s ≡ true → Lacks c s
-lacks_by_test c [] h = tt
-lacks_by_test c (d ∷ s) h =
-    let p = and_parts _ _ h in ((λ e. true≢false (sym (eq-eqb d c e) ∙ not-true (eqb d c) p.0)), lacks_by_test c s p.1)
+lacks_by_test c s = all_passed (λ d. d ≢ c) (λ d. not (eqb d c)) (λ d other. eqb-false d c (not-true (eqb d c) other)) s
 
 name_test : (c : Command) → are_not 32 (name c) ≡ true
 name_test Program = refl

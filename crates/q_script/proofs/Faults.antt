@@ -1,8 +1,8 @@
 -- The first faulty line of a list of records.
-use Rattle.std.proofs.Common.{◌≡◌, ℕ, ◌+◌, ◌≤◌, ◌<◌, ◌==◌, Bool, true≢false, false, take, drop, get_or, ap, sym, ◌∙◌, subst, arith, refl}
+use Rattle.std.proofs.Common.{◌≡◌, ℕ, ◌+◌, ◌≤◌, ◌<◌, ◌==◌, Bool, false, take, drop, get_or, ap, sym, ◌∙◌, subst, arith, refl}
 use Rattle.std.specs.Prelude.{Option, Some, None, List, [], ◌∷◌, ◌++◌, length}
 use Rattle.std.specs.FinMap as fin
-use Rattle.std.proofs.lemmas.Bool.{eq-eqb}
+use Rattle.std.proofs.lemmas.Bool.{eqb-false}
 use Rattle.std.proofs.lemmas.Slice.Zip.{AllZip-long}
 use Rattle.bq_range.specs.Interval.{Interval}
 use Rattle.sc_view.specs.declared.view.Stored.{Stored}
@@ -58,4 +58,4 @@ read_more {l = l} {done = done} t {view = view} {records = records} entry k h p 
 }
 
 pub not_empty : (n : ℕ) (b : Bool) → b ≡ (n == 0) → b ≡ false → n ≡ 0 → ⊥
-not_empty n b e f z = true≢false (sym (e ∙ eq-eqb n 0 z) ∙ f)
+not_empty n b e f = eqb-false n 0 (sym e ∙ f)

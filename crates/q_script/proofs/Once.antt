@@ -1,12 +1,12 @@
 -- A text spells one heading and one list of nodes.
-use Rattle.std.proofs.Common.{◌≡◌, ℕ, ◌<◌, Bool, true, false, List, [], ◌∷◌, get_or, refl, ap, sym, ◌∙◌, subst, arith, lit<}
+use Rattle.std.proofs.Common.{◌≡◌, ℕ, Bool, true, false, List, [], ◌∷◌, get_or, refl, ap, sym, ◌∙◌, subst, arith, lit<}
 use Rattle.std.specs.Prelude.{codes}
 use Rattle.std.specs.List.{AllZip}
 use Rattle.std.proofs.NetLemmas.Theorems.{IsSocketText_unique}
 use Rattle.std.specs.Net.Grammar.{IsSocketText}
 use Rattle.sc_members.specs.declared.config.Fraction.{Fraction}
 use Rattle.q_script.specs.Words.{IsFollowed}
-use Rattle.q_script.proofs.Parts.{cut_once}
+use Rattle.q_script.proofs.Parts.{cut_once, same_lines}
 use Rattle.q_script.proofs.Pairs.{followed_once, number_once}
 use Rattle.q_script.specs.declared.node_line.Heading.{Heading}
 use Rattle.q_script.specs.declared.node_line.NodeLine.{NodeLine}
@@ -50,9 +50,6 @@ nodes_once [] [] (n ∷ ns) h k = absurd k
 nodes_once (l ∷ lines) [] ns h k = absurd h
 nodes_once (l ∷ lines) (m ∷ ms) [] h k = absurd k
 nodes_once (l ∷ lines) (m ∷ ms) (n ∷ ns) h k = ap (λ x. x ∷ ms) (node_once l m n h.0 k.0) ∙ ap (λ xs. n ∷ xs) (nodes_once lines ms ns h.1 k.1)
-
-same_lines : {x y : List ℕ} {xs ys : List (List ℕ)} → x ∷ xs ≡ y ∷ ys → (x ≡ y) × (xs ≡ ys)
-same_lines e = (cc, cc)
 
 pub list_once : (text : List ℕ) (d e : Heading) (ms ns : List NodeLine) → IsListOf text d ms → IsListOf text e ns → (d ≡ e) × (ms ≡ ns)
 list_once text d e ms ns h k =

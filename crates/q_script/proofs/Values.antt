@@ -6,6 +6,7 @@ use Rattle.std.specs.declared.alloc.Global.{Global}
 use Rattle.std.specs.Char.{is_ascii_digit, is_ascii_hexdigit}
 use Rattle.std.specs.List.{AllPass, list_all, slice_index_or}
 use Rattle.std.proofs.lemmas.Fmt.{digits_decimal}
+use Rattle.spelling.proofs.Codes.{one_byte}
 use Rattle.spelling.proofs.Decimal.{own}
 use Rattle.hex.specs.Hex.{decode_of, decode_sized, is_hex_digit}
 use Rattle.hex.specs.declared.error.FromHexError.{FromHexError}
@@ -76,16 +77,13 @@ no_numeral s n h other = true≢false (sym (digits_decimal own n h.0) ∙ ap (li
 no_x : (s digits : List ℕ) (n : ℕ) → s ≡ 120 ∷ digits → IsNumeral s n → ⊥
 no_x s digits n e h = no_numeral s n h (ap (list_all is_ascii_digit) e)
 
-behind : (a b : List ℕ) → 120 ∷ a ≡ 120 ∷ b → a ≡ b
-behind a b e = cc
-
 pub no_value : (s : List ℕ) → ((digits : List ℕ) → s ≢ 120 ∷ digits) → ((n : ℕ) → IsNumeral s n → ⊥) → (bytes : List ℕ) → IsValue s bytes → ⊥
 no_value s x n bytes (inl number) = n number.0 number.1
 no_value s x n bytes (inr digits) = x digits.0 digits.1
 
 no_hex : (s digits bytes : List ℕ) → s ≡ 120 ∷ digits → (AreDigits digits bytes → ⊥) → IsValue s bytes → ⊥
 no_hex s digits bytes e h (inl number) = no_x s digits number.0 e number.1
-no_hex s digits bytes e h (inr hex) = h (ap decode_of (behind digits hex.0 (sym e ∙ hex.1)) ∙ hex.2)
+no_hex s digits bytes e h (inr hex) = h (ap decode_of (one_byte 120 120 digits hex.0 (sym e ∙ hex.1)).1 ∙ hex.2)
 
 pub behind_x : (s digits : List ℕ) (r : Option (Result (List ℕ) ValueFault)) → s ≡ 120 ∷ digits → ReadsValue AreDigits digits r
     → ReadsValue IsValue s r

@@ -1,10 +1,9 @@
 -- The bytes of a record, part by part, and the bounds of the steps.
-use Rattle.std.proofs.Common.{Fits, w64, ◌≡◌, ℕ, ◌+◌, ◌*◌, ◌<◌, ◌≤◌, List, ◌++◌, length, slice_get, take, Some, refl, ap, ◌∙◌, subst, arith, rules, Bor}
+use Rattle.std.proofs.Common.{Fits, w64, ◌≡◌, ℕ, ◌+◌, ◌*◌, ◌<◌, ◌≤◌, List, ◌++◌, length, slice_get, take, Some, refl, ap, ◌∙◌, subst, arith, Bor}
 use Rattle.std.proofs.Math.Nat.{mul-le-mul}
 use Rattle.std.proofs.lemmas.Option.{get_or_from_slice_get, slice_get_within}
 use Rattle.std.proofs.lemmas.Slice.{take-put_mid}
 use Rattle.std.specs.List.{AllByRecursion}
-use Rattle.std.specs.Int.{to_le_bytes}
 use Rattle.std.specs.FinMap as fin
 use borrow.Rule.Slice.PartMut.{put_mid}
 use Rattle.bq_word.specs.Word.{le_bytes}
@@ -14,9 +13,6 @@ use Rattle.sc_view.specs.Views.{ViewMap}
 use Rattle.sc_view.proofs.AllLemmas.{all_at}
 use Rattle.sc_view.proofs.LengthLemmas.{each_entry}
 use Rattle.q_session.specs.Records.{record_bytes, HasRecordsWithin}
-
-pub eight_bytes : (n : ℕ) → to_le_bytes w64 n ≡ le_bytes 8 n
-eight_bytes n = search rules
 
 -- two numbers and the bytes behind them, each written to its place
 front : (a b rest : List ℕ) (m n : ℕ) → a ≡ le_bytes 8 m → b ≡ le_bytes 8 n → take 16 (put_mid 8 8 (a ++ rest) b) ≡ le_bytes 8 m ++ le_bytes 8 n

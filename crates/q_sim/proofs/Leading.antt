@@ -15,7 +15,6 @@ use Rattle.q_desk.specs.declared.journal.Call.TheVariants as call
 use Rattle.q_history.specs.declared.event.ClusterEvent.TheVariants as event
 use Rattle.q_history.specs.declared.event.ClusterStep.{ClusterStep}
 use Rattle.q_history.specs.Headline.{ClusterState}
-use Rattle.q_history.specs.Calls.{Reaches}
 use Rattle.q_history.specs.Clusters.{start}
 use Rattle.q_history.proofs.Histories.{reaches_on}
 use Rattle.q_cluster.specs.Acts.{book_at}

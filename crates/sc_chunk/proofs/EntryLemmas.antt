@@ -1,20 +1,23 @@
 -- Entries in rising id order.
-use Rattle.std.proofs.Common.{◌≡◌, ℕ, suc, ◌+◌, ◌≤◌, ◌<◌, true, false, cond, ◌==◌, nat_lt, nat_le, List, [], ◌∷◌, ◌++◌, length, take, drop, get_or, set, Some, None, refl, sym, ap, subst, ◌∙◌, arith, append_assoc, Ordering}
-use Rattle.std.proofs.lemmas.Bool.{cond-true, cond-false, cond_both, ltb-true, lt-ltb, eqb-true, eqb-false, eq-eqb, ne_eqb, leb-true, leb-false}
+use Rattle.std.proofs.Common.{◌≡◌, ℕ, suc, ◌+◌, ◌≤◌, ◌<◌, cond, ◌==◌, nat_le, List, [], ◌∷◌, ◌++◌, length, take, drop, get_or, set}
+use Rattle.std.proofs.Common.{Some, None, refl, sym, ap, subst, ◌∙◌, arith, append_assoc, Ordering}
+use Rattle.std.proofs.lemmas.Bool.{cond-true, cond-false, cond_both, eqb-true, eqb-false, eq-eqb, ne_eqb, leb-true, leb-false}
 use Rattle.std.proofs.lemmas.List.{drop_more, drop_all, set_split}
 use Rattle.std.specs.declared.cmp.Ordering.TheVariants.{Less, Equal, Greater}
 use Rattle.std.specs.Ordering.{nat_cmp, is_eq}
+use Rattle.std.specs.Cmp.{nat_cmp_is}
 use Rattle.std.specs.List.{insert}
 use Rattle.std.specs.FinMap.Entries.{put, find, by_order}
 use Rattle.sc_chunk.specs.Entries.{before, without_first, Over, Rises}
 
 pub cmp_less : (x y : ℕ) → x < y → nat_cmp x y ≡ Less
-cmp_less x y h = ap (λ b. cond b Less (cond (x == y) Equal Greater)) (lt-ltb x y h)
+cmp_less x y h = sym (nat_cmp_is x y Less h)
 
 pub cmp_greater : (x y : ℕ) → y < x → nat_cmp x y ≡ Greater
-cmp_greater x y h =
-    cond_both (nat_lt x y) Less (cond (x == y) Equal Greater) (λ o. o ≡ Greater) (λ p. absurd (omega (arith, ltb-true x y p, h)))
-    (λ p. cond_both (x == y) Equal Greater (λ o. o ≡ Greater) (λ q. absurd (omega (arith, eqb-true x y q, h))) (λ q. refl))
+cmp_greater x y h = sym (nat_cmp_is x y Greater h)
+
+pub cmp_equal : (x y : ℕ) → x ≡ y → nat_cmp x y ≡ Equal
+cmp_equal x y h = sym (nat_cmp_is x y Equal h)
 
 pub over_lower : {X : Type 0} (x y : ℕ) (es : List (ℕ × X)) → x ≤ y → Over y es → Over x es
 over_lower x y [] h o = tt
@@ -40,11 +43,6 @@ pub before_fits : {X : Type 0} (id : ℕ) (es : List (ℕ × X)) → before id e
 before_fits id [] = omega arith
 before_fits id (e ∷ es) =
     cond_both (nat_le id e.0) 0 (suc (before id es)) (λ n. n ≤ suc (length es)) (λ _. omega arith) (λ _. omega (arith, before_fits id es))
-
-pub cmp_equal : (x y : ℕ) → x ≡ y → nat_cmp x y ≡ Equal
-cmp_equal x y h =
-    cond_both (nat_lt x y) Less (cond (x == y) Equal Greater) (λ o. o ≡ Equal) (λ p. absurd (omega (arith, ltb-true x y p, h)))
-    (λ p. ap (λ c. cond c Equal Greater) (eq-eqb x y h))
 
 put_first : {X : Type 0} (id : ℕ) (x : X) (e : ℕ × X) (es : List (ℕ × X)) → id ≤ e.0 → put nat_cmp id x (e ∷ es) ≡ (id, x) ∷ without_first id (e ∷ es)
 put_first id x e es h =
@@ -72,11 +70,10 @@ pub find_at : {X : Type 0} (id : ℕ) (es : List (ℕ × X)) (d : ℕ × X) → 
     → find nat_cmp id es ≡ cond ((get_or es (before id es) d).0 == id) (Some (get_or es (before id es) d).1) None
 find_at id [] d r h = absurd (omega (arith, h))
 find_at id (e ∷ es) d r h =
-    elim (nat_le id e.0) as (λ b. nat_le id e.0 ≡ b → cond b 0 (suc (before id es)) < suc (length es)
-    → find nat_cmp id (e ∷ es) ≡ cond ((get_or (e ∷ es) (cond b 0 (suc (before id es))) d).0 == id) (Some (get_or (e ∷ es) (cond b 0 (suc (before id es))) d).1) None) [
-      | true ↦ λ p h. find_first id e es (leb-true id e.0 p) r.0
-      | false ↦ λ p h. find_later id e es (leb-false id e.0 p) ∙ find_at id es d r.1 (omega (arith, h))
-    ] refl h
+    cond_both (nat_le id e.0) 0 (suc (before id es)) (λ n. n < suc (length es)
+    → find nat_cmp id (e ∷ es) ≡ cond ((get_or (e ∷ es) n d).0 == id) (Some (get_or (e ∷ es) n d).1) None)
+    (λ p h. find_first id e es (leb-true id e.0 p) r.0)
+    (λ p h. find_later id e es (leb-false id e.0 p) ∙ find_at id es d r.1 (omega (arith, h))) h
 
 pub find_past : {X : Type 0} (id : ℕ) (es : List (ℕ × X)) → length es ≤ before id es → find nat_cmp id es ≡ None
 find_past id [] h = refl

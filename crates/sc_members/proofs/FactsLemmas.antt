@@ -1,11 +1,9 @@
 -- When facts have few ids, and when they are known.
-use Rattle.std.proofs.Common.{◌≡◌, ℕ, ◌+◌, ◌≤◌, Bool, true, false, cond, List, [], ◌∷◌, length, sym, ap, subst, arith, IsTrue, ◌↔◌}
+use Rattle.std.proofs.Common.{◌≡◌, ℕ, ◌≤◌, Bool, true, List, [], ◌∷◌, length, sym, ap, subst, arith, IsTrue, ◌↔◌}
 use Rattle.std.specs.Ordering.{nat_cmp}
-use Rattle.std.specs.Cmp.{nat_cmp_total}
 use Rattle.std.specs.FinSet as set
-use Rattle.sc_members.specs.Ids.{Ids}
 use Rattle.sc_members.specs.Members.{Facts, IsFacts, no_facts, founding, most_facts, union_facts, with_entered, with_joined, with_left}
-use Rattle.sc_members.proofs.Sets.{insert_known, known_insert, union_known, known_union}
+use Rattle.sc_members.proofs.Sets.{len_insert, insert_known, known_insert, union_known, known_union}
 
 none_few : set.len (set.empty {R = nat_cmp}) ≤ most_facts
 none_few = subst (λ n. n ≤ most_facts) (sym (set.len-empty nat_cmp)) (omega arith)
@@ -13,16 +11,10 @@ none_few = subst (λ n. n ≤ most_facts) (sym (set.len-empty nat_cmp)) (omega a
 pub no_facts_few : IsFacts no_facts
 no_facts_few = record { entered = none_few; joined = none_few; left = none_few }
 
-one_more : (b : Bool) (n m : ℕ) → n ≤ m → cond b n (n + 1) ≤ m + 1
-one_more true n m h = omega (arith, h)
-one_more false n m h = omega (arith, h)
-
 -- a list has at least as many ids as its set
 len_short : (ks : List ℕ) → set.len (set.from_list {R = nat_cmp} ks) ≤ length ks
 len_short [] = omega (arith, set.len-empty nat_cmp)
-len_short (k ∷ ks) =
-    let rest : Ids = set.from_list ks in
-    omega (arith, set.len-insert nat_cmp_total rest k, one_more (set.contains rest k) (set.len rest) (length ks) (len_short ks))
+len_short (k ∷ ks) = omega (arith, (len_insert (set.from_list ks) k).1, len_short ks)
 
 pub founders_few : (ks : List ℕ) → length ks ≤ most_facts → IsFacts (founding ks)
 founders_few ks h = record { entered = omega (arith, len_short ks, h); joined = omega (arith, len_short ks, h); left = none_few }
@@ -52,7 +44,11 @@ abbrev pub AreWithin : Facts → Facts → Type 0
 AreWithin f g = (set.is_subset g.entered f.entered ≡ true) × (set.is_subset g.joined f.joined ≡ true) × (set.is_subset g.left f.left ≡ true)
 
 same_union : (f g : Facts) → AreWithin f g → union_facts f g ≡ f
-same_union f g h = λ i. record { entered = union_known f.entered g.entered h.0 i; joined = union_known f.joined g.joined h.1 i; left = union_known f.left g.left h.2 i }
+same_union f g h = λ i. record {
+  entered = union_known f.entered g.entered h.0 i;
+  joined = union_known f.joined g.joined h.1 i;
+  left = union_known f.left g.left h.2 i;
+}
 
 union_same : (f g : Facts) → union_facts f g ≡ f → AreWithin f g
 union_same f g same = (

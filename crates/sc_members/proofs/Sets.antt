@@ -1,17 +1,19 @@
 -- A tree of numbers, seen as a finite set.
-use Rattle.std.proofs.Common.{◌≡◌, ℕ, ◌+◌, Bool, true, false, not, ◌&&◌, ◌||◌, cond, List, [], ◌∷◌, map, length, Option, Some, None, refl, sym, ap, subst, ◌∙◌, T, arith, ◌<◌, ◌≤◌, MatchOption, Bor, true≢false, IsTrue, ◌↔◌, ⊎_elim}
+use Rattle.std.proofs.Common.{◌≡◌, ℕ, ◌+◌, ◌<◌, ◌≤◌, arith, Bool, true, false, true≢false, IsTrue, not, ◌&&◌, ◌||◌, cond, List, [], ◌∷◌, map, length}
+use Rattle.std.proofs.Common.{Option, Some, None, MatchOption, Bor, refl, sym, ap, subst, ◌∙◌, ◌↔◌, ⊎_elim}
 use Rattle.std.specs.declared.cmp.Ordering.TheVariants.{Less}
-use Rattle.std.specs.Ordering.{nat_cmp, is_lt, is_eq, eq_by_cmp}
+use Rattle.std.specs.Ordering.{nat_cmp, is_eq, eq_by_cmp}
 use Rattle.std.specs.Cmp.{nat_cmp_total, both_ways, eq_by_cmp_equiv, ranked, unsigned_tied}
 use Rattle.std.proofs.lemmas.Cmp.{tied_itself}
-use Rattle.std.proofs.lemmas.Bool.{eqb-true, and_parts, or_cases, or_left, or_right}
+use Rattle.std.proofs.lemmas.Bool.{eqb-true, cond_both, and_parts, or_cases, or_left, or_right}
 use Rattle.std.specs.Option.{option_copied}
 use Rattle.std.specs.Map.Iter.{TakesFirst, deref}
 use Rattle.std.specs.FinMap as fin
-use Rattle.std.specs.FinMap.Entries.{find, is_sorted, below_all}
+use Rattle.std.specs.FinMap.Entries.{find}
 use Rattle.std.specs.FinSet as set
 use Rattle.std.specs.List.{AllByRecursion, list_any}
 use Rattle.std.specs.List.Sorted.{IsStrictlySortedBy}
+use Rattle.forms.proofs.Maps.{entries_found}
 use Rattle.sc_members.specs.Ids.{Ids, IsLeastCommon, as_map, rising}
 
 abbrev pub has : List ℕ → ℕ → Bool
@@ -30,19 +32,6 @@ set_of ks s h = same (set.from_list ks) s (λ q. found ks q ∙ h q)
 
 abbrev mark : ℕ → ℕ × Unit {0}
 mark id = (id, tt)
-
-both : (a b : Bool) → T a → T b → T (a && b)
-both true b p q = q
-both false b p q = p
-
-below : (x : ℕ) (ks : List ℕ) → AllByRecursion (λ y. nat_cmp x y ≡ Less) ks → T (below_all nat_cmp x (map mark ks))
-below x [] h = tt
-below x (k ∷ ks) h = both _ _ (subst (λ r. T (is_lt r)) (sym h.0) tt) (below x ks h.1)
-
-rises : (ks : List ℕ) → IsStrictlySortedBy nat_cmp ks → T (is_sorted nat_cmp (map mark ks))
-unfolding IsStrictlySortedBy
-rises [] h = tt
-rises (k ∷ ks) h = both _ _ (below k ks h.0) (rises ks h.1)
 
 abbrev marked : Bool → Option (Unit {0})
 marked b = cond b (Some tt) None
@@ -64,9 +53,9 @@ keys-mark (k ∷ ks) = ap (λ rest. k ∷ rest) (keys-mark ks)
 -- ids in order are the entries of their set
 pub entries-from_list : (ks : List ℕ) → IsStrictlySortedBy nat_cmp ks → fin.entries (as_map (set.from_list ks)) ≡ map mark ks
 entries-from_list ks h =
-    ap fin.entries (fin.same_map nat_cmp_total fin.nat_cmp-IsAntisymmetric (as_map (set.from_list ks)) (fin.from_sorted (map mark ks)) (λ q.
-    get-as_map _ q ∙ ap marked (found ks q) ∙ sym (find_marked ks q) ∙ sym (fin.get-from_sorted nat_cmp (map mark ks) q (rises ks h))))
-    ∙ fin.entries-from_sorted nat_cmp (map mark ks) (rises ks h)
+    ap fin.entries (fin.same_map nat_cmp_total fin.nat_cmp-IsAntisymmetric (as_map (set.from_list ks)) (fin.from_entries (map mark ks)) (λ q.
+    get-as_map _ q ∙ ap marked (found ks q) ∙ sym (fin.get-from_entries nat_cmp_total (map mark ks) q ∙ find_marked ks q)))
+    ∙ entries_found (map mark ks) (subst (IsStrictlySortedBy nat_cmp) (sym (keys-mark ks)) h)
 
 pub rising-from_list : (ks : List ℕ) → IsStrictlySortedBy nat_cmp ks → rising (set.from_list ks) ≡ ks
 rising-from_list ks h = ap (map (λ e. e.0)) (entries-from_list ks h) ∙ keys-mark ks
@@ -161,6 +150,13 @@ pub first_copied : (ks : List ℕ) (r : Option (Bor ℕ)) (rest : List ℕ) (o :
     → MatchOption o (ks ≡ []) (λ id. ks ≡ id ∷ rest)
 first_copied ks None rest o step is = rw is step.0
 first_copied ks (Some x) rest o step is = rw is step
+
+-- one more id makes a set larger by one at most
+pub len_insert : (s : Ids) (id : ℕ) → (set.len s ≤ set.len (set.insert s id)) × (set.len (set.insert s id) ≤ set.len s + 1)
+len_insert s id =
+    let IsNear : ℕ → Type 0 = λ n. (set.len s ≤ n) × (n ≤ set.len s + 1) in
+    subst IsNear (sym (set.len-insert nat_cmp_total s id))
+    (cond_both (set.contains s id) (set.len s) (set.len s + 1) IsNear (λ _. (omega arith, omega arith)) (λ _. (omega arith, omega arith)))
 
 -- ---- what is there already
 

@@ -1,5 +1,6 @@
 -- A list of entries has one spelling and at most one fault, and what is spelled has none.
-use Rattle.std.proofs.Common.{◌≡◌, ℕ, suc, ◌+◌, ◌<◌, ◌≤◌, ◌^◌, ◌⊎◌, true, false, nat_lt, List, [], ◌∷◌, ◌++◌, length, map, Option, Some, None, refl, sym, ap, ◌∙◌, arith, append_assoc, length-append, inl, inr}
+use Rattle.std.proofs.Common.{◌≡◌, ℕ, suc, ◌+◌, ◌<◌, ◌≤◌, ◌^◌, ◌⊎◌, true, false, nat_lt, List, [], ◌∷◌, ◌++◌, length, map, Option, Some, None}
+use Rattle.std.proofs.Common.{refl, sym, ap, ◌∙◌, arith, append_assoc, length-append, inl, inr}
 use Rattle.std.proofs.lemmas.Bool.{le-ltb, cases_order}
 use Rattle.std.proofs.lemmas.Option.{none-some, same_Some}
 use Rattle.std.specs.List.{flat_map, AllByRecursion}
@@ -9,11 +10,12 @@ use Rattle.sc_msg.specs.declared.version.Version.{Version}
 use Rattle.sc_msg.specs.declared.version.Version.TheVariants.{First, Second}
 use Rattle.spelling.specs.Numbers.{number_bytes, first_number}
 use Rattle.sc_msg.specs.Values.{value_bytes, value_fault, IsLength}
-use Rattle.sc_msg.specs.Entries.{Layout, ids_layout, view_layout, IsStored, stored_bytes, stored_fault, entry_bytes, list_bytes, IsEntry, IsRising, last_of, is_above, count_fault, entry_fault, IsEntryFault}
+use Rattle.sc_msg.specs.Entries.{Layout, ids_layout, view_layout, IsStored, IsEntry, stored_bytes, entry_bytes, list_bytes}
+use Rattle.sc_msg.specs.Entries.{IsRising, last_of, is_above, stored_fault, count_fault, entry_fault, IsEntryFault}
 use Rattle.sc_msg.specs.Fields.{IsListFault}
 use Rattle.spelling.specs.Codes.{IsPrefixCode}
-use Rattle.spelling.proofs.Numbers.{first_number-number_bytes}
-use Rattle.spelling.proofs.Codes.{one_byte, same_front, number_front, number_then, once}
+use Rattle.spelling.proofs.Numbers.{number_leads}
+use Rattle.spelling.proofs.Codes.{one_byte, same_front, number_front, once}
 use Rattle.sc_msg.proofs.Lists.{value_faulty}
 use Rattle.sc_msg.proofs.Parts.{stored_fault_is}
 
@@ -82,9 +84,9 @@ module _ {A : Type 0} (layout : Layout A) (law : IsLayout layout) where
   no_count_fault : (bytes rest : List ℕ) (count : ℕ) → count ≤ layout.most → bytes ≡ number_bytes 2 count ++ rest
       → count_fault layout.most bytes ≡ None
   no_count_fault bytes rest count few parts =
-      let long : nat_lt (length bytes) 2 ≡ false = le-ltb _ _ (omega (arith, number_then 2 count bytes rest parts)) in
-      let first : first_number 2 bytes ≡ count = ap (first_number 2) parts ∙ first_number-number_bytes 2 count rest (omega (arith, law.few)) in
-      let low : nat_lt layout.most (first_number 2 bytes) ≡ false = ap (nat_lt layout.most) first ∙ le-ltb _ _ few in
+      let led = number_leads 2 count bytes rest (omega (arith, law.few)) parts in
+      let long : nat_lt (length bytes) 2 ≡ false = le-ltb _ _ led.1 in
+      let low : nat_lt layout.most (first_number 2 bytes) ≡ false = ap (nat_lt layout.most) led.0 ∙ le-ltb _ _ few in
       rw (long, low) refl
 
   pub no_list_fault : (es : List A) (x : List ℕ) (e : MessageFault) → AllByRecursion (IsEntry layout) es → IsRising None (map layout.id_of es)

@@ -3,7 +3,8 @@ use Rattle.std.proofs.Common.{◌≡◌, ℕ, ◌<◌, Bool, true, nat_lt, List,
 use Rattle.std.proofs.lemmas.Bool.{lt-ltb}
 use Rattle.sc_msg.specs.declared.fault.MessageFault.{MessageFault}
 use Rattle.sc_msg.specs.declared.fault.MessageFault.TheVariants.{Short}
-use Rattle.sc_msg.specs.Fields.{Slot, number_slot, flag_slot, number, flag, ids, facts_slots, facts_fields, Field, slot_of, field_bytes, fields_bytes, IsField, IsFieldFault, IsFieldsFault, OrMemory}
+use Rattle.sc_msg.specs.Fields.{Slot, number_slot, flag_slot, facts_slots, Field, number, flag, ids, facts_fields, slot_of}
+use Rattle.sc_msg.specs.Fields.{field_bytes, fields_bytes, IsField, IsFieldFault, IsFieldsFault, OrMemory}
 use Rattle.sc_members.specs.Members.{Facts}
 use Rattle.sc_msg.specs.Entries.{AreIds, ids_bytes}
 use Rattle.spelling.proofs.Codes.{parts_on, three_on}

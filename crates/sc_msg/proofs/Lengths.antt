@@ -1,13 +1,15 @@
 -- The lengths of values in messages that have a spelling.
-use Rattle.std.proofs.Common.{◌≡◌, ◌↔◌, ◌==◌, ◌≤◌, ℕ, nat_le, Bool, true, false, IsTrue, List, [], ◌∷◌, length, Option, Some, None, IfSome, Result, Ok, Err, refl, sym, ap, ◌∙◌, arith, eq-eqb}
+use Rattle.std.proofs.Common.{◌≡◌, ◌↔◌, ◌==◌, ◌≤◌, ℕ, nat_le, Bool, true, IsTrue, List, [], ◌∷◌, length, Option, Some, None, IfSome}
+use Rattle.std.proofs.Common.{Result, Ok, Err, sym, ap, ◌∙◌, arith, eq-eqb}
+use Rattle.std.specs.Cmp.{both_ways}
 use Rattle.std.proofs.lemmas.Bool.{eqb-true, leb-true, le-leb}
 use Rattle.std.specs.Result.{IfOk}
 use Rattle.std.specs.List.{AllByRecursion}
 use Rattle.std.specs.FinMap as fin
 use Rattle.sc_view.specs.declared.view.Stored.{Stored}
-use Rattle.sc_view.specs.Values.{Lengths, is_within}
+use Rattle.sc_view.specs.Values.{Lengths, IsWithin, is_within}
 use Rattle.sc_view.specs.Views.{ViewMap, HasValuesWithin}
-use Rattle.sc_view.proofs.LengthLemmas.{Within, within_by_entries, is_told, told_is, told_within, within_told}
+use Rattle.sc_view.proofs.LengthLemmas.{Within, within_by_entries, is_told, told_is, told_within}
 use Rattle.sc_msg.specs.declared.message.Body.{Body}
 use Rattle.sc_msg.specs.declared.message.Body.TheVariants as bodies
 use Rattle.sc_msg.specs.declared.message.Message.{Message}
@@ -68,20 +70,11 @@ has_told l (Some v) h = told_within l v h
 pub message_told : (l : Lengths) (m : Message) → has_values_within l m ≡ true → MessageHasValuesWithin l m
 message_told l m h = has_told l (view_of m.body) h
 
-told_has : (l : Lengths) (o : Option ViewMap) → IfSome o (HasValuesWithin l) → told_values_within l o ≡ true
-told_has l None h = refl
-told_has l (Some v) h = within_told l v h
-
-pub told_message : (l : Lengths) (m : Message) → MessageHasValuesWithin l m → has_values_within l m ≡ true
-told_message l m h = told_has l (view_of m.body) h
-
 -- ---- a length
 
 -- two tests of one fact
-same_test : (s t : Bool) (P : Type 0) → (s ≡ true → P) → (P → s ≡ true) → (t ≡ true → P) → (P → t ≡ true) → s ≡ t
-same_test true t P from_s to_s from_t to_t = sym (to_t (from_s refl))
-same_test false true P from_s to_s from_t to_t = to_s (from_t refl)
-same_test false false P from_s to_s from_t to_t = refl
+same_test : (s : Bool) (n : ℕ) (l : Lengths) → (s ≡ true → IsWithin n l) → (IsWithin n l → s ≡ true) → s ≡ is_within n l
+same_test s n l from_s to_s = both_ways s (is_within n l) (λ yes. is_told n l (from_s yes)) (λ yes. to_s (told_is n l yes))
 
 first_is : (n : ℕ) → n ≡ 48 → IsLength First n
 first_is n is = record { least = omega (arith, is); most = omega (arith, is) }
@@ -90,10 +83,10 @@ second_is : (n : ℕ) → n ≤ 112 → IsLength Second n
 second_is n few = record { least = omega arith; most = few }
 
 first_length : (n : ℕ) → (n == 48) ≡ is_within n (value_lengths First)
-first_length n = same_test (n == 48) (is_within n (value_lengths First)) (IsLength First n) (λ yes. first_is n (eqb-true n 48 yes)) (λ h. eq-eqb n 48 (omega (arith, h.least, h.most))) (told_is n (value_lengths First)) (is_told n (value_lengths First))
+first_length n = same_test _ n _ (λ yes. first_is n (eqb-true n 48 yes)) (λ h. eq-eqb n 48 (omega (arith, h.least, h.most)))
 
 second_length : (n : ℕ) → nat_le n 112 ≡ is_within n (value_lengths Second)
-second_length n = same_test (nat_le n 112) (is_within n (value_lengths Second)) (IsLength Second n) (λ yes. second_is n (leb-true n 112 yes)) (λ h. le-leb n 112 h.most) (told_is n (value_lengths Second)) (is_told n (value_lengths Second))
+second_length n = same_test _ n _ (λ yes. second_is n (leb-true n 112 yes)) (λ h. le-leb n 112 h.most)
 
 -- the tests of the two versions
 pub length_of_first : (version : Version) (n : ℕ) → version ≡ First → (n == 48) ≡ is_within n (value_lengths version)

@@ -1,6 +1,7 @@
 -- Entries read one after another, and what is first wrong behind them.
-use Rattle.std.proofs.Common.{◌≡◌, ℕ, ◌+◌, ◌<◌, ◌≤◌, ◌^◌, true, false, List, [], ◌∷◌, ◌++◌, length, map, drop, nat_lt, Option, Some, None, refl, sym, ap, subst, ◌∙◌, arith, append_assoc, length-append, inr}
-use Rattle.std.proofs.lemmas.List.{append-nil, drop_at, map-id, nil_from_length}
+use Rattle.std.proofs.Common.{◌≡◌, ℕ, ◌+◌, ◌<◌, ◌≤◌, ◌^◌, true, false, List, [], ◌∷◌, ◌++◌, length, map, drop, nat_lt, Option, Some, None}
+use Rattle.std.proofs.Common.{refl, sym, ap, subst, ◌∙◌, arith, append_assoc, length-append, inr}
+use Rattle.std.proofs.lemmas.List.{append-nil, drop_at, map-append, map-id, nil_from_length}
 use Rattle.std.specs.List.{flat_map, AllByRecursion}
 use Rattle.sc_msg.specs.declared.fault.MessageFault.{MessageFault}
 use Rattle.sc_msg.specs.declared.fault.MessageFault.TheVariants.{OutOfMemory}
@@ -16,12 +17,13 @@ use Rattle.std.proofs.lemmas.Bool.{le-ltb}
 use Rattle.sc_view.specs.declared.view.ViewFault.{ViewFault}
 use Rattle.sc_view.specs.declared.view.ViewFault.TheVariants as views
 use Rattle.sc_msg.specs.Fault.{view_fault}
-use Rattle.spelling.proofs.Codes.{all_push, flat_map_push, number_then, parts_on}
-use Rattle.spelling.proofs.Numbers.{length-number_bytes, first_number-number_bytes}
+use Rattle.spelling.proofs.Codes.{all_push, flat_map_push, parts_on}
+use Rattle.spelling.proofs.Numbers.{length-number_bytes, number_leads}
 use Rattle.sc_msg.proofs.Rising.{rising_made, len_made, entries-put}
 use Rattle.sc_msg.specs.declared.version.Version.{Version}
 use Rattle.sc_msg.specs.Values.{first_of}
-use Rattle.sc_msg.specs.Entries.{id_fault, view_bytes, AreIds, IsStored, ids_bytes, ids_layout, stored_bytes, view_layout, Layout, entry_bytes, list_bytes, IsEntry, IsRising, last_of, is_above, entry_fault, IsEntryFault}
+use Rattle.sc_msg.specs.Entries.{Layout, ids_layout, view_layout, IsStored, AreIds, IsEntry, ids_bytes, stored_bytes, view_bytes, entry_bytes, list_bytes}
+use Rattle.sc_msg.specs.Entries.{IsRising, last_of, is_above, id_fault, entry_fault, IsEntryFault}
 use Rattle.sc_msg.specs.Fields.{IsListFault, OrMemory}
 
 pub or_memory : (P : MessageFault → Type 0) (e : MessageFault) → P e → OrMemory P e
@@ -43,10 +45,6 @@ last_of-push : (last : Option ℕ) (ids : List ℕ) (id : ℕ) → last_of last 
 last_of-push last [] id = refl
 last_of-push last (x ∷ ids) id = last_of-push (Some x) ids id
 
-map-push : {A B : Type 0} (f : A → B) (xs : List A) (x : A) → map f (xs ++ x ∷ []) ≡ map f xs ++ f x ∷ []
-map-push f [] x = refl
-map-push f (y ∷ xs) x = ap (λ l. f y ∷ l) (map-push f xs x)
-
 -- ---- reading
 
 -- es are the entries read so far, last the id of the last, and rest is what is left of the bytes
@@ -64,7 +62,7 @@ module _ {A : Type 0} {layout : Layout A} {count : ℕ} {bytes : List ℕ} where
       → is_above last (layout.id_of e) ≡ true → IsEntry layout e → rest ≡ entry_bytes layout e ++ after
       → ReadTo layout count bytes (es ++ e ∷ []) after (Some (layout.id_of e))
   read_more {es = es} {rest = rest} {after = after} e r above is parts =
-      let ids = map-push layout.id_of es e in
+      let ids = map-append layout.id_of es (e ∷ []) in
       let behind = parts_on (flat_map (entry_bytes layout) es) (entry_bytes layout e) _ rest after refl parts in
       let more = behind ∙ ap (λ (l : List ℕ). l ++ after) (sym (flat_map_push (entry_bytes layout) es e)) in
       record {
@@ -115,7 +113,7 @@ ViewReadTo version count bytes v rest last = ReadTo (view_layout version) count 
 
 module _ (version : Version) (v : ViewMap) {count : ℕ} {bytes rest : List ℕ} {last : Option ℕ} (r : ViewReadTo version count bytes v rest last) where
   entries_then : (id : ℕ) (e : Stored) → is_above last id ≡ true → fin.entries (put v id e) ≡ fin.entries v ++ (id, e) ∷ []
-  entries_then id e above = entries-put v id e r.rising (ap (λ o. is_above o id) r.ended ∙ above)
+  entries_then id e above = entries-put v id e (ap (λ o. is_above o id) r.ended ∙ above)
 
   pub view_more : {w : ViewMap} {middle after : List ℕ} {id : ℕ} {e : Stored} → is_above last id ≡ true → id < 2 ^ 64 → IsStored version e
       → rest ≡ number_bytes 8 id ++ middle → middle ≡ stored_bytes version e ++ after → w ≡ put v id e
@@ -160,9 +158,9 @@ pub record IsNext (last : Option ℕ) (id : ℕ) (rest after : List ℕ) : Type 
 module _ {last : Option ℕ} {id : ℕ} {rest after : List ℕ} (next : IsNext last id rest after) where
   pub id_sound : id_fault last rest ≡ None
   id_sound =
-      let long : nat_lt (length rest) 8 ≡ false = le-ltb _ _ (omega (arith, number_then 8 id rest after next.parts)) in
-      let first : first_number 8 rest ≡ id = ap (first_number 8) next.parts ∙ first_number-number_bytes 8 id after next.fits in
-      let higher : is_above last (first_number 8 rest) ≡ true = ap (is_above last) first ∙ next.above in
+      let led = number_leads 8 id rest after next.fits next.parts in
+      let long : nat_lt (length rest) 8 ≡ false = le-ltb _ _ led.1 in
+      let higher : is_above last (first_number 8 rest) ≡ true = ap (is_above last) led.0 ∙ next.above in
       rw (long, higher) refl
 
   -- behind an id the first fault is the value's

@@ -1,5 +1,6 @@
 -- What is first wrong behind a number that was read, and behind the length of a value.
-use Rattle.std.proofs.Common.{◌≡◌, ℕ, suc, ◌+◌, ◌<◌, ◌≤◌, ◌^◌, true, false, cond, List, ◌∷◌, ◌++◌, length, drop, Option, Some, None, IfSome, Result, refl, sym, ap, ◌∙◌, arith, eqb, nat_lt}
+use Rattle.std.proofs.Common.{◌≡◌, ℕ, suc, ◌+◌, ◌<◌, ◌≤◌, ◌^◌, true, false, cond, List, ◌∷◌, ◌++◌, length, drop, eqb, nat_lt}
+use Rattle.std.proofs.Common.{Option, Some, None, IfSome, Result, refl, sym, ap, ◌∙◌, arith}
 use Rattle.std.specs.Prelude.{IfOk, OnOk}
 use Rattle.std.specs.Option.{ok_or}
 use Rattle.std.proofs.lemmas.Bool.{lt-ltb, le-ltb, ne_eqb}

@@ -1,5 +1,6 @@
 -- A field has one spelling and at most one fault, what is spelled has none; and so have fields one behind another.
-use Rattle.std.proofs.Common.{◌≡◌, ◌≤◌, ℕ, suc, Bool, true, false, cond, nat_lt, List, [], ◌∷◌, ◌++◌, length, map, Option, Some, None, is_some, refl, sym, ap, subst, ◌∙◌, arith, append_assoc}
+use Rattle.std.proofs.Common.{◌≡◌, ◌≤◌, ℕ, suc, Bool, true, false, cond, nat_lt, List, [], ◌∷◌, ◌++◌, length, map, Option, Some, None}
+use Rattle.std.proofs.Common.{is_some, refl, sym, ap, subst, ◌∙◌, arith, append_assoc}
 use Rattle.std.proofs.lemmas.Bool.{le-ltb}
 use Rattle.std.proofs.lemmas.Option.{none-some, same_Some}
 use Rattle.std.proofs.lemmas.List.{map-id}
@@ -16,7 +17,8 @@ use Rattle.sc_msg.specs.declared.version.Version.{Version}
 use Rattle.sc_msg.specs.declared.version.Version.TheVariants.{First, Second}
 use Rattle.sc_msg.specs.Entries.{ids_layout, view_layout, view_bytes, IsRising, AreIds, AreRecords}
 use Rattle.spelling.specs.Numbers.{number_bytes}
-use Rattle.sc_msg.specs.Fields.{Slot, number_slot, flag_slot, ids_slot, view_slot, Field, number, flag, ids, view, slot_of, field_bytes, fields_bytes, IsField, IsFieldFault, IsFieldsFault}
+use Rattle.sc_msg.specs.Fields.{Slot, number_slot, flag_slot, ids_slot, view_slot, Field, number, flag, ids, view, slot_of}
+use Rattle.sc_msg.specs.Fields.{field_bytes, fields_bytes, IsField, IsFieldFault, IsFieldsFault}
 use Rattle.sc_msg.proofs.Rising.{rising_rising, entries_rising, len_made}
 use Rattle.sc_msg.proofs.Entries.{list_front, no_list_fault, one_list_fault, ids_law, view_law}
 use Rattle.spelling.proofs.Codes.{number_front, number_then}

@@ -1,5 +1,6 @@
 -- A message has one spelling, other bytes at most one fault, and a message none.
-use Rattle.std.proofs.Common.{◌≡◌, ℕ, ◌+◌, ◌*◌, ◌<◌, ◌≤◌, ◌^◌, false, nat_lt, List, [], ◌∷◌, ◌++◌, length, map, Some, None, Result, Ok, Err, MatchResult, IfOk, IfErr, refl, sym, ap, subst, ◌∙◌, arith, append_assoc, length-append, inl, inr}
+use Rattle.std.proofs.Common.{◌≡◌, ℕ, ◌+◌, ◌*◌, ◌<◌, ◌≤◌, ◌^◌, false, nat_lt, List, [], ◌∷◌, ◌++◌, length, map, Some, None}
+use Rattle.std.proofs.Common.{Result, Ok, Err, MatchResult, IfOk, IfErr, refl, sym, ap, subst, ◌∙◌, arith, append_assoc, length-append, inl, inr}
 use Rattle.std.proofs.lemmas.Bool.{le-ltb}
 use Rattle.std.proofs.lemmas.List.{append-nil}
 use Rattle.std.proofs.lemmas.Option.{none-some, same_Some}
@@ -21,7 +22,8 @@ use Rattle.sc_msg.specs.Kinds.{code, kind_of, kind_at}
 use Rattle.spelling.specs.Numbers.{number_bytes}
 use Rattle.sc_msg.specs.Values.{version_byte, value_bytes, IsLength}
 use Rattle.sc_msg.specs.Entries.{Layout, entry_bytes, list_bytes, ids_layout, view_layout, ids_bytes, view_bytes, AreIds, AreRecords, IsEntry, stored_bytes}
-use Rattle.sc_msg.specs.Fields.{Field, number, flag, ids, view, Slot, number_slot, flag_slot, ids_slot, view_slot, slots, slot_of, field_bytes, fields, fields_bytes, IsField, IsFieldsFault, OrMemory}
+use Rattle.sc_msg.specs.Fields.{Slot, number_slot, flag_slot, ids_slot, view_slot, slots, Field, number, flag, ids, view, slot_of}
+use Rattle.sc_msg.specs.Fields.{fields, field_bytes, fields_bytes, IsField, IsFieldsFault, OrMemory}
 use Rattle.sc_msg.specs.Messages.{head_bytes, message_bytes, most_message, IsMessage}
 use Rattle.sc_msg.specs.Fault.{most_bytes, head_fault, IsBodyFault, IsExtra, IsFirstFault, IsFault}
 use Rattle.sc_msg.proofs.Codes.{kind_at-code}

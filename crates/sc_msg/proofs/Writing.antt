@@ -5,6 +5,7 @@ use Rattle.std.specs.List.{flat_map, AllByRecursion}
 use Rattle.spelling.specs.Numbers.{number_bytes}
 use Rattle.sc_msg.specs.Entries.{Layout, entry_bytes, list_bytes, IsEntry}
 use Rattle.spelling.proofs.Codes.{all_push, flat_map_push}
+use Rattle.sc_view.proofs.AllLemmas.{all_split}
 
 -- of the entries all but rest are written behind old
 pub record WrittenTo {A : Type 0} (layout : Layout A) (count : ℕ) (entries : List A) (old new : List ℕ) (rest : List A) : Type 0 where
@@ -43,8 +44,4 @@ module _ {A : Type 0} {layout : Layout A} {count : ℕ} {entries : List A} {old 
       )
 
 pub all_at : {A : Type 0} (P : A → Type 0) {es : List A} (done rest : List A) {e : A} → es ≡ done ++ e ∷ rest → AllByRecursion P es → P e
-all_at P done rest {e = e} split h = second P done rest e (subst (AllByRecursion P) split h)
-  where
-    second : {A : Type 0} (P : A → Type 0) (done rest : List A) (e : A) → AllByRecursion P (done ++ e ∷ rest) → P e
-    second P [] rest e h = h.0
-    second P (d ∷ done) rest e h = second P done rest e h.1
+all_at P done rest {e = e} split h = (all_split P done (e ∷ rest) (subst (AllByRecursion P) split h)).1.0

@@ -1,14 +1,14 @@
 -- When the facts of a node that enters or joins are too many.
-use Rattle.std.proofs.Common.{◌≡◌, ℕ, ◌≤◌, ◌+◌, Bool, true, false, not, ◌||◌, nat_lt, cond, [], ◌∷◌, Result, Ok, Err, IsErrAnd, ◌<◌, refl, sym, ap, ◌∙◌, arith}
+use Rattle.std.proofs.Common.{◌≡◌, ℕ, ◌≤◌, Bool, true, false, not, ◌||◌, nat_lt, cond, [], ◌∷◌, Result, Ok, Err, IsErrAnd, ◌<◌, refl, sym, ap, ◌∙◌, arith}
 use Rattle.std.specs.Ordering.{nat_cmp}
-use Rattle.std.specs.Cmp.{nat_cmp_total}
 use Rattle.std.specs.FinSet as set
 use Rattle.std.specs.FinMap as fin
 use Rattle.sc_members.specs.Ids.{Ids}
 use Rattle.sc_members.specs.Members.{Facts, most_facts, is_overfull, no_facts, union_facts, with_entered, with_joined}
 use Rattle.sc_members.specs.declared.facts.FactsFault.{FactsFault}
 use Rattle.sc_members.specs.declared.facts.FactsFault.TheVariants as facts
-use Rattle.sc_view.specs.Views.{ViewMap, most_entries, merge}
+use Rattle.sc_members.proofs.Sets.{len_insert}
+use Rattle.sc_view.specs.Views.{most_entries, merge}
 use Rattle.sc_msg.specs.declared.message.Body.TheVariants.{EnterEcho}
 use Rattle.sc_msg.specs.declared.message.EnterEcho.{EnterEcho as EchoFields}
 use Rattle.sc_node.specs.declared.answer.Delivered.{Delivered}
@@ -23,24 +23,13 @@ use Rattle.sc_node.specs.Nodes.{fitting, message_from, joins, node_after, delive
 few : (a b c : ℕ) → a ≤ most_facts → b ≤ most_facts → c ≤ most_facts → (nat_lt most_facts a || (nat_lt most_facts b || nat_lt most_facts c)) ≡ false
 few a b c p q r = grind (arith, p, q, r)
 
-at_most_one_more : (b : Bool) (n : ℕ) → cond b n (n + 1) ≤ n + 1
-at_most_one_more true n = omega arith
-at_most_one_more false n = omega arith
-
-no_less : (b : Bool) (n : ℕ) → n ≤ cond b n (n + 1)
-no_less true n = omega arith
-no_less false n = omega arith
-
 -- who enters knows of itself alone
 pub entering_few : (id : ℕ) → is_overfull (with_entered no_facts id) ≡ false
 entering_few id =
     let none : Ids = set.empty in
     few (set.len (set.insert none id)) (set.len none) (set.len none)
-    (omega (arith, set.len-insert nat_cmp_total none id, at_most_one_more (set.contains none id) (set.len none), set.len-empty nat_cmp))
+    (omega (arith, (len_insert none id).1, set.len-empty nat_cmp))
     (omega (arith, set.len-empty nat_cmp)) (omega (arith, set.len-empty nat_cmp))
-
-grows : (s : Ids) (id : ℕ) → set.len s ≤ set.len (set.insert s id)
-grows s id = omega (arith, set.len-insert nat_cmp_total s id, no_less (set.contains s id) (set.len s))
 
 more : (a b c x y : ℕ) → a ≤ x → b ≤ y → (nat_lt most_facts a || (nat_lt most_facts b || nat_lt most_facts c)) ≡ true
     → (nat_lt most_facts x || (nat_lt most_facts y || nat_lt most_facts c)) ≡ true
@@ -50,7 +39,7 @@ more a b c x y p q is = grind (arith, p, q, is)
 pub overfull_joined : (f : Facts) (id : ℕ) → is_overfull f ≡ true → is_overfull (with_joined f id) ≡ true
 overfull_joined f id is =
     more (set.len f.entered) (set.len f.joined) (set.len f.left) (set.len (set.insert f.entered id)) (set.len (set.insert f.joined id))
-    (grows f.entered id) (grows f.joined id) is
+    (len_insert f.entered id).0 (len_insert f.joined id).0 is
 
 overfull_after : (b : Bool) (f : Facts) (id : ℕ) → is_overfull f ≡ true → is_overfull (cond b (with_joined f id) f) ≡ true
 overfull_after true f id is = overfull_joined f id is

@@ -1,8 +1,9 @@
 -- What a node keeps and tells has values of some lengths, where what it is given has.
 use Rattle.std.proofs.Common.{◌≡◌, ℕ, Bool, true, false, cond, ◌==◌, List, [], ◌∷◌, ◌++◌, map, length}
-use Rattle.std.proofs.Common.{Option, Some, None, is_some, Ok, refl, sym, ap, subst, ◌∙◌, true≢false}
+use Rattle.std.proofs.Common.{Option, Some, None, Ok, refl, sym, subst, ◌∙◌}
 use Rattle.std.specs.List.{All, AllByRecursion}
 use Rattle.std.specs.Option.{IfSome}
+use Rattle.std.proofs.lemmas.Option.{none-some, same_Some}
 use Rattle.std.proofs.lemmas.List.Elements.{All-from_recursion}
 use Rattle.std.specs.Ordering.{nat_cmp, eq_by_cmp}
 use Rattle.std.specs.Cmp.{nat_cmp_total}
@@ -46,23 +47,13 @@ either P false x y h k = k
 
 -- ---- the open operations
 
-abbrev session_or : Session → Option Session → Session
-session_or o (Some p) = p
-session_or o None = o
-
-not_some : (o : Session) → None ≡ Some o → ⊥
-not_some o is = true≢false (sym (ap (λ (x : Option Session). is_some x) is))
-
 module _ (l : Lengths) where
   no_session : TableHasValuesWithin l fin.empty
-  no_session = record { at = λ tag o has. absurd (not_some o (sym (fin.get-empty nat_cmp tag) ∙ has)) }
-
-  same_session : (o p : Session) → Some o ≡ Some p → o ≡ p
-  same_session o p is = ap (session_or o) is
+  no_session = record { at = λ tag o has. absurd (none-some o (sym (fin.get-empty nat_cmp tag) ∙ has)) }
 
   inserted : (b : Bool) (m : fin.FinMap nat_cmp Session) (q : ℕ) (o p : Session) → TableHasValuesWithin l m → SessionHasValuesWithin l o
       → cond b (Some o) (fin.get m q) ≡ Some p → SessionHasValuesWithin l p
-  inserted true m q o p table new is = subst (SessionHasValuesWithin l) (same_session o p is) new
+  inserted true m q o p table new is = subst (SessionHasValuesWithin l) (same_Some o p is) new
   inserted false m q o p table new is = table.at q p is
 
   table_with : (m : fin.FinMap nat_cmp Session) (tag : ℕ) (o : Session) → TableHasValuesWithin l m → SessionHasValuesWithin l o
@@ -72,7 +63,7 @@ module _ (l : Lengths) where
 
   removed : (b : Bool) (m : fin.FinMap nat_cmp Session) (q : ℕ) (p : Session) → TableHasValuesWithin l m → cond b None (fin.get m q) ≡ Some p
       → SessionHasValuesWithin l p
-  removed true m q p table is = absurd (not_some p is)
+  removed true m q p table is = absurd (none-some p is)
   removed false m q p table is = table.at q p is
 
   table_without : (m : fin.FinMap nat_cmp Session) (tag : ℕ) → TableHasValuesWithin l m → TableHasValuesWithin l (fin.remove m tag)

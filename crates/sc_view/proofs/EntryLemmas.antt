@@ -1,12 +1,13 @@
 -- Entries in rising id order, among others.
-use Rattle.std.proofs.Common.{◌≡◌, ℕ, ◌≤◌, ◌<◌, true, false, cond, ◌==◌, nat_lt, nat_le, List, [], ◌∷◌}
+use Rattle.std.proofs.Common.{◌≡◌, ℕ, ◌≤◌, ◌<◌, true, false, cond, nat_le, List, [], ◌∷◌}
 use Rattle.std.proofs.Common.{◌++◌, Some, None, refl, sym, ap, subst, ◌∙◌, arith, T, Ordering}
-use Rattle.std.proofs.lemmas.Bool.{cond_both, ltb-true, leb-true, leb-false, le-leb}
+use Rattle.std.proofs.lemmas.Bool.{cond_both, leb-true, leb-false, le-leb}
 use Rattle.std.specs.declared.cmp.Ordering.TheVariants.{Less, Equal, Greater}
 use Rattle.std.specs.Ordering.{nat_cmp, is_eq, is_lt}
 use Rattle.std.specs.FinMap.Entries.{put, find, by_order, below_all, is_sorted, is_sorted-put}
 use Rattle.std.specs.Cmp.{nat_cmp_total}
 use Rattle.forms.proofs.Tests.{both, first, second}
+use Rattle.forms.proofs.Maps.{less_from}
 use Rattle.sc_chunk.proofs.EntryLemmas.{cmp_less, cmp_greater, cmp_equal, over_lower, find_none, find_later}
 use Rattle.sc_view.specs.declared.view.Stored.{Stored}
 use Rattle.sc_view.specs.Rows.{from, Over, Under, Rises}
@@ -17,11 +18,6 @@ Entries = List (ℕ × Stored)
 
 abbrev pub Row : Type 0
 Row = List Entries
-
-less_from : (x y : ℕ) → T (is_lt (nat_cmp x y)) → x < y
-less_from x y h =
-    cond_both (nat_lt x y) Less (cond (x == y) Equal Greater) (λ o. T (is_lt o) → x < y) (λ p t. ltb-true x y p)
-    (λ p. cond_both (x == y) Equal Greater (λ o. T (is_lt o) → x < y) (λ q t. absurd t) (λ q t. absurd t)) h
 
 -- ---- the order
 

@@ -1,6 +1,7 @@
 -- The lengths of a view's values, by its entries and by its chunks.
 use Rattle.std.proofs.Common.{◌≡◌, ◌↔◌, ◌&&◌, nat_le, ℕ, Bool, IsTrue, true, false, [], ◌∷◌, length, Some, refl, sym, ap, subst, ◌∙◌, arith, true≢false}
 use Rattle.std.specs.Cmp.{first_so, second_so}
+use Rattle.std.proofs.lemmas.Option.{none-some}
 use Rattle.std.specs.List.{All, AllByRecursion, list_all}
 use Rattle.std.proofs.lemmas.Bool.{leb-true, le-leb, false_from_ne_true}
 use Rattle.std.proofs.lemmas.List.Elements.{All-from_recursion, recursion_from_All}
@@ -13,7 +14,7 @@ use Rattle.sc_view.specs.Views.{ViewMap, IsView, HasValuesWithin, has_values_wit
 use Rattle.sc_view.specs.Rows.{Rises}
 use Rattle.sc_view.proofs.AllLemmas.{all_both, all_split}
 use Rattle.sc_view.proofs.EntryLemmas.{Entries, Row, find_here, rises_from}
-use Rattle.sc_view.proofs.ViewLemmas.{no_entry, one_of, put_each, merge_each}
+use Rattle.sc_view.proofs.ViewLemmas.{one_of, put_each, merge_each}
 use Rattle.sc_view.proofs.MapLemmas.{view_of, Tells, tells_all, from_tail, entries_rising}
 
 -- an entry's value has one of these lengths
@@ -22,7 +23,7 @@ Within l e = IsWithin (length e.1.value) l
 
 found_within : (l : Lengths) (es : Entries) (id : ℕ) (x : Stored) → AllByRecursion (Within l) es → find nat_cmp id es ≡ Some x
     → IsWithin (length x.value) l
-found_within l [] id x all is = absurd (no_entry x is)
+found_within l [] id x all is = absurd (none-some x is)
 found_within l (e ∷ es) id x all is =
     one_of (λ y. IsWithin (length y.value) l) (is_eq (nat_cmp id e.0)) e.1 x (find nat_cmp id es) all.0 (found_within l es id x all.1) is
 
@@ -110,10 +111,10 @@ module _ (l : Lengths) (cs : Row) (v : ViewMap) (r : Rises (joined cs)) (is : vi
 -- ---- what keeps lengths
 
 pub empty_within : (l : Lengths) → HasValuesWithin l fin.empty
-empty_within l = record { at = λ id x has. absurd (no_entry x (sym (fin.get-empty nat_cmp id) ∙ has)) }
+empty_within l = record { at = λ id x has. absurd (none-some x (sym (fin.get-empty nat_cmp id) ∙ has)) }
 
 pub put_within : (l : Lengths) (v : ViewMap) (id : ℕ) (e : Stored) → HasValuesWithin l v → IsWithin (length e.value) l → HasValuesWithin l (put v id e)
-put_within l v id e h new = record { at = put_each (λ x. IsWithin (length x.value) l) v id e new h.at }
+put_within l v id e h new = record { at = put_each (λ q x. IsWithin (length x.value) l) v id e new h.at }
 
 pub merge_within : (l : Lengths) (v w : ViewMap) → HasValuesWithin l v → HasValuesWithin l w → HasValuesWithin l (merge v w)
 merge_within l v w h k = record { at = merge_each (λ id x. IsWithin (length x.value) l) v w h.at k.at }

@@ -14,6 +14,7 @@ use Rattle.std.specs.FinMap.Entries.{find, find-put}
 use Rattle.sc_view.specs.declared.view.Stored.{Stored}
 use Rattle.sc_view.specs.Views.{ViewMap, IsView, is_newer, put, merge, number_of, IsBelow, HasSmallChunks, IsChunking}
 use Rattle.sc_view.specs.Rows.{Rises, from, count_lacking, count_newer, is_larger, IsRow, IsHeld, joined, HasAtMost, HasAtLeast}
+use Rattle.forms.proofs.Maps.{entries_sorted}
 use Rattle.sc_view.proofs.RowLemmas.{row_short}
 use Rattle.sc_chunk.proofs.EntryLemmas.{cmp_greater, find_later}
 use Rattle.sc_view.proofs.EntryLemmas.{Entries, Row, sorted_from, find_from, rises_put, rises_onward, find_here}
@@ -35,10 +36,7 @@ module _ (es : Entries) where
   get_rising q = fin.get-from_entries nat_cmp_total es q
 
   pub entries_rising : Rises es → fin.entries (view_of es) ≡ es
-  entries_rising r =
-      let sorted = sorted_from es r in
-      ap fin.entries (fin.same_map nat_cmp_total fin.nat_cmp-IsAntisymmetric _ _ (λ q. get_rising q ∙ sym (fin.get-from_sorted nat_cmp es q sorted)))
-      ∙ fin.entries-from_sorted nat_cmp es sorted
+  entries_rising r = entries_sorted es (sorted_from es r)
 
   pub len_rising : Rises es → fin.len (view_of es) ≡ length es
   len_rising r = fin.len-entries _ ∙ ap length (entries_rising r)

@@ -4,6 +4,7 @@ use Rattle.std.proofs.Common.{Option, Some, None, is_some, IfSome, ◌⊎◌, in
 use Rattle.std.proofs.lemmas.Bool.{eqb-true, eq-eqb, cond_both}
 use Rattle.std.proofs.lemmas.Bool.Decides.{nat_tests}
 use Rattle.std.proofs.lemmas.List.{length-map}
+use Rattle.std.proofs.lemmas.Option.{none-some, same_Some}
 use Rattle.std.specs.Ordering.{nat_cmp}
 use Rattle.std.specs.Cmp.{nat_cmp_total, unsigned_tied}
 use Rattle.std.specs.BTreeMap.{is_at}
@@ -17,9 +18,6 @@ use Rattle.sc_view.specs.Values.{most_bytes}
 use Rattle.sc_view.specs.Views.{ViewMap, IsView, most_entries, is_newer, newer, newest, put, merge, number_of, number_at, IsBelow, IsCoveredBy, Agree}
 use Rattle.sc_view.proofs.EntryLemmas.{Entries}
 use Rattle.forms.proofs.Maps.{found, get_found, entries_found, one_written, missed, tail_rises, head_rises}
-
-pub no_entry : (e : Stored) → None ≡ Some e → ⊥
-no_entry e is = subst (λ (o : Option Stored). cond (is_some o) ⊥ (Unit {0})) is tt
 
 same_view : (v w : ViewMap) → ((q : ℕ) → fin.get v q ≡ fin.get w q) → v ≡ w
 same_view v w h = fin.same_map nat_cmp_total fin.nat_cmp-IsAntisymmetric v w h
@@ -202,7 +200,7 @@ pub merge_least : (u v w : ViewMap) → IsCoveredBy v u → IsCoveredBy w u → 
 merge_least u v w = merge_each (λ id e. Covers e (fin.get u id)) v w
 
 not_newer : (P : Type 0) (e : Stored) → Covers e None → P
-not_newer P e (inl is) = absurd (no_entry e is)
+not_newer P e (inl is) = absurd (none-some e is)
 not_newer P e (inr less) = absurd (omega (arith, less))
 
 same_entry : (d f : Stored) → Covers d (Some f) → Covers f (Some d) → Some d ≡ Some f
@@ -328,8 +326,8 @@ put_all-found es fs h = ap (put_all (fin.from_entries es)) (sym (entries_found f
 pub empty_valid : IsView fin.empty
 empty_valid = record {
   few = subst (λ n. n ≤ most_entries) (sym (fin.len-empty nat_cmp Stored)) (omega arith);
-  counted = λ id e is. absurd (no_entry e (sym (fin.get-empty nat_cmp id) ∙ is));
-  short = λ id e is. absurd (no_entry e (sym (fin.get-empty nat_cmp id) ∙ is));
+  counted = λ id e is. absurd (none-some e (sym (fin.get-empty nat_cmp id) ∙ is));
+  short = λ id e is. absurd (none-some e (sym (fin.get-empty nat_cmp id) ∙ is));
 }
 
 -- each value that is found has its number
@@ -337,28 +335,28 @@ pub counted_at : (v : ViewMap) (id : ℕ) (r : Option Stored) → IsView v → r
 counted_at v id None valid is = tt
 counted_at v id (Some e) valid is = valid.counted id e (sym is)
 
-same_stored : (x y : Stored) → Some x ≡ Some y → x ≡ y
-same_stored x y e = cc
-
 -- a test finds x or what o has
 pub one_of : (P : Stored → Type 0) (b : Bool) (x y : Stored) (o : Option Stored) → P x → (o ≡ Some y → P y) → cond b (Some x) o ≡ Some y → P y
-one_of P true x y o here there is = subst P (same_stored x y is) here
+one_of P true x y o here there is = subst P (same_Some x y is) here
 one_of P false x y o here there is = there is
 
 newer_each : (P : Stored → Type 0) (o : Option Stored) (e : Stored) → ((d : Stored) → o ≡ Some d → P d) → P e → P (newer o e)
 newer_each P None e old new = new
 newer_each P (Some d) e old new = cond_both (nat_lt d.number e.number) e d P (λ _. new) (λ _. old d refl)
 
-pub put_each : (P : Stored → Type 0) (v : ViewMap) (id : ℕ) (e : Stored) → P e → Each (λ q. P) v → Each (λ q. P) (put v id e)
-put_each P v id e new old q f is =
-    one_of P (q == id) (newer (fin.get v id) e) f (fin.get v q) (newer_each P (fin.get v id) e (old id) new) (old q f) (sym (get-put v id e q) ∙ is)
+pub put_each : (P : ℕ → Stored → Type 0) (v : ViewMap) (id : ℕ) (e : Stored) → P id e → Each P v → Each P (put v id e)
+put_each P v id e new old q f is = go (q == id) refl (sym (get-put v id e q) ∙ is)
+  where
+    go : (b : Bool) → (q == id) ≡ b → cond b (Some (newer (fin.get v id) e)) (fin.get v q) ≡ Some f → P q f
+    go true at found = subst (λ n. P n f) (sym (eqb-true q id at)) (subst (P id) (same_Some _ f found) (newer_each (P id) (fin.get v id) e (old id) new))
+    go false at found = old q f found
 
 pub put_valid : (v : ViewMap) (id : ℕ) (e : Stored) → IsView v → 1 ≤ e.number → length e.value ≤ most_bytes
     → fin.len (put v id e) ≤ most_entries → IsView (put v id e)
 put_valid v id e valid counted short few = record {
   few = few;
-  counted = put_each (λ f. 1 ≤ f.number) v id e counted valid.counted;
-  short = put_each (λ f. length f.value ≤ most_bytes) v id e short valid.short;
+  counted = put_each (λ q f. 1 ≤ f.number) v id e counted valid.counted;
+  short = put_each (λ q f. length f.value ≤ most_bytes) v id e short valid.short;
 }
 
 pub merge_valid : (v w : ViewMap) → IsView v → IsView w → fin.len (merge v w) ≤ most_entries → IsView (merge v w)

@@ -1,7 +1,7 @@
 -- What the parts of an event make together.
 use Rattle.std.proofs.Common.{◌≡◌, ◌≢◌, ℕ, zero, suc, ◌<◌, Bool, true, false, cond, ◌&&◌, ◌||◌, List, [], ◌∷◌, length}
 use Rattle.std.proofs.Common.{get_or, Option, Some, None, is_some, refl, sym, ap, ◌∙◌, arith, Result, Ok, Err}
-use Rattle.std.proofs.lemmas.Bool.{eq-eqb}
+use Rattle.std.proofs.lemmas.Bool.{eq-eqb, or_right}
 use Rattle.std.specs.Ordering.{nat_cmp, eq_by_cmp}
 use Rattle.std.specs.Cmp.{nat_cmp_total, unsigned_tied}
 use Rattle.std.specs.List.{list_any}
@@ -82,10 +82,6 @@ crash_step w id past numbers lives hp hf =
     ∙ (λ i. Ok (record { tag = None; ended = None; sent = sym hf i }, world_of w.nodes (sym hp i)))
 
 -- a founder is among the founders
-or_right : (a b : Bool) → b ≡ true → (a || b) ≡ true
-or_right true b h = refl
-or_right false b h = h
-
 any_at : (ids : List ℕ) (k d : ℕ) → k < length ids → list_any (eq_by_cmp nat_cmp (get_or ids k d)) ids ≡ true
 any_at [] k d lt = absurd (omega (arith, lt))
 any_at (x ∷ ids) zero d lt = ap (λ b. b || list_any (eq_by_cmp nat_cmp x) ids) (unsigned_tied x x ∙ eq-eqb x x refl)

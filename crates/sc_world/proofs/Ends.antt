@@ -1,7 +1,9 @@
 -- What an event tells of an operation that ends is in the operation's record.
 use Rattle.std.proofs.Common.{◌≡◌, ℕ, [], map, Option, Some, None, refl, sym, ap, ◌∙◌, subst, inl, inr, Ok}
+use Rattle.std.proofs.lemmas.Option.{same_Some}
 use Rattle.std.specs.Ordering.{nat_cmp}
 use Rattle.std.specs.FinMap as fin
+use Rattle.forms.proofs.Lists.{among_left}
 use Rattle.sc_view.specs.declared.view.Stored.{Stored}
 use Rattle.sc_view.specs.Views.{ViewMap}
 use Rattle.sc_msg.specs.declared.message.Message.{Message}
@@ -28,7 +30,7 @@ use Rattle.sc_world.specs.Records.{Among}
 use Rattle.sc_world.specs.Regular.{HasReturned, HasStored, EndIsRecorded}
 use Rattle.sc_world.specs.Operations.{returned_by}
 use Rattle.sc_world.proofs.Links.{IsLinked, site_of, IsMove}
-use Rattle.sc_world.proofs.Steps.{among-left, among-image, advance_op, is_open}
+use Rattle.sc_world.proofs.Steps.{among-image, advance_op, is_open}
 use Rattle.sc_world.proofs.Handlers.{heard, heard_moves, moves}
 use Rattle.sc_world.proofs.Telling.{kind_kept}
 use Rattle.sc_world.proofs.Tallies.{IsTallied}
@@ -57,9 +59,6 @@ stored_with (session.Store e b) p = refl
 stored_with (session.Querying q) p = refl
 stored_with (session.StoringBack q b) p = refl
 
-some_is : {X : Type 0} {x y : X} → Some x ≡ Some y → x ≡ y
-some_is h = cc
-
 -- what is told of an operation that ends: its tag, and what it gives
 record IsEnd (tag : ℕ) (s : Session) (x : Ended) : Type 0 where
   tagged : x.tag ≡ tag
@@ -68,10 +67,10 @@ record IsEnd (tag : ℕ) (s : Session) (x : Ended) : Type 0 where
 
 is_end : (tag : ℕ) (s : Session) (x : Ended) → ended_with tag s ≡ Some x → IsEnd tag s x
 is_end tag (session.Store e b) x h =
-    subst (IsEnd tag (session.Store e b)) (some_is h) (record { tagged = refl; returned = λ view is. absurd (cc); stored = λ is. (e, refl) })
+    subst (IsEnd tag (session.Store e b)) (same_Some _ _ h) (record { tagged = refl; returned = λ view is. absurd (cc); stored = λ is. (e, refl) })
 is_end tag (session.Querying p) x h = absurd (cc)
 is_end tag (session.StoringBack p b) x h =
-    subst (IsEnd tag (session.StoringBack p b)) (some_is h)
+    subst (IsEnd tag (session.StoringBack p b)) (same_Some _ _ h)
     (record {
       tagged = refl;
       returned = λ view is. let same : b.view ≡ view = cc in (refl, ap (λ (y : ViewMap). let o : Option ViewMap = Some y in o) same);
@@ -143,7 +142,7 @@ module _ (w : WorldState) (e : WorldEvent) (q : ℕ) (n : NodeState) (at : fin.g
       ∙ ap (λ (y : Option Progress). advanced q (clock w) y o) (sym k.is) in
       record {
         op = o';
-        among = among-left o' (map move w.ops) [] (among-image move o w.ops in');
+        among = among_left o' (map move w.ops) [] (among-image move o w.ops in');
         by = ap (λ (y : Op). y.node) (sym turns) ∙ by;
         tagged = ap (λ (y : Op). y.tag) (sym turns) ∙ tagged;
         ended = ap (λ (y : Op). y.end) (sym turns) ∙ ap (end_at (clock w)) k.ends;

@@ -22,7 +22,7 @@ use Rattle.sc_world.specs.declared.event.WorldEvent.TheVariants as event
 use Rattle.sc_world.specs.declared.event.WorldStep.{WorldStep}
 use Rattle.sc_world.specs.declared.op.Op.{Op}
 use Rattle.sc_world.specs.State.{WorldState}
-use Rattle.sc_world.specs.Worlds.{clock, node_of, Outcome, told, after, end_at, advanced, stores, stepped}
+use Rattle.sc_world.specs.Worlds.{clock, node_of, Outcome, told, after, end_at, advanced, stepped}
 use Rattle.sc_world.specs.Records.{Among, Answers, IsAck, IsUntil, IsPhase, HasCome, AreRecords}
 use Rattle.sc_world.specs.Regular.{EndIsTold}
 use Rattle.sc_world.proofs.Links.{IsMove}

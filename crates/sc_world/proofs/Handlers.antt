@@ -3,7 +3,10 @@ use Rattle.std.proofs.Common.{◌≡◌, ℕ, ◌+◌, ◌≤◌, ◌<◌, Bool,
 use Rattle.std.proofs.Common.{Option, Some, None, is_some, refl, sym, ap, ◌∙◌, subst, arith, ◌⊎◌, inl, inr}
 use Rattle.std.proofs.lemmas.Bool.{eqb-true}
 use Rattle.std.specs.Ordering.{nat_cmp}
+use Rattle.std.specs.List.{AllByRecursion}
 use Rattle.std.specs.FinMap as fin
+use Rattle.std.proofs.lemmas.List.{length_push}
+use Rattle.forms.proofs.Lists.{among_either}
 use Rattle.sc_view.specs.declared.view.Stored.{Stored}
 use Rattle.sc_view.specs.Views.{ViewMap, number_at, IsBelow, merge}
 use Rattle.sc_members.specs.Members.{Config, with_left}
@@ -33,10 +36,10 @@ use Rattle.sc_world.specs.State.{WorldState}
 use Rattle.sc_world.specs.Worlds.{clock, Outcome, of_entered, of_left, of_begun, of_delivered, end_at, advanced, after}
 use Rattle.sc_world.specs.Records.{Among}
 use Rattle.sc_world.proofs.Changes.{view_of, view_at, Kept, IsAbout, IsSent, IsBodySent, IsChange}
-use Rattle.sc_world.proofs.Links.{IsLinked, Site, session_moved, session_after, IsTransition, AckMakes, ReplyMakes, IsMove, IsProgress, Each, IsBodyKnown}
+use Rattle.sc_world.proofs.Links.{IsLinked, Site, session_moved, session_after, IsTransition, AckMakes, ReplyMakes, IsMove, IsProgress, IsBodyKnown}
 use Rattle.sc_world.proofs.Finite.{get-insert, get-insert_same, get-remove}
 use Rattle.sc_view.proofs.ViewLemmas.{below_refl, below_merge, merge_above, below_put, put_has}
-use Rattle.sc_world.proofs.Steps.{among-append, length-more, advance_op, each_after, node_next, the_node, is_open, known_next, view_next, is_change, is_linked}
+use Rattle.sc_world.proofs.Steps.{advance_op, each_after, node_next, the_node, is_open, known_next, view_next, is_change, is_linked}
 
 -- what each event makes of a node, where it is accepted
 abbrev pub heard : NodeState → ℕ → Body → Outcome
@@ -106,7 +109,7 @@ heard_moves n from b = record {
   begun = tt;
 }
 
-pub each_if : {X : Type 0} (P : X → Type 0) (b : Bool) (xs : List X) → Each P xs → Each P (cond b xs [])
+pub each_if : {X : Type 0} (P : X → Type 0) (b : Bool) (xs : List X) → AllByRecursion P xs → AllByRecursion P (cond b xs [])
 each_if P true xs h = h
 each_if P false xs h = tt
 
@@ -222,7 +225,7 @@ module _ (site : Site) (from : ℕ) where
 
   -- what a collect stores back is sent, and is what its record has
   turned_sent : (p : Progress) (a : Advance) (f : ReplyFields) (r : Outcome) → r.progress ≡ Some p → r.begun ≡ None → IsTransition n r
-      → IsMove n from (CollectReply f) (Some p) → p.advance ≡ a → Each (IsBodySent w (after w e q r) q) (store_of p.tag a)
+      → IsMove n from (CollectReply f) (Some p) → p.advance ≡ a → AllByRecursion (IsBodySent w (after w e q r) q) (store_of p.tag a)
   turned_sent p advance.Counted f r moves begins x m is = tt
   turned_sent p advance.Ended f r moves begins x m is = tt
   turned_sent p (advance.Turned next v) f r moves begins x m is = (
@@ -242,11 +245,11 @@ module _ (site : Site) (from : ℕ) where
   )
 
   back_sent : (p : Option Progress) (f : ReplyFields) (r : Outcome) → r.progress ≡ p → r.begun ≡ None → IsTransition n r
-      → IsMove n from (CollectReply f) p → Each (IsBodySent w (after w e q r) q) (store_back p)
+      → IsMove n from (CollectReply f) p → AllByRecursion (IsBodySent w (after w e q r) q) (store_back p)
   back_sent None f r moves begins x m = tt
   back_sent (Some p) f r moves begins x m = turned_sent p p.advance f r moves begins x m refl
 
-  answers_sent : (b : Body) → Among (message_from from b) w.sent → Each (IsBodySent w (heard_world b) q) (answers n from b)
+  answers_sent : (b : Body) → Among (message_from from b) w.sent → AllByRecursion (IsBodySent w (heard_world b) q) (answers n from b)
   answers_sent Enter sent = (tt, tt)
   answers_sent (EnterEcho f) sent = each_if (IsBodySent w (heard_world (EnterEcho f)) q) (joins n from (EnterEcho f)) (Join ∷ []) (tt, tt)
   answers_sent Join sent = (tt, tt)
@@ -263,7 +266,7 @@ module _ (site : Site) (from : ℕ) where
       back_sent (progress_of n from b) r (heard n from b) refl refl (heard_moves n from b) (moves n from b)
   answers_sent b sent = tt
 
-  back_known : (p : Option Progress) (r r' : Outcome) → IsTransition n r → IsProgress w q n r' p → Each (IsBodyKnown (after w e q r) q) (store_back p)
+  back_known : (p : Option Progress) (r r' : Outcome) → IsTransition n r → IsProgress w q n r' p → AllByRecursion (IsBodyKnown (after w e q r) q) (store_back p)
   back_known None r r' x k = tt
   back_known (Some p) r r' x k = go p.advance
     where
@@ -274,7 +277,7 @@ module _ (site : Site) (from : ℕ) where
             | inr a ↦ linked.known (message_from p.sender (CollectReply a.reply)) a.sent node tag (a.to ∙ about.0, a.tag ∙ about.1)
           ]
 
-      go : (a : Advance) → Each (IsBodyKnown (after w e q r) q) (store_of p.tag a)
+      go : (a : Advance) → AllByRecursion (IsBodyKnown (after w e q r) q) (store_of p.tag a)
       go advance.Counted = tt
       go advance.Ended = tt
       go (advance.Turned next v) = ((λ node tag about. let h = known_tag node tag about in known_next site r x node tag h.0 h.1 h.2), tt)
@@ -285,7 +288,7 @@ module _ (site : Site) (from : ℕ) where
   still_known b m sent node tag about =
       let h = linked.known m sent node tag about in known_next site (heard n from b) (heard_moves n from b) node tag h.0 h.1 h.2
 
-  answers_known : (b : Body) → Among (message_from from b) w.sent → Each (IsBodyKnown (heard_world b) q) (answers n from b)
+  answers_known : (b : Body) → Among (message_from from b) w.sent → AllByRecursion (IsBodyKnown (heard_world b) q) (answers n from b)
   answers_known Enter sent = ((λ p t about. absurd about), tt)
   answers_known (EnterEcho f) sent =
       each_if (IsBodyKnown (heard_world (EnterEcho f)) q) (joins n from (EnterEcho f)) (Join ∷ []) ((λ p t about. absurd about), tt)
@@ -413,14 +416,14 @@ module _ (w : WorldState) (e : WorldEvent) (q : ℕ) (linked : IsLinked w) where
         (λ there. below_refl _)
 
     enter_sent : (m : Message) → Among m entry_world.sent → Among m w.sent ⊎ IsSent w entry_world m
-    enter_sent m in' = elim (among-append m w.sent (message_from q Enter ∷ []) in') [
+    enter_sent m in' = elim (among_either m w.sent (message_from q Enter ∷ []) in') [
       | inl h ↦ inl h
       | inr (inl e) ↦ inr (subst (IsSent w entry_world) (sym e) tt)
       | inr (inr none) ↦ absurd none
     ]
 
     pub enter_change : IsChange w entry_world
-    enter_change = record { clock = length-more w.events e; grows = enter_grows; ops = λ o in'. Kept (kept_op o in'); sent = enter_sent }
+    enter_change = record { clock = length_push w.events e; grows = enter_grows; ops = λ o in'. Kept (kept_op o in'); sent = enter_sent }
 
     kept_node : (p : ℕ) (n : NodeState) → fin.get w.nodes p ≡ Some n → fin.get entry_world.nodes p ≡ Some n
     kept_node p n is =
@@ -433,7 +436,7 @@ module _ (w : WorldState) (e : WorldEvent) (q : ℕ) (linked : IsLinked w) where
           (λ here e. let same : entering c q ≡ n = cc in sym (ap (λ (y : NodeState). y.id) same) ∙ sym here)
           (λ there e. linked.named id n e) is;
       owned = λ o in'. let h = linked.owned o (kept_op o in') in record { node = h.node; at = kept_node o.node h.node h.at; tag = h.tag; session = h.session };
-      known = λ m in' p t about. elim (among-append m w.sent (message_from q Enter ∷ []) in') [
+      known = λ m in' p t about. elim (among_either m w.sent (message_from q Enter ∷ []) in') [
         | inl h ↦ let k = linked.known m h p t about in (k.0, kept_node p k.0 k.1, k.2)
         | inr (inl e) ↦ absurd (subst (λ (y : Message). IsAbout y p t) e about)
         | inr (inr none) ↦ absurd none

@@ -1,5 +1,5 @@
 -- What an event adds to a history.
-use Rattle.std.proofs.Common.{◌≡◌, ℕ, ◌≤◌, zero, suc, List, [], ◌∷◌, ◌++◌, length, take, Some, refl, sym, ap, ◌∙◌, subst, slice_get, Ok}
+use Rattle.std.proofs.Common.{◌≡◌, ℕ, ◌≤◌, List, [], ◌∷◌, ◌++◌, take, refl, sym, ap, ◌∙◌, subst, Ok}
 use Rattle.std.proofs.lemmas.List.{take-append-le, append-nil}
 use Rattle.std.proofs.Math.Seq.{take-length}
 use Rattle.sc_members.specs.Members.{Config}
@@ -11,15 +11,6 @@ use Rattle.sc_world.specs.State.{WorldState}
 use Rattle.sc_world.specs.Worlds.{clock, Outcome, after, stepped, Reaches, start, IsHistory, WasBefore}
 use Rattle.sc_world.proofs.Handlers.{heard, store_outcome, collect_outcome, left_outcome, entered_outcome}
 use Rattle.sc_world.proofs.Inverts.{by_event}
-
-pub slice_get_front : {X : Type 0} (xs ys : List X) (k : ℕ) (x : X) → slice_get xs k ≡ Some x → slice_get (xs ++ ys) k ≡ Some x
-slice_get_front [] ys k x h = absurd (cc)
-slice_get_front (y ∷ xs) ys zero x h = h
-slice_get_front (y ∷ xs) ys (suc k) x h = slice_get_front xs ys k x h
-
-pub slice_get_last : {X : Type 0} (xs : List X) (x : X) → slice_get (xs ++ x ∷ []) (length xs) ≡ Some x
-slice_get_last [] x = refl
-slice_get_last (y ∷ xs) x = slice_get_last xs x
 
 -- the event is one more, and messages only grow
 pub record IsNext (w : WorldState) (e : WorldEvent) (w' : WorldState) : Type 0 where

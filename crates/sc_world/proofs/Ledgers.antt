@@ -2,6 +2,7 @@
 use Rattle.std.proofs.Common.{◌≡◌, ℕ, zero, suc, ◌+◌, true, false, List, [], ◌∷◌, ◌++◌, length, map, take, Option}
 use Rattle.std.proofs.Common.{Some, None, refl, sym, ap, ◌∙◌, subst, arith, ◌⊎◌, inl, inr, slice_get, Ok}
 use Rattle.std.proofs.lemmas.Bool.{eq-eqb}
+use Rattle.std.proofs.lemmas.Option.{same_Some}
 use Rattle.std.proofs.Math.Seq.{take-append_seam}
 use Rattle.std.specs.FinMap as fin
 use Rattle.sc_msg.specs.declared.message.Message.{Message}
@@ -17,7 +18,7 @@ use Rattle.sc_world.specs.declared.event.WorldEvent.TheVariants as event
 use Rattle.sc_world.specs.declared.event.WorldStep.{WorldStep}
 use Rattle.sc_world.specs.declared.op.Op.{Op}
 use Rattle.sc_world.specs.State.{WorldState}
-use Rattle.sc_world.specs.Worlds.{clock, Outcome, advanced, op_begun, after, stores, stepped, IsHistory}
+use Rattle.sc_world.specs.Worlds.{clock, Outcome, advanced, op_begun, after, stepped, IsHistory}
 use Rattle.sc_world.specs.Records.{Among, beginning_of, begins, operations_of, stores_of, IsAck, IsReply, IsRecord, AreDistinct, HasBegun, AreRecords}
 use Rattle.sc_world.proofs.Changes.{IsSound}
 use Rattle.sc_world.proofs.Links.{IsLinked, site_of, new_op, IsMove}
@@ -42,9 +43,6 @@ get_map : {X Y : Type 0} (f : X → Y) (xs : List X) (i : ℕ) (a : Y) → slice
 get_map f [] i a h = absurd (cc)
 get_map f (x ∷ xs) zero a h = (x, refl, (let e : f x ≡ a = cc in sym e))
 get_map f (x ∷ xs) (suc i) a h = get_map f xs i a h
-
-begun_is : (b y : BegunOp) → Some b ≡ Some y → b ≡ y
-begun_is b y is = cc
 
 -- a list of records, some of them moved, and at most one new
 module _ (q place : ℕ) (p : Option Progress) (ops : List Op) (b : Option BegunOp) (distinct : AreDistinct ops)
@@ -153,7 +151,7 @@ module _ (w : WorldState) (history : IsHistory w) (linked : IsLinked w) (sound :
       one_records : (n : NodeState) → fin.get w.nodes q ≡ Some n → (b : BegunOp) → r.begun ≡ Some b → b.tag ≡ n.operations
           → IsRecord next (new_op q (clock w) b) → AreRecords next
       one_records n at b is tag new =
-          begun_records fresh (λ y is'. subst (λ (z : BegunOp). IsRecord next (new_op q (clock w) z)) (begun_is b y (sym is ∙ is')) new)
+          begun_records fresh (λ y is'. subst (λ (z : BegunOp). IsRecord next (new_op q (clock w) z)) (same_Some b y (sym is ∙ is')) new)
           (λ node d same. record { op = new_op q (clock w) b; among = begun_among w e q r b is; at = refl })
         where
           -- tags of a node's operations are below its count
@@ -161,7 +159,7 @@ module _ (w : WorldState) (history : IsHistory w) (linked : IsLinked w) (sound :
           fresh y is' o in' nq tq =
               let h = linked.owned o in' in
               let same : h.node ≡ n = the_node (site_of w e q n at linked) o.node h.node nq h.at in
-              let here : b.tag ≡ y.tag = ap (λ (z : BegunOp). z.tag) (begun_is b y (sym is ∙ is')) in
+              let here : b.tag ≡ y.tag = ap (λ (z : BegunOp). z.tag) (same_Some b y (sym is ∙ is')) in
               absurd (omega (arith, h.tag, ap (λ (z : NodeState). z.operations) same, tq, here, tag))
 
   -- how many operations and stores a node has begun, by the events before this one

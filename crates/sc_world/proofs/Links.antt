@@ -1,5 +1,5 @@
 -- How the records of operations follow the nodes' own state.
-use Rattle.std.proofs.Common.{◌≡◌, ℕ, ◌≤◌, ◌<◌, cond, ◌==◌, is_none, List, [], ◌∷◌, Option, Some, None, ◌⊎◌}
+use Rattle.std.proofs.Common.{◌≡◌, ℕ, ◌≤◌, ◌<◌, cond, ◌==◌, is_none, Option, Some, None, ◌⊎◌}
 use Rattle.std.specs.FinMap as fin
 use Rattle.std.specs.FinSet as set
 use Rattle.sc_view.specs.declared.view.Stored.{Stored}
@@ -164,10 +164,6 @@ pub record IsFreshSession (q : ℕ) (s : Session) : Type 0 where
 abbrev pub IsFresh : ℕ → Option BegunOp → Type 0
 IsFresh q None = Unit {0}
 IsFresh q (Some b) = IsFreshSession q b.session
-
-abbrev pub Each : {X : Type 0} → (X → Type 0) → List X → Type 0
-Each P [] = Unit {0}
-Each P (x ∷ xs) = P x × Each P xs
 
 -- each message that is sent belongs to an operation that has begun
 abbrev pub IsBodyKnown : WorldState → ℕ → Body → Type 0

@@ -1,7 +1,7 @@
 -- The record that was made ready is the one that moves.
 use Rattle.std.proofs.Common.{◌≡◌, ℕ, zero, suc, ◌≤◌, Bool, true, false, cond, ◌==◌, nat_lt, List, [], ◌∷◌, map, length, get_or, Option}
 use Rattle.std.proofs.Common.{Some, None, refl, sym, ap, ◌∙◌, subst, arith, inl, inr, slice_get, slice_set, position, Ok}
-use Rattle.std.proofs.lemmas.Bool.{eq-eqb, eqb-true}
+use Rattle.std.proofs.lemmas.Bool.{eq-eqb, eqb-true, false_from_ne_true}
 use Rattle.std.proofs.lemmas.Bool.Decides.{nat_tests}
 use Rattle.std.proofs.lemmas.List.Sums.{fails_before_first}
 use Rattle.std.proofs.lemmas.List.Quantifiers.{position-Some}
@@ -52,22 +52,18 @@ module _ (test : Op → Bool) (f : Op → Op) where
   place_in (x ∷ ops) o (inl e) = (zero, ap (λ (y : Op). let z : Option Op = Some y in z) (sym e))
   place_in (x ∷ ops) o (inr in') = let k = place_in ops o in' in (suc k.0, k.1)
 
-  not_tested : (b : Bool) → (b ≡ true → ⊥) → b ≡ false
-  not_tested true never = absurd (never refl)
-  not_tested false never = refl
-
   pub one_changes : (ops : List Op) (k : ℕ) (o : Op) → slice_get ops k ≡ Some o → test o ≡ true
       → ((j : ℕ) (x : Op) → slice_get ops j ≡ Some x → test x ≡ true → j ≡ k) → slice_set ops k (f o) ≡ map change ops
   one_changes [] k o at is only = absurd (cc)
   one_changes (x ∷ ops) zero o at is only =
       let same : x ≡ o = cc in
-      let rest : ops ≡ map change ops = none_change ops (λ y in'. not_tested (test y) (λ hit.
+      let rest : ops ≡ map change ops = none_change ops (λ y in'. false_from_ne_true (test y) (λ hit.
       let k = place_in ops y in' in
       let h : suc k.0 ≡ zero = only (suc k.0) y k.1 hit in
       absurd (omega (arith, h)))) in
       λ i. (on o is ∙ ap change (sym same)) i ∷ rest i
   one_changes (x ∷ ops) (suc k) o at is only =
-      let head : test x ≡ false = not_tested (test x) (λ hit. let h : zero ≡ suc k = only zero x refl hit in absurd (omega (arith, h))) in
+      let head : test x ≡ false = false_from_ne_true (test x) (λ hit. let h : zero ≡ suc k = only zero x refl hit in absurd (omega (arith, h))) in
       λ i. off x head i ∷ one_changes ops k o at is (λ j y at' hit. let h : suc j ≡ suc k = only (suc j) y at' hit in omega (arith, h)) i
 
   past : (ops : List Op) → position test ops ≡ None → length ops ≤ position_or_len test ops

@@ -5,10 +5,11 @@ use Rattle.std.proofs.lemmas.Bool.Decides.{nat_tests}
 use Rattle.std.proofs.lemmas.List.{take-append-le}
 use Rattle.std.proofs.lemmas.Option.{slice_get_within}
 use Rattle.std.specs.Ordering.{nat_cmp}
-use Rattle.std.specs.Cmp.{nat_cmp_total}
 use Rattle.std.specs.FinMap as fin
 use Rattle.std.specs.FinSet as set
-use Rattle.sc_members.specs.Ids.{Ids, Has}
+use Rattle.std.proofs.lemmas.List.{length_push}
+use Rattle.forms.proofs.Appended.{slice_get_front, slice_get_last}
+use Rattle.sc_members.specs.Ids.{Has}
 use Rattle.sc_msg.specs.declared.message.Message.{Message}
 use Rattle.sc_operations.specs.declared.session.Phase.{Phase}
 use Rattle.sc_operations.specs.declared.session.Session.{Session}
@@ -24,9 +25,9 @@ use Rattle.sc_world.specs.State.{WorldState}
 use Rattle.sc_world.specs.Worlds.{moved, clock, end_at, WasBefore}
 use Rattle.sc_world.specs.Records.{Answers, IsAck, IsReply, IsDelivered, IsAnswered, IsOpen, IsMeasured}
 use Rattle.sc_world.specs.Records.{IsUntil, IsPhase, operations_of, stores_of, HasCome, IsRecord}
+use Rattle.sc_members.proofs.Sets.{len_insert}
 use Rattle.sc_world.proofs.Soundness.{counted}
-use Rattle.sc_world.proofs.Steps.{length-more}
-use Rattle.sc_world.proofs.Histories.{IsNext, slice_get_front, slice_get_last, before_next}
+use Rattle.sc_world.proofs.Histories.{IsNext, before_next}
 
 reached_at : (threshold count : ℕ) → nat_le threshold count ≡ true → threshold ≤ count
 reached_at threshold count h = grind (arith, nat_tests)
@@ -34,19 +35,10 @@ reached_at threshold count h = grind (arith, nat_tests)
 missed_at : (threshold count : ℕ) → nat_le threshold count ≡ false → count < threshold
 missed_at threshold count h = grind (arith, nat_tests)
 
-more_by_one : (b : Bool) (n : ℕ) → cond b n (n + 1) ≤ n + 1
-more_by_one true n = omega arith
-more_by_one false n = omega arith
-
-len_insert : (s : Ids) (id : ℕ) → set.len (set.insert s id) ≤ set.len s + 1
-len_insert s id =
-    let h : set.len (set.insert s id) ≡ cond (set.contains s id) (set.len s) (set.len s + 1) = set.len-insert nat_cmp_total s id in
-    omega (arith, h, more_by_one (set.contains s id) (set.len s))
-
 -- what is said of a world stays so
 module _ (w : WorldState) (e : WorldEvent) (w' : WorldState) (k : IsNext w e w') where
   pub clock_is : clock w' ≡ clock w + 1
-  clock_is = ap length k.events ∙ length-more w.events e
+  clock_is = ap length k.events ∙ length_push w.events e
 
   pub event_kept : (place : ℕ) (x : WorldEvent) → slice_get w.events place ≡ Some x → slice_get w'.events place ≡ Some x
   event_kept place x h = ap (λ es. slice_get es place) k.events ∙ slice_get_front w.events (e ∷ []) place x h
@@ -142,7 +134,7 @@ module _ (w : WorldState) (e : WorldEvent) (w' : WorldState) (k : IsNext w e w')
         full = record {
           counted = refl;
           few = h.until.few;
-          reached = omega (arith, len_insert p.counted from, h.until.few, reached_at p.threshold (set.len (set.insert p.counted from)) is);
+          reached = omega (arith, (len_insert p.counted from).1, h.until.few, reached_at p.threshold (set.len (set.insert p.counted from)) is);
         };
         answered = λ q is. answered_kept P node since (clock w) (clock w) q (omega arith) (h.until.answered q is);
         finish = d;

@@ -5,6 +5,8 @@ use Rattle.std.proofs.lemmas.Bool.{eqb-true}
 use Rattle.std.specs.Ordering.{nat_cmp}
 use Rattle.std.specs.FinMap as fin
 use Rattle.std.specs.FinSet as set
+use Rattle.std.proofs.lemmas.List.{length_push}
+use Rattle.forms.proofs.Lists.{among_either}
 use Rattle.sc_view.specs.declared.view.Stored.{Stored}
 use Rattle.sc_view.specs.Views.{ViewMap}
 use Rattle.sc_members.specs.Ids.{Ids}
@@ -21,7 +23,7 @@ use Rattle.sc_world.specs.declared.event.WorldEvent.TheVariants as event
 use Rattle.sc_world.specs.declared.event.WorldStep.{WorldStep}
 use Rattle.sc_world.specs.declared.op.Op.{Op}
 use Rattle.sc_world.specs.State.{WorldState}
-use Rattle.sc_world.specs.Worlds.{clock, after, stores, stepped, Reaches, start, nodes_with}
+use Rattle.sc_world.specs.Worlds.{clock, after, stepped, Reaches, start, nodes_with}
 use Rattle.sc_world.specs.Records.{Among}
 use Rattle.sc_world.proofs.Changes.{Kept, IsChange, IsSound, view_at, view_of}
 use Rattle.sc_world.proofs.Links.{IsLinked, Site, site_of}
@@ -30,7 +32,7 @@ use Rattle.sc_world.proofs.Numbers.{IsNumbered}
 use Rattle.sc_world.proofs.Finite.{get-insert}
 use Rattle.sc_view.proofs.ViewLemmas.{below_refl}
 use Rattle.sc_world.proofs.Soundness.{sound_after}
-use Rattle.sc_world.proofs.Steps.{among-append, length-more, node_next}
+use Rattle.sc_world.proofs.Steps.{node_next}
 use Rattle.sc_world.proofs.Handlers.{heard, store_outcome, collect_outcome, left_outcome, entered_outcome, heard_moves, store_moves}
 use Rattle.sc_world.proofs.Handlers.{collect_moves, left_moves, store_change, store_linked, collect_change, collect_linked, left_change}
 use Rattle.sc_world.proofs.Handlers.{left_linked, delivery_change, delivery_linked, kept_op, enter_change, enter_linked}
@@ -112,17 +114,17 @@ module _ (w : WorldState) (e : WorldEvent) (linked : IsLinked w) where
       let u : WorldState = record w { crashed = gone; events = w.events ++ e ∷ [] } in
       let there : (o : Op) → Among o w.ops → IsThere u o = λ o in'. record { op = o; among = in'; node = refl; kind = refl; begin = refl } in
       record {
-        change = record { clock = length-more w.events e; grows = λ id. below_refl _; ops = λ o in'. Kept in'; sent = λ m in'. inl in' };
+        change = record { clock = length_push w.events e; grows = λ id. below_refl _; ops = λ o in'. Kept in'; sent = λ m in'. inl in' };
         linked = record {
           named = linked.named;
           owned = λ o in'. let h = linked.owned o in' in record { node = h.node; at = h.at; tag = h.tag; session = h.session };
           known = linked.known;
         };
         told = λ s t. record {
-          next = length-more w.events e;
+          next = length_push w.events e;
           persists = there;
           ops = λ o in'. Kept in';
-          views = λ p. lift w u (clock w) (clock u) (view_at w p) there (omega (arith, length-more w.events e)) (t.views p);
+          views = λ p. lift w u (clock w) (clock u) (view_at w p) there (omega (arith, length_push w.events e)) (t.views p);
           sent = λ m in'. inl in';
           begun = λ o in' b. let h : o.begin ≡ clock w = b.begin in absurd (omega (arith, h, s.began o in'));
         };
@@ -131,7 +133,7 @@ module _ (w : WorldState) (e : WorldEvent) (linked : IsLinked w) where
 
   enter_tells : (u : WorldState) (q : ℕ) (m : Message) → Among m (w.sent ++ message_from q Enter ∷ [])
       → Among m w.sent ⊎ ((v : ViewMap) → body_view m.body ≡ Some v → IsTrue u (clock u) v)
-  enter_tells u q m in' = elim (among-append m w.sent (message_from q Enter ∷ []) in') [
+  enter_tells u q m in' = elim (among_either m w.sent (message_from q Enter ∷ []) in') [
     | inl h ↦ inl h
     | inr (inl same) ↦ inr (λ v is. let k : None ≡ Some v = sym (ap (λ (y : Message). body_view y.body) same) ∙ is in absurd (cc))
     | inr (inr none) ↦ absurd none
@@ -145,12 +147,12 @@ module _ (w : WorldState) (e : WorldEvent) (linked : IsLinked w) where
         change = enter_change w e q linked w.config at;
         linked = enter_linked w e q linked w.config at;
         told = λ s t. record {
-          next = length-more w.events e;
+          next = length_push w.events e;
           persists = there;
           ops = λ o in'. Kept (kept_op w e q linked o in');
           views = λ p.
               node_next w e q (entered_outcome w.config q) (λ (o : Option NodeState). IsTrue u (clock u) (view_of o)) p (λ _. true_empty u (clock u))
-              (λ _. lift w u (clock w) (clock u) (view_at w p) there (omega (arith, length-more w.events e)) (t.views p));
+              (λ _. lift w u (clock w) (clock u) (view_at w p) there (omega (arith, length_push w.events e)) (t.views p));
           sent = λ m in'. enter_tells u q m in';
           begun = λ o in' b. let h : o.begin ≡ clock w = b.begin in absurd (omega (arith, h, s.began o (kept_op w e q linked o in')));
         };

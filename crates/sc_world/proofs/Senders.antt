@@ -5,7 +5,7 @@ use Rattle.std.proofs.lemmas.Option.{slice_get_within}
 use Rattle.std.specs.FinMap as fin
 use Rattle.sc_msg.specs.declared.message.Message.{Message}
 use Rattle.sc_msg.specs.declared.message.Body.{Body}
-use Rattle.sc_msg.specs.declared.message.Body.TheVariants.{Enter, Leave, Store, CollectQuery}
+use Rattle.sc_msg.specs.declared.message.Body.TheVariants.{Enter, Leave, CollectQuery}
 use Rattle.sc_node.specs.State.{NodeState}
 use Rattle.sc_node.specs.Nodes.{message_from, answers}
 use Rattle.sc_world.specs.declared.event.WorldEvent.{WorldEvent}

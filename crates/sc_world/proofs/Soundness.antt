@@ -1,6 +1,6 @@
 -- Each change keeps what is sound.
-use Rattle.std.proofs.Common.{◌≡◌, ℕ, ◌<◌, Bool, true, false, ◌==◌, ◌||◌, Some, None, refl, sym, ap, ◌∙◌, subst, arith, ◌⊎◌, inl, inr}
-use Rattle.std.proofs.lemmas.Bool.{eqb-true}
+use Rattle.std.proofs.Common.{◌≡◌, ℕ, ◌<◌, false, ◌==◌, Some, None, refl, sym, ap, ◌∙◌, subst, arith, ◌⊎◌, inl, inr}
+use Rattle.std.proofs.lemmas.Bool.{eqb-true, or_cases}
 use Rattle.std.specs.Ordering.{nat_cmp}
 use Rattle.std.specs.FinSet as set
 use Rattle.sc_view.specs.Views.{ViewMap, number_at, IsBelow}
@@ -23,10 +23,6 @@ use Rattle.sc_view.proofs.ViewLemmas.{below_trans}
 
 pub nobody : (s : Ids) (q : ℕ) → s ≡ set.empty → Has s q → ⊥
 nobody s q e h = let no : set.contains s q ≡ false = ap (λ x. set.contains x q) e ∙ set.contains-empty nat_cmp q in cc
-
-or_cases : (a b : Bool) → (a || b) ≡ true → (a ≡ true) ⊎ (b ≡ true)
-or_cases true b h = inl refl
-or_cases false b h = inr h
 
 -- who is counted after one more
 pub counted : (s s' : Ids) (from q : ℕ) → s' ≡ set.insert s from → Has s' q → (q ≡ from) ⊎ Has s q

@@ -1,8 +1,11 @@
 -- What an outcome of one node makes of the world is a change, and keeps the links.
-use Rattle.std.proofs.Common.{◌≡◌, ℕ, ◌+◌, ◌<◌, Bool, true, false, cond, ◌==◌, ◌&&◌, List, [], ◌∷◌, ◌++◌, map, length}
+use Rattle.std.proofs.Common.{◌≡◌, ℕ, ◌+◌, ◌<◌, Bool, true, false, cond, ◌==◌, ◌&&◌, List, [], ◌∷◌, map}
 use Rattle.std.proofs.Common.{Option, Some, None, is_none, refl, sym, ap, ◌∙◌, subst, arith, ◌⊎◌, inl, inr}
 use Rattle.std.proofs.lemmas.Bool.{eqb-true, eq-eqb}
+use Rattle.std.proofs.lemmas.List.{length_push}
+use Rattle.std.specs.List.{AllByRecursion}
 use Rattle.std.specs.FinMap as fin
+use Rattle.forms.proofs.Lists.{among_left, among_right, among_either}
 use Rattle.sc_view.specs.Views.{ViewMap, IsBelow}
 use Rattle.sc_msg.specs.declared.message.Message.{Message}
 use Rattle.sc_msg.specs.declared.message.Body.{Body}
@@ -24,23 +27,9 @@ use Rattle.sc_world.specs.Worlds.{clock, Outcome, end_at, moved, advanced, op_be
 use Rattle.sc_world.specs.Records.{Among}
 use Rattle.sc_world.proofs.Changes.{view_of, view_at, IsAbout, OpFrom, Kept, Begun, Acknowledged, Replied, IsSent, IsBodySent, IsChange}
 use Rattle.sc_world.proofs.Links.{open_session, HasOwner, IsLinked, Site, new_op, session_moved, session_after, IsBegunAt, IsTransition, AckMakes}
-use Rattle.sc_world.proofs.Links.{ReplyMakes, IsAckProgress, IsReplyProgress, IsProgress, IsFresh, Each, IsBodyKnown, ack_is, reply_is}
+use Rattle.sc_world.proofs.Links.{ReplyMakes, IsAckProgress, IsReplyProgress, IsProgress, IsFresh, IsBodyKnown, ack_is, reply_is}
 use Rattle.sc_world.proofs.Finite.{get-insert, get-insert_same}
 use Rattle.sc_view.proofs.ViewLemmas.{below_refl}
-
-pub among-append : {X : Type 0} (x : X) (xs ys : List X) → Among x (xs ++ ys) → Among x xs ⊎ Among x ys
-among-append x [] ys h = inr h
-among-append x (y ∷ xs) ys (inl e) = inl (inl e)
-among-append x (y ∷ xs) ys (inr h) = elim (among-append x xs ys h) [ inl a ↦ inl (inr a) | inr b ↦ inr b ]
-
-pub among-left : {X : Type 0} (x : X) (xs ys : List X) → Among x xs → Among x (xs ++ ys)
-among-left x [] ys h = absurd h
-among-left x (y ∷ xs) ys (inl e) = inl e
-among-left x (y ∷ xs) ys (inr h) = inr (among-left x xs ys h)
-
-pub among-right : {X : Type 0} (x : X) (xs ys : List X) → Among x ys → Among x (xs ++ ys)
-among-right x [] ys h = h
-among-right x (y ∷ xs) ys h = inr (among-right x xs ys h)
 
 pub among-map : {X Y : Type 0} (f : X → Y) (y : Y) (xs : List X) → Among y (map f xs) → (x : X) × Among x xs × (y ≡ f x)
 among-map f y [] h = absurd h
@@ -57,12 +46,12 @@ module _ (w : WorldState) (e : WorldEvent) (q : ℕ) (r : Outcome) where
   pub kept_among : (o : Op) → Among o w.ops → Among (advanced q (clock w) r.progress o) (after w e q r).ops
   kept_among o in' =
       let move : Op → Op = advanced q (clock w) r.progress in
-      among-left (move o) (map move w.ops) (op_begun q (clock w) r.begun) (among-image move o w.ops in')
+      among_left (move o) (map move w.ops) (op_begun q (clock w) r.begun) (among-image move o w.ops in')
 
   -- the record of the operation that begins at an event
   pub begun_among : (b : BegunOp) → r.begun ≡ Some b → Among (new_op q (clock w) b) (after w e q r).ops
   begun_among b is =
-      among-right (new_op q (clock w) b) (map (advanced q (clock w) r.progress) w.ops) (op_begun q (clock w) r.begun)
+      among_right (new_op q (clock w) b) (map (advanced q (clock w) r.progress) w.ops) (op_begun q (clock w) r.begun)
       (subst (λ (x : Option BegunOp). Among (new_op q (clock w) b) (op_begun q (clock w) x)) (sym is) (inl refl))
 
   each_begun : (A : Op → Type 0) (b : Option BegunOp) → r.begun ≡ b → ((y : BegunOp) → r.begun ≡ Some y → A (new_op q (clock w) y)) → (o : Op)
@@ -75,7 +64,7 @@ module _ (w : WorldState) (e : WorldEvent) (q : ℕ) (r : Outcome) where
   pub each_after : (A : Op → Type 0) → ((o : Op) → Among o w.ops → A (advanced q (clock w) r.progress o))
       → ((y : BegunOp) → r.begun ≡ Some y → A (new_op q (clock w) y)) → (o : Op) → Among o (after w e q r).ops → A o
   each_after A old new o in' =
-      elim (among-append o (map (advanced q (clock w) r.progress) w.ops) (op_begun q (clock w) r.begun) in') [
+      elim (among_either o (map (advanced q (clock w) r.progress) w.ops) (op_begun q (clock w) r.begun) in') [
         | inl h ↦ let k = among-map (advanced q (clock w) r.progress) o w.ops h in subst A (sym k.2) (old k.0 k.1)
         | inr h ↦ each_begun A r.begun refl new o h
       ]
@@ -90,14 +79,10 @@ module _ (w : WorldState) (e : WorldEvent) (q : ℕ) (r : Outcome) where
       → A (fin.get (after w e q r).nodes id)
   node_next A id here there = subst A (sym (get-insert w.nodes q r.node id)) (node_by A id (id == q) refl here there)
 
-pub each-among : {X : Type 0} (P : X → Type 0) (x : X) (xs : List X) → Each P xs → Among x xs → P x
+pub each-among : {X : Type 0} (P : X → Type 0) (x : X) (xs : List X) → AllByRecursion P xs → Among x xs → P x
 each-among P x [] h k = absurd k
 each-among P x (y ∷ xs) h (inl e) = subst P (sym e) h.0
 each-among P x (y ∷ xs) h (inr k) = each-among P x xs h.1 k
-
-pub length-more : {X : Type 0} (xs : List X) (x : X) → length (xs ++ x ∷ []) ≡ length xs + 1
-length-more [] x = refl
-length-more (y ∷ xs) x = let h : length (xs ++ x ∷ []) ≡ length xs + 1 = length-more xs x in omega (arith, h)
 
 pub and_left : (a b : Bool) → (a && b) ≡ true → a ≡ true
 and_left true b h = refl
@@ -142,7 +127,7 @@ module _ (site : Site) (r : Outcome) (x : IsTransition site.node r) where
   next = after w e q r
 
   pub clock_next : clock next ≡ clock w + 1
-  clock_next = length-more w.events e
+  clock_next = length_push w.events e
 
   pub view_next : view_at next q ≡ r.node.view
   view_next = ap view_of (get-insert_same w.nodes q r.node)
@@ -219,10 +204,10 @@ module _ (site : Site) (r : Outcome) (x : IsTransition site.node r) where
     pub ops_from : (o : Op) → Among o next.ops → OpFrom w next o
     ops_from = each_after w e q r (OpFrom w next) (from_old r.progress progress) from_begun
 
-    module _ (bodies : List Body) (sends : r.outs ≡ map (message_from q) bodies) (outs : Each (IsBodySent w next q) bodies) where
+    module _ (bodies : List Body) (sends : r.outs ≡ map (message_from q) bodies) (outs : AllByRecursion (IsBodySent w next q) bodies) where
       sent_from : (m : Message) → Among m next.sent → Among m w.sent ⊎ IsSent w next m
       sent_from m in' =
-          elim (among-append m w.sent r.outs in') [
+          elim (among_either m w.sent r.outs in') [
             | inl h ↦ inl h
             | inr h ↦
                 let k = among-map (message_from q) m bodies (subst (Among m) sends h) in
@@ -322,10 +307,10 @@ module _ (site : Site) (r : Outcome) (x : IsTransition site.node r) where
     owned_next : (o : Op) → Among o next.ops → HasOwner next o
     owned_next = each_after w e q r (HasOwner next) owned_old owned_begun
 
-    module _ (bodies : List Body) (sends : r.outs ≡ map (message_from q) bodies) (outs : Each (IsBodyKnown next q) bodies) where
+    module _ (bodies : List Body) (sends : r.outs ≡ map (message_from q) bodies) (outs : AllByRecursion (IsBodyKnown next q) bodies) where
       message_known : (m : Message) → Among m next.sent → (p t : ℕ) → IsAbout m p t → (m' : NodeState) × (fin.get next.nodes p ≡ Some m') × (t < m'.operations)
       message_known m in' p t about =
-          elim (among-append m w.sent r.outs in') [
+          elim (among_either m w.sent r.outs in') [
             | inl h ↦ let k = linked.known m h p t about in known_next p t k.0 k.1 k.2
             | inr h ↦
                 let k = among-map (message_from q) m bodies (subst (Among m) sends h) in

@@ -1,12 +1,11 @@
 -- A table of nodes, seen as a finite map.
 use Rattle.std.proofs.Common.{◌≡◌, ℕ, Bool, true, false, not, cond, List, Option, Some, None, is_some, Bor, refl, sym, ap, subst, ◌∙◌, Result, Ok, Err}
-use Rattle.std.proofs.lemmas.Bool.{eqb-true}
 use Rattle.std.specs.Ordering.{nat_cmp}
-use Rattle.std.specs.Cmp.{unsigned_tied, nat_cmp_total}
 use Rattle.std.specs.Option.{option_copied}
 use Rattle.std.specs.FinMap as fin
 use Rattle.std.specs.BTreeMap.{is_at}
 use Rattle.forms.proofs.Maps.{found, get_found, one_written}
+use Rattle.sc_operations.proofs.Tables.{unchanged}
 use Rattle.sc_node.specs.State.{NodeState}
 use Rattle.sc_world.specs.declared.act.Report.{Report}
 use Rattle.reasons.specs.declared.Reason.{Reason}
@@ -39,11 +38,6 @@ live_found false o n is at = sym (ap (live false) at) ∙ by_gone n.gone (is ∙
     by_gone true h = absurd (cc)
     by_gone false h = refl
 
-written_back : (es : List (ℕ × NodeState)) (id q : ℕ) (n : NodeState) (b : Bool) → is_at (nat_cmp id) q ≡ b → Some n ≡ found es id
-    → cond b (Some n) (found es q) ≡ found es q
-written_back es id q n false is at = refl
-written_back es id q n true is at = at ∙ ap (found es) (eqb-true id q (sym (unsigned_tied id q) ∙ is))
-
 -- what the entries of a table have of an id is what its nodes have
 pub get_of : (old : fin.FinMap nat_cmp NodeState) (id : ℕ) (es : List (ℕ × NodeState)) → fin.from_entries es ≡ old → found es id ≡ fin.get old id
 get_of old id es is = sym (get_found es id) ∙ ap (λ (m : fin.FinMap nat_cmp NodeState). fin.get m id) is
@@ -62,18 +56,12 @@ module _ (es fs : List (ℕ × NodeState)) (old : fin.FinMap nat_cmp NodeState) 
   written : (n' : NodeState) → ((q : ℕ) → found fs q ≡ cond (is_at (nat_cmp id) q) (Some n') (found es q)) → fin.from_entries fs ≡ fin.insert old id n'
   written n' writes = one_written es fs id n' writes ∙ ap (λ (m : fin.FinMap nat_cmp NodeState). fin.insert m id n') is
 
-  -- to write back what was there changes nothing
-  unchanged : ((q : ℕ) → found fs q ≡ cond (is_at (nat_cmp id) q) (Some n) (found es q)) → fin.from_entries fs ≡ old
-  unchanged writes =
-      fin.same_map nat_cmp_total fin.nat_cmp-IsAntisymmetric (fin.from_entries fs) (fin.from_entries es)
-      (λ q. get_found fs q ∙ writes q ∙ written_back es id q n (is_at (nat_cmp id) q) refl at ∙ sym (get_found es q)) ∙ is
-
   -- a node of a table acts
   pub acts_at : (n' : NodeState) (r : Result Report Reason) → Acts (f n) n n' r → ((q : ℕ) → found fs q ≡ cond (is_at (nat_cmp id) q) (Some n') (found es q))
       → ActsAt (by_live (live crashed (fin.get old id)) f) old (fin.from_entries fs) id r
   acts_at n' (Ok r) h writes = (n', said ∙ h, written n' writes)
   acts_at n' (Err e) h writes = (
-    unchanged (subst (λ (x : NodeState). (q : ℕ) → found fs q ≡ cond (is_at (nat_cmp id) q) (Some x) (found es q)) h.0 writes),
+    unchanged es fs id n at (subst (λ (x : NodeState). (q : ℕ) → found fs q ≡ cond (is_at (nat_cmp id) q) (Some x) (found es q)) h.0 writes) ∙ is,
     λ no. said ∙ h.1 no,
   )
 

@@ -1,7 +1,7 @@
 -- A node has begun as many operations and stores as its events say, and each of its open operations has a record.
 use Rattle.std.proofs.Common.{◌≡◌, ℕ, ◌+◌, Bool, true, false, cond, ◌==◌, List, [], ◌∷◌, ◌++◌, Option}
 use Rattle.std.proofs.Common.{Some, None, add-zero, refl, sym, ap, ◌∙◌, subst, arith, Ok}
-use Rattle.std.proofs.lemmas.Bool.{eqb-true, eq-eqb}
+use Rattle.std.proofs.lemmas.Bool.{eqb-true, eq-eqb, false_from_ne_true}
 use Rattle.std.proofs.lemmas.List.Sums.{sum_by_push}
 use Rattle.std.specs.List.{count_by}
 use Rattle.std.specs.Ordering.{nat_cmp}
@@ -68,10 +68,6 @@ begins_store_own : (id : ℕ) (e : WorldEvent) → begins_store id e ≡ true �
 begins_store_own id (event.Store q value) h = eqb-true q id h
 begins_store_own id e h = absurd (cc)
 
-never : (b : Bool) → (b ≡ true → ⊥) → b ≡ false
-never true not_so = absurd (not_so refl)
-never false not_so = refl
-
 one_more : (b : Bool) (count : ℕ) → b ≡ true → count + cond b 1 0 ≡ count + 1
 one_more b count is = ap (λ (x : Bool). count + cond x 1 0) is
 
@@ -95,7 +91,7 @@ module _ (w : WorldState) (e : WorldEvent) (q : ℕ) (r : Outcome) (own : node_o
         subst (λ (x : ℕ). held (Some r.node) ≡ count_by (mark x) next.events) (sym here)
         (grows ∙ ap (λ (x : ℕ). x + cond (mark q e) 1 0) (was q) ∙ sym (count_more (mark q) w.events e)))
         (λ there.
-        let other : mark id e ≡ false = never (mark id e) (λ h. there (sym (marked id h) ∙ own)) in
+        let other : mark id e ≡ false = false_from_ne_true (mark id e) (λ h. there (sym (marked id h) ∙ own)) in
         was id ∙ sym (no_more (mark id e) (count_by (mark id) w.events) other) ∙ sym (count_more (mark id) w.events e))
 
   -- a record stays, perhaps in a later state

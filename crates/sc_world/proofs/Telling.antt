@@ -1,6 +1,8 @@
 -- Each event tells the truth.
 use Rattle.std.proofs.Common.{◌≡◌, ℕ, Bool, true, false, cond, ◌==◌, List, [], ◌∷◌, map, Option, Some, None, refl, sym, ap, ◌∙◌, subst, arith, ◌⊎◌, inl, inr}
+use Rattle.std.specs.List.{AllByRecursion}
 use Rattle.std.specs.FinMap as fin
+use Rattle.forms.proofs.Lists.{among_either}
 use Rattle.sc_view.specs.Views.{ViewMap, merge}
 use Rattle.sc_msg.specs.declared.message.Message.{Message}
 use Rattle.sc_msg.specs.declared.message.Body.{Body}
@@ -23,9 +25,9 @@ use Rattle.sc_world.specs.State.{WorldState}
 use Rattle.sc_world.specs.Worlds.{clock, Outcome, advanced, after}
 use Rattle.sc_world.specs.Records.{Among}
 use Rattle.sc_world.proofs.Changes.{view_of, view_at, IsBegun, IsSound}
-use Rattle.sc_world.proofs.Links.{Site, new_op, IsTransition, IsProgress, IsFresh, Each}
+use Rattle.sc_world.proofs.Links.{Site, new_op, IsTransition, IsProgress, IsFresh}
 use Rattle.sc_world.proofs.Truths.{IsTrue, body_view, IsTruthful, IsThere, IsTold}
-use Rattle.sc_world.proofs.Steps.{among-append, among-map, each_after, kept_among, begun_among, each-among, advance_op, clock_next, ops_from, node_next}
+use Rattle.sc_world.proofs.Steps.{among-map, each_after, kept_among, begun_among, each-among, advance_op, clock_next, ops_from, node_next}
 use Rattle.sc_world.proofs.Handlers.{heard, store_body, store_outcome, collect_outcome, left_outcome, each_if, progress_is}
 use Rattle.sc_world.proofs.Handlers.{sends, own_name, heard_moves, store_moves, collect_moves, left_moves, store_number}
 use Rattle.sc_world.proofs.Truth.{true_merge, true_put, true_if, lift}
@@ -80,14 +82,14 @@ module _ (site : Site) (r : Outcome) (x : IsTransition site.node r) (s : IsSound
   lifted v g = lift w next (clock w) (clock next) v (persists w e q r) (omega (arith, clock_next site r x)) g
 
   module _ (progress : IsProgress w q n r r.progress) (fresh : IsFresh q r.begun) where
-    module _ (bodies : List Body) (names : r.outs ≡ map (message_from q) bodies) (view : IsTrueNext r.node.view) (outs : Each Tells bodies)
+    module _ (bodies : List Body) (names : r.outs ≡ map (message_from q) bodies) (view : IsTrueNext r.node.view) (outs : AllByRecursion Tells bodies)
         (opens : (y : BegunOp) (v : ViewMap) → r.begun ≡ Some y → stored y.session ≡ Some v → IsTrueNext v) where
       views' : (id : ℕ) → IsTrueNext (view_at next id)
       views' id = node_next w e q r (λ (o : Option NodeState). IsTrueNext (view_of o)) id (λ _. view) (λ _. lifted (view_at w id) (t.views id))
 
       sent' : (m : Message) → Among m next.sent → Among m w.sent ⊎ Tells m.body
       sent' m in' =
-          elim (among-append m w.sent r.outs in') [
+          elim (among_either m w.sent r.outs in') [
             | inl h ↦ inl h
             | inr h ↦
                 let k = among-map (message_from q) m bodies (subst (Among m) names h) in
@@ -136,13 +138,13 @@ module _ (site : Site) (s : IsSound site.world) (t : IsTruthful site.world) wher
   TellsOf u b = (v : ViewMap) → body_view b ≡ Some v → IsTrue u (clock u) v
 
   turned_true : (u : WorldState) (tag : ℕ) (a : Advance) → ((k : ℕ) (y : ViewMap) → a ≡ advance.Turned k y → IsTrue u (clock u) y)
-      → Each (TellsOf u) (store_of tag a)
+      → AllByRecursion (TellsOf u) (store_of tag a)
   turned_true u tag advance.Counted g = tt
   turned_true u tag advance.Ended g = tt
   turned_true u tag (advance.Turned k y) g = ((λ v is. let same : y ≡ v = cc in subst (IsTrue u (clock u)) same (g k y refl)), tt)
 
   back_true : (u : WorldState) (p : Option Progress)
-      → ((c : Progress) (k : ℕ) (y : ViewMap) → p ≡ Some c → c.advance ≡ advance.Turned k y → IsTrue u (clock u) y) → Each (TellsOf u) (store_back p)
+      → ((c : Progress) (k : ℕ) (y : ViewMap) → p ≡ Some c → c.advance ≡ advance.Turned k y → IsTrue u (clock u) y) → AllByRecursion (TellsOf u) (store_back p)
   back_true u None g = tt
   back_true u (Some p) g = turned_true u p.tag p.advance (λ k y. g p k y refl)
 
@@ -173,7 +175,7 @@ module _ (site : Site) (s : IsSound site.world) (t : IsTruthful site.world) wher
   tells u v z g lifts is = let same : v ≡ z = cc in lifts z (subst (IsTrue w (clock w)) same g)
 
   answers_true : (u : WorldState) (from : ℕ) (b : Body) → Among (message_from from b) w.sent
-      → ((z : ViewMap) → IsTrue w (clock w) z → IsTrue u (clock u) z) → Each (TellsOf u) (answers n from b)
+      → ((z : ViewMap) → IsTrue w (clock w) z → IsTrue u (clock u) z) → AllByRecursion (TellsOf u) (answers n from b)
   answers_true u from Enter sent lifts = ((λ v is. tells u n.view v own lifts is), tt)
   answers_true u from (EnterEcho f) sent lifts = each_if (TellsOf u) (joins n from (EnterEcho f)) (Join ∷ []) ((λ y is. absurd (cc)), tt)
   answers_true u from Join sent lifts = ((λ y is. absurd (cc)), tt)

@@ -1,10 +1,9 @@
 -- Views stay true.
-use Rattle.std.proofs.Common.{◌≡◌, ℕ, ◌≤◌, Bool, true, false, cond, ◌==◌, nat_lt, Option, Some, None, refl, sym, ap, ◌∙◌, subst, arith, ◌⊎◌, inl, inr}
-use Rattle.std.proofs.lemmas.Bool.{eqb-true}
+use Rattle.std.proofs.Common.{◌≡◌, ℕ, ◌≤◌, Bool, true, false, cond, Option, Some, None, sym, ◌∙◌, subst, arith, inl, inr}
 use Rattle.std.specs.Ordering.{nat_cmp}
 use Rattle.std.specs.FinMap as fin
 use Rattle.sc_view.specs.declared.view.Stored.{Stored}
-use Rattle.sc_view.specs.Views.{ViewMap, merge, put, newer}
+use Rattle.sc_view.specs.Views.{ViewMap, merge, put}
 use Rattle.sc_node.specs.Sessions.{stored}
 use Rattle.sc_world.specs.declared.op.Op.{Op}
 use Rattle.sc_world.specs.State.{WorldState}
@@ -12,51 +11,16 @@ use Rattle.sc_world.specs.Worlds.{clock}
 use Rattle.sc_world.specs.Records.{Among}
 use Rattle.sc_world.proofs.Changes.{view_at, OpFrom, Kept, Begun, Acknowledged, Replied}
 use Rattle.sc_world.proofs.Truths.{WasBegun, IsTrue, limit, limit_by, IsTruthful, IsThere, IsTold}
-use Rattle.sc_world.proofs.Finite.{get-insert}
-use Rattle.sc_view.proofs.ViewLemmas.{get-merge, merged}
+use Rattle.sc_view.proofs.ViewLemmas.{merge_each, put_each}
 
 pub true_empty : (w : WorldState) (t : ℕ) → IsTrue w t fin.empty
 true_empty w t = record { begun = λ id e is. let k : None ≡ Some e = sym (fin.get-empty nat_cmp id) ∙ is in absurd (cc) }
 
-newer_is : (x : Option Stored) (e f : Stored) → newer x e ≡ f → (x ≡ Some f) ⊎ (e ≡ f)
-newer_is None e f h = inr h
-newer_is (Some o) e f h = go (nat_lt o.number e.number) h
-  where
-    go : (b : Bool) → cond b e o ≡ f → (Some o ≡ Some f) ⊎ (e ≡ f)
-    go true h = inr h
-    go false h = inl (ap (λ (x : Stored). let y : Option Stored = Some x in y) h)
-
-merged_is : (x y : Option Stored) (f : Stored) → merged x y ≡ Some f → (x ≡ Some f) ⊎ (y ≡ Some f)
-merged_is x None f h = inl h
-merged_is x (Some e) f h =
-    let is : newer x e ≡ f = cc in
-    elim (newer_is x e f is) [ inl a ↦ inl a | inr b ↦ inr (ap (λ (z : Stored). let y : Option Stored = Some z in y) b) ]
-
 pub true_merge : (w : WorldState) (t : ℕ) (a b : ViewMap) → IsTrue w t a → IsTrue w t b → IsTrue w t (merge a b)
-true_merge w t a b ga gb = record {
-  begun = λ id e is.
-      elim (merged_is (fin.get a id) (fin.get b id) e (sym (get-merge a b id) ∙ is)) [
-        | inl h ↦ ga.begun id e h
-        | inr h ↦ gb.begun id e h
-      ];
-}
-
-put_is : (v : ViewMap) (k id : ℕ) (x e : Stored) (b : Bool) → (id == k) ≡ b → cond b (Some (newer (fin.get v k) x)) (fin.get v id) ≡ Some e
-    → (fin.get v id ≡ Some e) ⊎ ((id ≡ k) × (x ≡ e))
-put_is v k id x e false is h = inl h
-put_is v k id x e true is h =
-    let same : newer (fin.get v k) x ≡ e = cc in
-    let at : id ≡ k = eqb-true id k is in
-    elim (newer_is (fin.get v k) x e same) [ inl a ↦ inl (ap (fin.get v) at ∙ a) | inr b ↦ inr (at, b) ]
+true_merge w t a b ga gb = record { begun = merge_each (WasBegun w t) a b ga.begun gb.begun }
 
 pub true_put : (w : WorldState) (t : ℕ) (v : ViewMap) (k : ℕ) (x : Stored) → IsTrue w t v → WasBegun w t k x → IsTrue w t (put v k x)
-true_put w t v k x g s = record {
-  begun = λ id e is.
-      elim (put_is v k id x e (id == k) refl (sym (get-insert v k (newer (fin.get v k) x) id) ∙ is)) [
-        | inl h ↦ g.begun id e h
-        | inr h ↦ subst (WasBegun w t id) h.1 (subst (λ (n : ℕ). WasBegun w t n x) (sym h.0) s)
-      ];
-}
+true_put w t v k x g s = record { begun = put_each (WasBegun w t) v k x s g.begun }
 
 pub true_if : (w : WorldState) (t : ℕ) (b : Bool) (u v : ViewMap) → IsTrue w t u → IsTrue w t v → IsTrue w t (cond b u v)
 true_if w t true u v gu gv = gu

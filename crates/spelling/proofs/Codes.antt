@@ -1,11 +1,12 @@
 -- Prefix codes out of prefix codes: numbers, pairs, values by their parts, and lists. Where a list's values end.
 use Rattle.std.proofs.Common.{◌≡◌, ℕ, ◌+◌, ◌<◌, ◌≤◌, ◌^◌, List, [], ◌∷◌, ◌++◌, length, take, drop, refl, sym, ap, ◌∙◌, arith, append_assoc, length-append}
 use Rattle.std.specs.List.{flat_map, AllByRecursion}
-use Rattle.std.proofs.lemmas.List.{append-nil, take_at, drop_at}
+use Rattle.std.proofs.lemmas.List.{append-nil, append_cancel_left, take_at, drop_at}
 use Rattle.std.proofs.lemmas.List.Concat.{flat_map-cons, flat_map-append}
 use Rattle.spelling.specs.Numbers.{number_bytes, first_number}
 use Rattle.spelling.specs.Codes.{IsPrefixCode, BeginsNone}
 use Rattle.spelling.proofs.Numbers.{length-number_bytes, first_number-number_bytes}
+use Rattle.spelling.proofs.Lists.{all_append}
 
 -- ---- fronts
 
@@ -38,13 +39,13 @@ number_once width m n p q e = (number_front width m n [] [] p q (ap (λ (l : Lis
 pub numbers_are_code : (width : ℕ) → IsPrefixCode (number_bytes width) (λ n. n < 256 ^ width)
 numbers_are_code width = record { one = λ m n x y p q e. number_front width m n x y p q e }
 
--- too few bytes for a number
-pub no_number : (width : ℕ) (bytes : List ℕ) → length bytes < width → BeginsNone (number_bytes width) (λ n. n < 256 ^ width) bytes
-no_number width bytes short = record { none = λ n more p e. omega (arith, short, ap length e, length-append (number_bytes width n) more, length-number_bytes width n) }
-
 -- so many bytes are left behind a number
 pub number_then : (width n : ℕ) (bytes rest : List ℕ) → bytes ≡ number_bytes width n ++ rest → length bytes ≡ width + length rest
 number_then width n bytes rest parts = omega (arith, ap length parts, length-append (number_bytes width n) rest, length-number_bytes width n)
+
+-- too few bytes for a number
+pub no_number : (width : ℕ) (bytes : List ℕ) → length bytes < width → BeginsNone (number_bytes width) (λ n. n < 256 ^ width) bytes
+no_number width bytes short = record { none = λ n more p e. omega (arith, short, number_then width n bytes more e) }
 
 -- ---- parts
 
@@ -67,7 +68,7 @@ along to same f P c = record { one = λ a b x y p q e. let k = c.one (to a) (to 
 pub behind : {A : Type 0} (front : List ℕ) (f : A → List ℕ) (P : A → Type 0) → IsPrefixCode f P → IsPrefixCode (λ a. front ++ f a) P
 behind front f P c = record {
   one = λ a b x y p q e.
-      c.one a b x y p q (same_front front front (f a ++ x) (f b ++ y) (length front) refl refl (sym (append_assoc front (f a) x) ∙ e ∙ append_assoc front (f b) y)).1;
+      c.one a b x y p q (append_cancel_left front (f a ++ x) (f b ++ y) (sym (append_assoc front (f a) x) ∙ e ∙ append_assoc front (f b) y));
 }
 
 -- ---- bytes that begin with no value
@@ -100,8 +101,7 @@ pub flat_map_push : {A : Type 0} (f : A → List ℕ) (xs : List A) (x : A) → 
 flat_map_push f xs x = flat_map-append f xs (x ∷ []) ∙ ap (λ l. flat_map f xs ++ l) (append-nil (f x))
 
 pub all_push : {A : Type 0} (P : A → Type 0) (xs : List A) (x : A) → AllByRecursion P xs → P x → AllByRecursion P (xs ++ x ∷ [])
-all_push P [] x h p = (p, tt)
-all_push P (y ∷ xs) x h p = (h.0, all_push P xs x h.1 p)
+all_push P xs x h p = all_append P xs (x ∷ []) h (p, tt)
 
 module _ {A : Type 0} (bytes_of : A → List ℕ) (Legal : A → Type 0) (code : IsPrefixCode bytes_of Legal) where
   spelled_on : (x : A) (xs : List A) (r : List ℕ) → flat_map bytes_of (x ∷ xs) ++ r ≡ bytes_of x ++ (flat_map bytes_of xs ++ r)
@@ -157,7 +157,7 @@ module _ {A : Type 0} (bytes_of : A → List ℕ) (Legal : A → Type 0) (code :
     pub counted : IsPrefixCode counted_bytes AreCounted
     counted = record {
       one = λ a b x y p q e.
-          let n = number_front width (length a) (length b) (flat_map bytes_of a ++ x) (flat_map bytes_of b ++ y) p.0 q.0 (sym (counted_on a x) ∙ e ∙ counted_on b y) in
+          let n = number_front width (length a) (length b) _ _ p.0 q.0 (sym (counted_on a x) ∙ e ∙ counted_on b y) in
           once a b x y p.1 q.1 n.0 n.1;
     }
 
@@ -165,8 +165,7 @@ module _ {A : Type 0} (bytes_of : A → List ℕ) (Legal : A → Type 0) (code :
     pub no_count : (bytes : List ℕ) → length bytes < width → BeginsNone counted_bytes AreCounted bytes
     no_count bytes short = record {
       none = λ all more p e.
-          let long = length-append (number_bytes width (length all)) (flat_map bytes_of all ++ more) in
-          omega (arith, short, ap length (e ∙ counted_on all more), long, length-number_bytes width (length all));
+          omega (arith, short, number_then width (length all) bytes (flat_map bytes_of all ++ more) (e ∙ counted_on all more));
     }
 
     -- some of so many values were read, and rest is what is left of the bytes
@@ -198,7 +197,7 @@ module _ {A : Type 0} (bytes_of : A → List ℕ) (Legal : A → Type 0) (code :
         → length xs < count → BeginsNone bytes_of Legal rest → BeginsNone counted_bytes AreCounted bytes
     too_few bytes count xs rest fits read fewer left = record {
       none = λ all more p e.
-          let n = number_front width count (length all) (flat_map bytes_of xs ++ rest) (flat_map bytes_of all ++ more) fits p.0 (sym read.parts ∙ e ∙ counted_on all more) in
+          let n = number_front width count (length all) _ _ fits p.0 (sym read.parts ∙ e ∙ counted_on all more) in
           stops xs all rest more left read.legal p.1 (omega (arith, fewer, n.0)) n.1;
     }
 

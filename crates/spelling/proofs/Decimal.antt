@@ -1,19 +1,25 @@
 -- Decimal numbers: what is read is what is written.
-use Rattle.std.proofs.Common.{◌≡◌, ℕ, ◌^◌, ◌<◌, true, false, cond, eqb, ltb, ◌&&◌, List, [], ◌∷◌, length, get_or, Some, None, Result, Ok, Err, refl, ap, sym, ◌∙◌, subst, inl, inr, ◌⊎◌, arith, rules}
-use Rattle.std.specs.List.{list_all}
+use Rattle.std.proofs.Common.{◌≡◌, ℕ, ◌^◌, ◌<◌, true, false, cond, eqb, ltb, ◌&&◌, ◌⊎◌, inl, inr, refl, ap, sym, ◌∙◌, arith, rules}
+use Rattle.std.proofs.Common.{List, [], ◌∷◌, length, get_or, Some, None, Result, Ok, Err}
+use Rattle.std.specs.List.{AllByRecursion, list_all}
 use Rattle.std.specs.Char.{is_ascii_digit}
 use Rattle.std.specs.Fmt.{decimal}
 use Rattle.std.specs.Result.{OkIff, result_ok}
 use Rattle.std.specs.Str.Parse.{digits_value, ParsesUnsigned}
-use Rattle.std.proofs.lemmas.Bool.{cond-false, cond-true, eq-eqb, eqb-true, cases_eq, and_parts, and_from, ltb-true, lt-ltb, le-ltb, cases_lt, cases_Bool}
+use Rattle.std.proofs.lemmas.Bool.{cond-false, cond-true, cond_both, eq-eqb, eqb-true, cases_eq, and_parts, and_from, ltb-true, lt-ltb, cases_Bool}
 use Rattle.std.proofs.lemmas.List.{nil_from_length}
 use Rattle.std.proofs.lemmas.Option.{cond_some}
 use Rattle.std.proofs.lemmas.Str.Parse.{IsNumeralModel, numerals_by_value, parse_digits}
 use Rattle.std.proofs.lemmas.Fmt.{digits_decimal, digits_value-decimal, decimal-digits_value, decimal_nonempty, first_decimal, decimal_digit}
 use Rattle.spelling.specs.Natural.{is_decimal, natural_at}
+use Rattle.spelling.proofs.Lists.{all_passed}
 
 pub own : IsNumeralModel (λ ds. list_all is_ascii_digit ds ≡ true) (digits_value 10)
 own = numerals_by_value _ (search rules)
+
+-- what each digit has, each byte of a decimal number has
+pub decimal_each : (P : ℕ → Type 0) → ((c : ℕ) → is_ascii_digit c ≡ true → P c) → (n : ℕ) → n < 2 ^ 64 → AllByRecursion P (decimal n)
+decimal_each P each n small = all_passed P is_ascii_digit each (decimal n) (digits_decimal own n small)
 
 pub record IsPlain (text : List ℕ) : Type 0 where
   pub digits : list_all is_ascii_digit text ≡ true
@@ -26,7 +32,7 @@ plain_from c cs e (inl h) =
     let k : eqb (length cs) 0 ≡ true = sym (cond-true (eqb c 48) _ _ h) ∙ e in
     let z : cs ≡ [] = nil_from_length cs (eqb-true (length cs) 0 k) in
     record {
-      digits = subst (λ xs. list_all is_ascii_digit (c ∷ xs) ≡ true) (sym z) (subst (λ d. list_all is_ascii_digit (d ∷ []) ≡ true) (sym (eqb-true c 48 h)) refl);
+      digits = rw (z, eqb-true c 48 h) refl;
       some = omega arith;
       zero = λ _. omega (arith, eqb-true (length cs) 0 k);
     }
@@ -51,7 +57,7 @@ decimal_from (c ∷ cs) h = plain_is c cs h (cases_Bool (eqb c 48))
 
 parsed : {E : Type 0} (r : Result ℕ E) (n v : ℕ) → 0 < n → OkIff r ((0 < n) × (v < 2 ^ 64)) v → result_ok r ≡ cond (ltb v (2 ^ 64)) (Some v) None
 parsed (Ok x) n v l h = ap Some h.1 ∙ sym (cond-true (ltb v (2 ^ 64)) _ _ (lt-ltb v (2 ^ 64) h.0.1))
-parsed (Err e) n v l h = sym (cond-false (ltb v (2 ^ 64)) _ _ (le-ltb v (2 ^ 64) (elim (cases_lt v (2 ^ 64)) [ inl a ↦ absurd (h (l, a)) | inr b ↦ b ])))
+parsed (Err e) n v l h = cond_both (ltb v (2 ^ 64)) (Some v) None (λ o. None ≡ o) (λ less. absurd (h (l, ltb-true _ _ less))) (λ _. refl)
 
 pub natural_is : {E : Type 0} (text : List ℕ) (r : Result ℕ E) → is_decimal text ≡ true → ParsesUnsigned 64 10 text r
     → result_ok r ≡ natural_at text
@@ -73,8 +79,8 @@ pub natural_decimal : (n : ℕ) → n < 2 ^ 64 → natural_at (decimal n) ≡ So
 unfolding natural_at
 natural_decimal n l =
     let v : digits_value 10 (decimal n) ≡ n = digits_value-decimal own n l in
-    let t : (is_decimal (decimal n) && ltb (digits_value 10 (decimal n)) (2 ^ 64)) ≡ true = and_from _ _ (decimal_from (decimal n) (plain_decimal n l)) (lt-ltb _ _ (omega arith)) in
-    cond-true _ _ _ t ∙ ap Some v
+    let digits = decimal_from (decimal n) (plain_decimal n l) in
+    cond-true _ _ _ (and_from _ _ digits (lt-ltb (digits_value 10 (decimal n)) (2 ^ 64) (omega (arith, v, l)))) ∙ ap Some v
 
 -- what is read is written so
 pub natural_sound : (text : List ℕ) (n : ℕ) → natural_at text ≡ Some n → (text ≡ decimal n) × (n < 2 ^ 64)

@@ -1,6 +1,7 @@
 -- Numbers and the bytes that they are read from.
-use Rattle.std.proofs.Common.{◌≡◌, ℕ, zero, suc, ◌+◌, ◌*◌, ◌/◌, ◌%◌, ◌^◌, ◌<◌, ◌≤◌, All, List, [], ◌∷◌, ◌++◌, length, refl, sym, ap, subst, ◌∙◌, arith, length-append}
-use Rattle.std.proofs.Math.Nat.{div-div-eq-div-mul, mul_comm, pow-suc}
+use Rattle.std.proofs.Common.{◌≡◌, ℕ, zero, suc, ◌+◌, ◌*◌, ◌/◌, ◌%◌, ◌^◌, ◌<◌, ◌≤◌, refl, sym, ap, subst, ◌∙◌, arith}
+use Rattle.std.proofs.Common.{All, List, [], ◌∷◌, ◌++◌, length, length-append}
+use Rattle.std.proofs.Math.Nat.{div-div-eq-div-mul, pow-succ'}
 use Rattle.std.specs.Int.{byte_at, bytes_low_first}
 use Rattle.byteorder.specs.Endian.{little_from, little_number}
 use Rattle.byteorder.specs.Numbers.{little_from-cons, little_number-reads_back, length-bytes_low_first, little_from-append}
@@ -23,17 +24,18 @@ first_number-number_bytes width n rest fits = little_number-reads_back width n r
 
 byte_above : (i x : ℕ) → byte_at (suc i) x ≡ byte_at i (x / 256)
 byte_above zero x = refl
-byte_above (suc i) x = ap (λ (y : ℕ). y % 256) (ap (λ (p : ℕ). x / p) (pow-suc 256 (suc i) ∙ mul_comm (256 ^ suc i) 256) ∙ sym (div-div-eq-div-mul x 256 (256 ^ suc i)))
+byte_above (suc i) x =
+    ap (λ (y : ℕ). y % 256) (ap (λ (p : ℕ). x / p) (pow-succ' 256 (suc i)) ∙ sym (div-div-eq-div-mul x 256 (256 ^ suc i)))
 
 bytes_above : (i k x : ℕ) → bytes_low_first (suc i) k x ≡ bytes_low_first i k (x / 256)
 bytes_above i zero x = refl
-bytes_above i (suc k) x = ap (λ (b : ℕ). b ∷ bytes_low_first (suc (suc i)) k x) (byte_above i x) ∙ ap (λ (l : List ℕ). byte_at i (x / 256) ∷ l) (bytes_above (suc i) k x)
+bytes_above i (suc k) x = λ j. byte_above i x j ∷ bytes_above (suc i) k x j
 
 bytes_of_digits : (k b r : ℕ) → b < 256 → bytes_low_first 0 (suc k) (b + 256 * r) ≡ b ∷ bytes_low_first 0 k r
 bytes_of_digits k b r small =
     let low : (b + 256 * r) % 256 ≡ b = omega arith in
     let high : (b + 256 * r) / 256 ≡ r = omega arith in
-    ap (λ (d : ℕ). d ∷ bytes_low_first 1 k (b + 256 * r)) low ∙ ap (λ (l : List ℕ). b ∷ l) (bytes_above 0 k (b + 256 * r) ∙ ap (λ (x : ℕ). bytes_low_first 0 k x) high)
+    λ j. low j ∷ (bytes_above 0 k (b + 256 * r) ∙ ap (bytes_low_first 0 k) high) j
 
 read_bytes : (xs : List ℕ) → IsBytes xs → bytes_low_first 0 (length xs) (little_from 0 (length xs) xs) ≡ xs
 read_bytes [] fits = refl

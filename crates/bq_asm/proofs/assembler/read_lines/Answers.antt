@@ -1,9 +1,9 @@
 -- read_lines: what the lines of a source say.
-use Rattle.std.proofs.Common.{ℕ, List, length, map, Bor, sym, ◌∙◌, subst, arith, lit<}
+use Rattle.std.proofs.Common.{ℕ, List, length, map, Bor, sym, ◌∙◌, subst, arith}
 use Rattle.std.specs.List.{AllZip}
 use Rattle.std.proofs.lemmas.List.{map_push}
-use Rattle.std.proofs.lemmas.Iterator.Consumers.{YieldsList-at, YieldsList-turn, YieldsList-so_far, YieldsList-end}
-use Rattle.std.proofs.lemmas.Iterator.Splits.{YieldsList-from_str_split}
+use Rattle.std.proofs.lemmas.Iterator.Consumers.{YieldsList-end}
+use Rattle.spelling.proofs.Lines.{road_of, turn_of}
 use Rattle.bq_asm.specs.Line.{Spells}
 use Rattle.bq_asm.specs.Source.{lines_of}
 use Rattle.bq_asm.specs.View.{line_view}
@@ -16,11 +16,10 @@ next : (c : In-Some)
     → IsNext (lines_of c.args.source.now) (map (λ (x : Bor (List ℕ)). x.now) c.loop-text.yielded) c.loop-text.lines.items (length c.loop-text.yielded)
     c.in-Some.text.now
 next c =
-    let split = c.split-text-items.ensures in
-    let road = YieldsList-at c.into_iter-text-iterator.ensures.into_iter_gives
-    (YieldsList-from_str_split 10 c.args.source.now (lit< tt) split.text split.has_more split.pattern) in
-    let turn = YieldsList-turn road c.loop-text.yielded _ c.loop-text.yielded_by _ _ c.in-Some.text c.in-Some.is c.next.ensures.steps in
-    record { front = YieldsList-so_far road c.loop-text.yielded _ c.loop-text.yielded_by; inside = turn.0; here = turn.1; read = c.loop-text.invariant }
+    let s = c.split-text-items in
+    let road = road_of _ s.result c.args.source.now c.into_iter-text-iterator.ensures.into_iter_gives s.ensures.text s.ensures.has_more s.ensures.pattern in
+    let turn = turn_of road c.loop-text.yielded _ c.loop-text.yielded_by _ _ c.in-Some.text c.in-Some.is c.next.ensures.steps in
+    record { front = turn.0; inside = turn.1; here = turn.2; read = c.loop-text.invariant }
 
 pub returns-in_default-clause-fault : goal.returns-in_default-clause-fault
 returns-in_default-clause-fault c =
@@ -35,9 +34,8 @@ loop-text-preserved c =
 
 pub returns-clause-read : goal.returns-clause-read
 returns-clause-read c =
-    let split = c.split-text-items.ensures in
-    let road = YieldsList-at c.into_iter-text-iterator.ensures.into_iter_gives
-    (YieldsList-from_str_split 10 c.args.source.now (lit< tt) split.text split.has_more split.pattern) in
+    let s = c.split-text-items in
+    let road = road_of _ s.result c.args.source.now c.into_iter-text-iterator.ensures.into_iter_gives s.ensures.text s.ensures.has_more s.ensures.pattern in
     let end = YieldsList-end road c.loop-text.yielded _ c.loop-text.yielded_by _ _ c.in-None.is c.next.ensures.steps in
     subst (λ texts. AllZip Spells texts (map line_view c.loop-text.lines.items)) end.0 c.loop-text.invariant
 

@@ -36,7 +36,8 @@ loop-register-preserved c =
           let there = still_there l m a s i kind (omega (arith, inside, count)) (omega (arith, inside, inv.0)) same w.index-kinds-register-then-is_set.is in
           subst (AreJoined l m a b (i + 1)) (sym w.kinds-is) (
             length-set s i w.join.result ∙ inv.0,
-            joined_more l m a b s 11 i w.join.result kind w.index-others-register.result count count_too inv.0 inside there w.index-others-register.is (search rules) inv.1,
+            joined_more l m a b s 11 i w.join.result kind w.index-others-register.result count count_too inv.0 inside there
+                w.index-others-register.is (search rules) inv.1,
             λ k far. get_or-set_other s i k w.join.result Unset (λ (e : k ≡ i). omega (arith, far, e)) ∙ inv.2 k (omega (arith, far)),
           )
       | else-is_set w ↦
@@ -54,4 +55,6 @@ pub returns : goal.returns
 returns c =
     let count : length c.args.kinds.now ≡ 11 = search rules in
     let count_too : length c.args.others.now ≡ 11 = search rules in
-    joined_lists c.args.lengths c.args.other_lengths c.args.kinds.now c.args.others.now c.loop-register.kinds 11 count count_too c.loop-register.invariant.0 (λ r h. c.loop-register.invariant.1 r (omega (arith, h, c.loop-register-test.false)))
+    let inv = c.loop-register.invariant in
+    joined_lists c.args.lengths c.args.other_lengths c.args.kinds.now c.args.others.now c.loop-register.kinds 11 count count_too inv.0
+    (λ r h. inv.1 r (omega (arith, h, c.loop-register-test.false)))

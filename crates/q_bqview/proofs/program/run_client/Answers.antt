@@ -2,4 +2,4 @@
 use Rattle.q_bqview.proofs.program.run_client.Goals as goal
 
 pub returns : goal.returns
-returns g c = (c.run_file-ending.result.ending, c.run_file-ending.result.source.items, c.run_file-ending.ensures.steps, c.status.ensures, c.run_file-ending.ensures.counted)
+returns g c = let ran = c.run_file-ending in (ran.result.ending, ran.result.source.items, ran.ensures.steps, c.status.ensures, ran.ensures.counted)

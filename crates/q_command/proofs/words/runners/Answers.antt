@@ -1,5 +1,4 @@
 -- runners: the count of threads that a text spells, if it spells one from 1 to 64.
-use Rattle.std.proofs.Common.{rules}
 use Rattle.q_command.proofs.Commands.{no_runners}
 use Rattle.q_command.proofs.words.runners.Goals as goal
 

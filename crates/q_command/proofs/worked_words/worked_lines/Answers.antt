@@ -1,5 +1,5 @@
 -- worked_lines: what whole command lines are read as.
-use Rattle.std.proofs.Common.{◌≡◌, ℕ, codes, refl, sym, ◌∙◌, lit<, lit≤, arith}
+use Rattle.std.proofs.Common.{◌≡◌, ℕ, codes, refl, sym, lit<, lit≤, arith}
 use Rattle.std.specs.Fmt.{digits}
 use Rattle.std.proofs.lemmas.Fmt.{decimal_injective}
 use Rattle.clap.proofs.OnLiterals.{clap_on_literals}

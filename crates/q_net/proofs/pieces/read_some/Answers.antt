@@ -1,5 +1,5 @@
 -- read_some: the next bytes, so many; none where the input ends before them.
-use Rattle.std.proofs.Common.{◌≡◌, ◌≤◌, ℕ, length, arith, drop, replicate, sym, ◌∙◌, subst}
+use Rattle.std.proofs.Common.{◌≡◌, ◌≤◌, length, arith, drop, replicate, sym, ◌∙◌, subst}
 use Rattle.std.specs.Io.KnownBytes.{Consumes}
 use Rattle.q_net.proofs.Reading.{whole_of, front_of, taken_length}
 use Rattle.q_net.proofs.pieces.read_some.Goals as goal

@@ -1,6 +1,5 @@
 -- register: the body of a `register` at the front of the bytes.
 use Rattle.std.proofs.Common.{refl}
-use Rattle.std.proofs.lemmas.Result.{err_from_is_err_and}
 use Rattle.q_replay.proofs.Exits.{no_form}
 use Rattle.q_replay.proofs.Bodies.{no_length, text_cut, text_refused, notes_refused, registered}
 use Rattle.q_replay.proofs.body.register.Goals as goal
@@ -15,17 +14,15 @@ returns-in_err-spelling-clause-none c =
 
 pub returns-in_err-text-clause-none : goal.returns-in_err-text-clause-none
 returns-in_err-text-clause-none c =
-    let p = err_from_is_err_and c.from_residual-in_err-text.result c.from_residual-in_err-text.ensures.1 in
     text_refused c.args.version (record { legal = c.in_ok-length.ensures.fits; parts = c.in_ok-length.ensures.parts })
     (record { long = c.in_ok-spelling.ensures.len; parts = c.in_ok-spelling.ensures.parts })
-    c.from_residual-in_err-text.result p.1 c.in_err-text.field-0.0 p.2 c.in_err-text.ensures.all
+    c.from_residual-in_err-text.result c.in_err-text.field-0.0 c.from_residual-in_err-text.ensures.1 c.in_err-text.ensures.all
 
 pub returns-in_err-notes-clause-none : goal.returns-in_err-notes-clause-none
 returns-in_err-notes-clause-none c =
-    let p = err_from_is_err_and c.from_residual-in_err-notes.result c.from_residual-in_err-notes.ensures.1 in
     notes_refused c.args.version (record { legal = c.in_ok-length.ensures.fits; parts = c.in_ok-length.ensures.parts })
     (record { long = c.in_ok-spelling.ensures.len; parts = c.in_ok-spelling.ensures.parts })
-    c.from_residual-in_err-notes.result p.1 c.in_err-notes.field-0.0 p.2 c.in_err-notes.ensures.all
+    c.from_residual-in_err-notes.result c.in_err-notes.field-0.0 c.from_residual-in_err-notes.ensures.1 c.in_err-notes.ensures.all
 
 pub returns-clause-body : goal.returns-clause-body
 returns-clause-body c = record {

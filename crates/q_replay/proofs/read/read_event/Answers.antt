@@ -1,6 +1,5 @@
 -- read_event: the event of that version with which the bytes begin, and what stands behind it.
 use Rattle.std.proofs.Common.{sym, ◌∙◌}
-use Rattle.std.proofs.lemmas.Result.{err_from_is_err_and}
 use Rattle.spelling.specs.Codes.{BeginsNone}
 use Rattle.q_replay.specs.Spelling.{event_bytes, IsWritten}
 use Rattle.q_replay.proofs.Exits.{no_form, passed}
@@ -21,11 +20,11 @@ returns-in_err-body-clause-none c =
 
 pub returns-in_err-event-clause-none : goal.returns-in_err-event-clause-none
 returns-in_err-event-clause-none c =
-    let p = err_from_is_err_and c.from_residual-in_err-event.result c.from_residual-in_err-event.ensures.1 in
-    passed (BeginsNone (event_bytes c.args.version) (IsWritten c.args.version) c.args.bytes.now) c.from_residual-in_err-event.result p.0 p.1
-    (λ form. no_event c.args.version c.in_ok-kind.ensures.parts
+    passed (BeginsNone (event_bytes c.args.version) (IsWritten c.args.version) c.args.bytes.now) c.from_residual-in_err-event.result
+    c.from_residual-in_err-event.ensures.1
+    (λ e told form. no_event c.args.version c.in_ok-kind.ensures.parts
     (record { legal = c.in_ok-length.ensures.fits; parts = c.in_ok-length.ensures.parts })
-    (record { long = c.in_ok-body.ensures.len; parts = c.in_ok-body.ensures.parts }) (c.in_err-event.ensures.none (sym p.2 ∙ form)))
+    (record { long = c.in_ok-body.ensures.len; parts = c.in_ok-body.ensures.parts }) (c.in_err-event.ensures.none (sym told ∙ form)))
 
 pub returns-clause-legal : goal.returns-clause-legal
 returns-clause-legal c = c.in_ok-event.ensures.body.legal

@@ -1,7 +1,6 @@
 -- read_head: the head with which the bytes begin, which tells the version of what stands behind it, and the bytes
 -- behind it.
 use Rattle.std.proofs.Common.{sym, ◌∙◌}
-use Rattle.std.proofs.lemmas.Result.{err_from_is_err_and}
 use Rattle.spelling.specs.Codes.{BeginsNone}
 use Rattle.q_replay.specs.Spelling.{head_bytes, IsHead}
 use Rattle.q_replay.proofs.Exits.{no_form, passed}
@@ -23,11 +22,10 @@ returns-in_err-beta-clause-none c =
 
 pub returns-in_err-founders-clause-none : goal.returns-in_err-founders-clause-none
 returns-in_err-founders-clause-none c =
-    let p = err_from_is_err_and c.from_residual-in_err-founders.result c.from_residual-in_err-founders.ensures.1 in
-    passed (BeginsNone head_bytes IsHead c.args.bytes.now) c.from_residual-in_err-founders.result p.0 p.1
-    (λ form. no_founders c.in_ok-version.version c.in_ok-version.ensures.parts
+    passed (BeginsNone head_bytes IsHead c.args.bytes.now) c.from_residual-in_err-founders.result c.from_residual-in_err-founders.ensures.1
+    (λ e told form. no_founders c.in_ok-version.version c.in_ok-version.ensures.parts
     (record { legal = c.in_ok-id.ensures.fits; parts = c.in_ok-id.ensures.parts })
-    (record { legal = c.in_ok-beta.ensures.legal; parts = c.in_ok-beta.ensures.parts }) (c.in_err-founders.ensures.none (sym p.2 ∙ form)))
+    (record { legal = c.in_ok-beta.ensures.legal; parts = c.in_ok-beta.ensures.parts }) (c.in_err-founders.ensures.none (sym told ∙ form)))
 
 pub returns-clause-legal : goal.returns-clause-legal
 returns-clause-legal c = record { id = c.in_ok-id.ensures.fits; config = c.in_ok-beta.ensures.legal; founders = c.in_ok-founders.ensures.legal }

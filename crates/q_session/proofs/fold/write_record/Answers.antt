@@ -2,7 +2,8 @@
 use Rattle.std.proofs.Common.{◌∙◌, ◌+◌, ◌-◌, length, sym, ap}
 use Rattle.std.specs.Int.{w64, to_le_bytes}
 use borrow.Rule.Slice.PartMut.{post_of}
-use Rattle.q_session.proofs.Records.{eight_bytes, written}
+use Rattle.bq_word.proofs.Bytes.{eight_bytes}
+use Rattle.q_session.proofs.Records.{written}
 use Rattle.q_session.specs.Records.{record_bytes}
 use Rattle.q_session.proofs.fold.write_record.Goals as goal
 

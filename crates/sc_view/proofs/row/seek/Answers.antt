@@ -1,9 +1,8 @@
 -- seek: the number at an id.
-use Rattle.std.proofs.Common.{ℕ, ◌++◌, List, sym, ap, subst, ◌∙◌}
+use Rattle.std.proofs.Common.{◌++◌, sym, ap, subst, ◌∙◌}
 use Rattle.std.specs.Ordering.{nat_cmp}
 use Rattle.std.specs.Option.{option_map}
 use Rattle.std.specs.FinMap.Entries.{find}
-use Rattle.sc_view.specs.declared.view.Stored.{Stored}
 use Rattle.sc_view.specs.Rows.{joined, Rises}
 use Rattle.sc_view.proofs.EntryLemmas.{Entries, find_over_head}
 use Rattle.sc_view.proofs.row.seek.Goals as goal

@@ -1,5 +1,5 @@
 -- Where the end is above the shifted top, the shifted end is above the top.
-use Rattle.std.proofs.Common.{◌≡◌, ◌^◌, ◌<◌, ◌*◌, ◌/◌, arith, leb, ap, sym, ◌∙◌}
+use Rattle.std.proofs.Common.{◌≡◌, ◌^◌, ◌<◌, ◌*◌, ◌/◌, arith, ap, sym, ◌∙◌}
 use Rattle.std.proofs.lemmas.Bool.{lt-leb, cond-false}
 use Rattle.std.proofs.lemmas.Nat.{pow_pos}
 use Rattle.std.proofs.Math.Nat.{div-lt_iff_lt-mul}
@@ -13,4 +13,4 @@ returns-else-a-top c =
     let above : c.top.result / 2 ^ c.args.count < c.args.a.hi = omega arith in
     let over : c.top.result < c.args.a.hi * 2 ^ c.args.count = (div-lt_iff_lt-mul (pow_pos c.args.count)).0 above in
     let e : top (bits_of c.args.width) < c.args.a.hi * 2 ^ c.args.count = omega (arith, c.top.ensures.value) in
-    c.whole.ensures ∙ sym (cond-false (leb (c.args.a.hi * 2 ^ c.args.count) (top (bits_of c.args.width))) _ _ (lt-leb (c.args.a.hi * 2 ^ c.args.count) (top (bits_of c.args.width)) e))
+    c.whole.ensures ∙ sym (cond-false _ _ _ (lt-leb (c.args.a.hi * 2 ^ c.args.count) (top (bits_of c.args.width)) e))

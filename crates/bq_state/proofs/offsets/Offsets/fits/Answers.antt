@@ -15,7 +15,8 @@ returns-then-lo-offset-ge0 c =
     let a = kept w64 (kept w64 c.from-lo.result +ℤ kept w64 c.from-offset.result) in
     let x = kept w64 (kept w64 (kept w64 c.from-hi.result +ℤ kept w64 c.from-offset.result) +ℤ kept w64 c.from.result) in
     let top = kept w64 c.from-then-lo-offset-ge0.result in
-    fits_above c.args.self c.args.offset c.args.size c.args.len a x top c.if-lo-offset-ge0.true (omega (arith, ints, l, h)) (omega (arith, ints, l, h)) (omega (arith, ints, l, h))
+    fits_above c.args.self c.args.offset c.args.size c.args.len a x top c.if-lo-offset-ge0.true (omega (arith, ints, l, h))
+    (omega (arith, ints, l, h)) (omega (arith, ints, l, h))
 
 pub returns-else-lo-offset-ge0 : goal.returns-else-lo-offset-ge0
 returns-else-lo-offset-ge0 c =

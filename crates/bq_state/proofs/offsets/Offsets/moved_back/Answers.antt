@@ -12,4 +12,6 @@ limited-requires c = omega (arith, ints)
 pub returns : goal.returns
 returns c =
     let e = same_ends c.self.view_is in
-    record { row = moved_back_is c.args.self c.args.by c.limited.result (kept w128 (kept w128 c.from.result -ℤ kept w128 c.of-by.result.hi)) (kept w128 (kept w128 c.from-2.result -ℤ kept w128 c.of-by.result.lo)) c.limited.ensures (omega (arith, ints, e.0, e.1)) (omega (arith, ints, e.0, e.1)) }
+    let lo = kept w128 (kept w128 c.from.result -ℤ kept w128 c.of-by.result.hi) in
+    let hi = kept w128 (kept w128 c.from-2.result -ℤ kept w128 c.of-by.result.lo) in
+    record { row = moved_back_is c.args.self c.args.by _ lo hi c.limited.ensures (omega (arith, ints, e.0, e.1)) (omega (arith, ints, e.0, e.1)) }

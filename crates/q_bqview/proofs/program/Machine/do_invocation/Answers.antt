@@ -10,7 +10,7 @@ returns-in-Cluster g c = done_as g.F.Files.read_gives g.F.Files.write_gives c.ar
 
 pub returns-in-Gather : goal.returns-in-Gather
 returns-in-Gather g c =
-    gathered_as g.F.Files.read_gives g.F.Files.write_gives c.args.invocation.now _ _ c.as_slice.result.now _ _ _ _ _ c.in-Gather.is c.as_slice.ensures.value c.run_gather.ensures
+    gathered_as g.F.Files.read_gives g.F.Files.write_gives c.args.invocation.now _ _ _ _ _ _ _ _ c.in-Gather.is c.as_slice.ensures.value c.run_gather.ensures
 
 pub returns-in-Client : goal.returns-in-Client
 returns-in-Client g c = done_as g.F.Files.read_gives g.F.Files.write_gives c.args.invocation.now _ _ _ _ _ _ c.in-Client.is c.run_client.ensures
