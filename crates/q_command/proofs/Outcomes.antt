@@ -1,11 +1,9 @@
--- Which outcomes are wrong: an answer that is left out, an event that is cut though it is whole, bytes that are kept
--- behind a journal, and what is told as gathered where a refusal was written.
+-- Which outcomes are wrong: an answer that is left out, and what is told as gathered where a refusal was written.
 use Rattle.std.specs.Prelude.{Bool, false, List, [], ◌∷◌, ◌++◌, Some, length, drop, get_or, codes}
-use Rattle.std.proofs.Common.{◌≡◌, ◌<◌, ℕ, refl, sym, ap, ◌∙◌, subst, append_assoc, length-append, flat_map, arith, lit<}
+use Rattle.std.proofs.Common.{◌≡◌, ◌<◌, ℕ, sym, ap, ◌∙◌, append_assoc, length-append, flat_map, arith}
 use lib.Seq.{drop-append_seam}
 use Rattle.std.specs.Fmt.{digits}
 use Rattle.std.specs.FinMap as fin
-use Rattle.spelling.specs.Numbers.{number_bytes}
 use Rattle.sc_view.specs.Views.{ViewMap}
 use Rattle.q_session.specs.declared.query.Phase.TheVariants.{Answered, Collecting}
 use Rattle.q_session.specs.declared.query.Query.{Query}
@@ -14,13 +12,10 @@ use Rattle.q_book.specs.State.{BookState}
 use Rattle.q_outside.specs.Memory.{Reads}
 use Rattle.q_outside.specs.declared.memory_files.MemoryFiles.{MemoryFiles}
 use Rattle.q_history.specs.Headline.{ClusterState}
-use Rattle.q_replay.specs.Journal.{journal_of}
-use Rattle.q_command.specs.Beginning.{IsBeginning, IsCut}
 use Rattle.q_command.specs.JournalFiles.{IsWritten, books_of, longest_journal, source_line}
 use Rattle.q_command.specs.GatheredLines.{answer_line, answer_lines, answers_of, store_text}
 use Rattle.q_command.specs.Tells.{Tells}
 use Rattle.q_command.specs.declared.gathered_ending.GatherEnding.TheVariants.{Gathered}
-use Rattle.q_command.proofs.Testing.{whole}
 
 -- ---- answers
 
@@ -53,25 +48,6 @@ not_dropped c b q view ran queries phase h =
       length-append (line ++ []) [],
       length-append line [],
     )
-
--- ---- beginnings
-
-none_told : 0 ∷ 0 ∷ 0 ∷ 0 ∷ [] ≡ number_bytes 4 0 ++ []
-unfolding number_bytes
-none_told = refl
-
--- an event whose body has no byte has all of it
-not_cut : IsCut (9 ∷ 0 ∷ 0 ∷ 0 ∷ 0 ∷ []) → ⊥
-not_cut = whole (9 ∷ 0 ∷ 0 ∷ 0 ∷ 0 ∷ []) (0 ∷ 0 ∷ 0 ∷ 0 ∷ []) [] 9 0 refl none_told (lit< tt) (λ short. omega (arith, short))
-
-pub whole_event : (kept : List ℕ) (b : BookState) → IsBeginning (kept ++ 9 ∷ 0 ∷ 0 ∷ 0 ∷ 0 ∷ []) kept b → ⊥
-whole_event kept b h =
-    let event : List ℕ = 9 ∷ 0 ∷ 0 ∷ 0 ∷ 0 ∷ [] in
-    let left : h.left ≡ event = sym (drop-append_seam kept h.left) ∙ ap (drop (length kept)) (sym h.parts) ∙ drop-append_seam kept event in
-    not_cut (subst IsCut left h.cut)
-
-pub longer : (b : BookState) → IsBeginning (journal_of b ++ 1 ∷ []) (journal_of b ++ 1 ∷ []) b → ⊥
-longer b h = omega (arith, ap length h.journal, length-append (journal_of b) (1 ∷ []))
 
 -- ---- files
 

@@ -10,7 +10,7 @@ use Rattle.q_history.specs.Headline.{ClusterState}
 use Rattle.q_replay.specs.declared.fault.ReplayFault.{ReplayFault}
 use Rattle.q_told.specs.declared.refusal.Refusal.{Refusal}
 use Rattle.q_told.specs.declared.refusal.Refusal.TheVariants as refusal
-use Rattle.q_command.specs.Beginning.{IsBeginning, IsRefused}
+use Rattle.q_beginning.specs.Beginning.{IsBeginning, IsRefused}
 use Rattle.q_command.specs.Tells.{Tells, of_gather}
 use Rattle.q_command.specs.GatheredLines.{journal_line}
 use Rattle.q_command.specs.Perform.{ReadingOf}

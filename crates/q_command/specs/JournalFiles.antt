@@ -12,7 +12,7 @@ use Rattle.q_told.specs.Refusal.{refusal_line, refusal_of}
 use Rattle.q_told.specs.declared.refusal.Refusal.{Refusal}
 use Rattle.q_told.specs.declared.refusal.Refusal.TheVariants as refusal
 use Rattle.q_outside.specs.Counts.{one_more}
-use Rattle.q_command.specs.Beginning.{IsBeginning, IsRefused}
+use Rattle.q_beginning.specs.Beginning.{IsBeginning, IsRefused}
 use Rattle.q_command.specs.GatheredLines.{journal_line}
 use Rattle.q_command.specs.Tells.{Tells, of_gather}
 use Rattle.q_command.specs.declared.gathered_ending.GatherEnding.{GatherEnding}

@@ -1,7 +1,6 @@
 -- What the commands answer and why they are refused; the words that ask for them; what journals tell together.
 pub mod Advice
 pub mod Audit
-pub mod Beginning
 pub mod GatheredLines
 pub mod JournalFiles
 pub mod Listing

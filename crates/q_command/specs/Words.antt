@@ -100,12 +100,14 @@ audit_app = with_rule (new_app (codes "audit")) (operand (codes "JOURNAL"))
 abbrev pub gather_app : App
 gather_app = with_rule (with_rule (new_app (codes "gather")) (operands (codes "JOURNAL"))) (flag (codes "pairs"))
 
--- `node FILE ID`, with `--clients` and `--journal`, which must be given, and `--runners` and `--sync`
+-- `node FILE ID`, with `--clients` and `--journal`, which must be given, and `--console`, `--resume`, `--runners` and
+-- `--sync`
 abbrev pub node_app : App
 node_app =
     let operands = with_rule (with_rule (new_app (codes "node")) (operand (codes "FILE"))) (operand (codes "ID")) in
     let places = with_rule (with_rule operands (demanded (codes "clients"))) (demanded (codes "journal")) in
-    with_rule (with_rule places (option (codes "runners") (codes "2"))) (flag (codes "sync"))
+    let start = with_rule (with_rule places (optional (codes "console"))) (flag (codes "resume")) in
+    with_rule (with_rule start (option (codes "runners") (codes "2"))) (flag (codes "sync"))
 
 -- `client ADDR SCRIPT`, with the flag `--strict`
 abbrev pub client_app : App
@@ -215,6 +217,8 @@ pub record HasNode (line : NodeWords) (rows : List Row) : Type 0 where
   pub id : IsNumeral (operand_of (codes "ID") rows) line.id
   pub clients : line.clients.now ≡ operand_of (codes "clients") rows
   pub journal : line.journal.now ≡ operand_of (codes "journal") rows
+  pub console : option_map (λ path. path.now) line.console ≡ first_of (codes "console") rows
+  pub resume : line.resume ≡ is_given (codes "resume") rows
   pub runners : AreRunners rows line.runners
   pub sync : line.sync ≡ is_given (codes "sync") rows
 

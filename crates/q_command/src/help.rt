@@ -66,7 +66,7 @@ pub(crate) const GATHER: About = About {
 /// `node`.
 pub(crate) const NODE: About = About {
     about: "Runs a node of a cluster as a process of its own",
-    after_help: "There is no authentication and no encryption. An address that is not loopback is open to all who reach it. A Unix socket's file mode decides who may connect.\nThe standard input is the node's console, one command a line: `status` tells how it is, `leave` leaves the cluster for good, and `end` ends the node, as the end of the input does.\nWhat explains a refusal goes to the standard error.\nExit status: 0; 1 after a refusal, or where the journal or the output fails; 2 for a wrong command line.\nExample: bqview node examples/apart/three.nodes 1 --clients 127.0.0.1:8001 --journal one.journal\nFormats: docs/FORMATS.md, \"Clusters of nodes apart\"",
+    after_help: "There is no authentication and no encryption. An address that is not loopback is open to all who reach it. A Unix socket's file mode decides who may connect.\nThe console takes one command a line: `status` prints how the node is, `leave` leaves the cluster for good, and `end` ends the node. The end of the standard input closes the console; the node goes on.\nA node that ended or was killed goes on when it is started again with the same words. Keep J.boot beside the journal J. After a new start of the machine the node goes on only if it ran with --sync, or was ended. Never resume a copy or a backup of a journal.\nWhat explains a refusal goes to the standard error.\nExit status: 0; 1 after a refusal, or where the journal or the output fails; 2 for a wrong command line.\nExample: bqview node examples/apart/three.nodes 1 --clients 127.0.0.1:8001 --journal one.journal\nFormats: docs/FORMATS.md, \"Clusters of nodes apart\"",
 };
 
 /// `client`.
@@ -152,7 +152,15 @@ pub(crate) const CLIENTS: &str =
 
 /// `--journal`.
 pub(crate) const JOURNAL: &str =
-    "Writes the node's journal to this file, which must not be there yet";
+    "The file of the node's journal. If it is there, the node goes on from it";
+
+/// `--console`.
+pub(crate) const CONSOLE: &str =
+    "A Unix socket, of mode 600, that takes the console's lines in place of the standard input";
+
+/// `--resume`.
+pub(crate) const RESUME: &str =
+    "Refuses to start if there is no journal, so that a missing disk begins no new node";
 
 /// `--runners`.
 pub(crate) const RUNNERS: &str = "How many threads run programs, from 1 to 64";

@@ -2,8 +2,10 @@
 //! changes nothing.
 
 use q_book::Book;
+use q_desk::Entry;
 use q_gather::GatherFault;
 use q_replay::ReplayFault;
+use sc_msg::Body;
 use std::io::Write;
 
 /// Says of the file with this name why it begins with no journal.
@@ -136,6 +138,83 @@ fn note_heads<N: Write>(notes: &mut N, names: &[&str], books: &[Book]) {
     note_founders(notes, names, books);
 }
 
+/// What the book of its sender lacks of a message: no such book is there, or it has not come as far.
+#[derive(Clone, Copy)]
+enum Lack {
+    /// There is no journal of the sender.
+    Journal,
+    /// There is one, at this place, in which the message is not sent.
+    Event(usize),
+}
+
+/// Whether a node with this book has not sent this, as far as the book shows that.
+fn is_ahead(book: &Book, body: &Body) -> bool {
+    let node = book.node();
+    match body {
+        Body::Store(store) => node.operations() <= store.tag,
+        Body::CollectQuery { tag } => node.operations() <= *tag,
+        Body::Join => !node.has_joined(),
+        Body::Leave => !node.is_gone(),
+        _ => false,
+    }
+}
+
+/// What is lacking of the message of an entry, if something is.
+fn lack_of(books: &[Book], entry: &Entry) -> Option<Lack> {
+    let Entry::Deliver(message) = entry else {
+        return None;
+    };
+    let Some(place) = book_of(books, message.from, 0) else {
+        return Some(Lack::Journal);
+    };
+    let sender = books.get(place)?;
+    if is_ahead(sender, &message.body) {
+        return Some(Lack::Event(place));
+    }
+    None
+}
+
+/// The first event of a book whose message nobody sent, counted from 1, with its sender and what is lacking.
+fn first_unsent(books: &[Book], book: &Book) -> Option<(usize, u64, Lack)> {
+    for (before, entry) in book.journal().iter().enumerate() {
+        if let Some(lack) = lack_of(books, entry)
+            && let Entry::Deliver(message) = entry
+        {
+            return Some((before + 1, message.from, lack));
+        }
+    }
+    None
+}
+
+/// Says which event of which journal delivers a message that none of these journals sent, as far as that is found.
+fn note_unsent<N: Write>(notes: &mut N, names: &[&str], books: &[Book]) {
+    for (place, book) in books.iter().enumerate() {
+        let Some((event, sender, lack)) = first_unsent(books, book) else {
+            continue;
+        };
+        let name = name_at(names, place);
+        let _ = write!(
+            notes,
+            "{name}: Event {event} delivers a message of node {sender}, "
+        );
+        let _ = match lack {
+            Lack::Journal => writeln!(notes, "whose journal is missing. Name that too."),
+            Lack::Event(other) => {
+                let other = name_at(names, other);
+                writeln!(
+                    notes,
+                    "which {other} does not send: that file is shorter than the journal was. Copy it again, whole."
+                )
+            }
+        };
+        return;
+    }
+    let _ = writeln!(
+        notes,
+        "A message was delivered that none of these journals sent: one of them is shorter than it was, or of another run. Copy all journals again, whole, once their nodes have ended."
+    );
+}
+
 /// Says why the journals of the files with these names do not gather.
 pub(crate) fn note_gather<N: Write>(
     notes: &mut N,
@@ -147,10 +226,7 @@ pub(crate) fn note_gather<N: Write>(
         GatherFault::IdUsed => note_twice(notes, names, books),
         GatherFault::BadFounders => note_heads(notes, names, books),
         GatherFault::NeverSent => {
-            let _ = writeln!(
-                notes,
-                "A message was delivered that none of these journals sent: one is missing, was cut, or is of another run."
-            );
+            note_unsent(notes, names, books);
         }
         GatherFault::Journal { .. } | GatherFault::OutOfMemory => {}
     }

@@ -2,13 +2,13 @@
 
 ghost use Rattle.std.specs.Prelude.{◌≡◌, ◌⊎◌, [], ◌∷◌, ◌++◌, map, IfOk, IfErr, OnOk, string_bytes};
 ghost use Rattle.q_replay.specs.declared.fault.ReplayFault.{ReplayFault};
-ghost use Rattle.q_command.specs.Beginning.{IsBeginning, IsRefused};
+ghost use Rattle.q_beginning.specs.Beginning.{IsBeginning, IsRefused};
 ghost use Rattle.q_command.specs.JournalFiles.{AreSources, IsRead, IsUnread, RefusesFile, Source, longest_journal, source_line};
 ghost use Rattle.q_command.specs.GatheredLines as line;
 ghost use Rattle.q_command.specs.Tells as tells;
 
-use crate::beginnings::beginning;
 use crate::journal_notes::note_journal;
+use q_beginning::beginning;
 use q_book::Book;
 use q_gather::GatherFault;
 use q_outside::Files;

@@ -19,8 +19,8 @@
 //!   that was not read. [`nodes_advice`] explains so why the command `cluster`, which runs in another crate, refuses
 //!   its script. What explains a refusal goes to the notes, of which no clause speaks.
 //! - [`gather_files`] is the command `gather`: of nodes that ran apart, as processes of their own, their journals are
-//!   all that is left. Of each file it takes the longest beginning that is a journal ([`beginning`]): a process that
-//!   was killed, or whose disk was full, leaves a file whose last event is not whole, and that event is cut. Where the
+//!   all that is left. Of each file it takes the longest beginning that is a journal (`q_beginning`): a process that was
+//!   killed, or whose disk was full, leaves a file whose last event is not whole, and that event is cut. Where the
 //!   books of these gather into one cluster, it writes what they tell together ([`gathered`]): each recorded answer
 //!   with the view that it saw, and where a store and a collect met. Where not, it writes exactly the line of the
 //!   refusal, whose reason holds of the files.
@@ -42,7 +42,6 @@
 mod advising;
 mod answer;
 mod auditor;
-mod beginnings;
 mod check;
 mod gathered_answers;
 mod gathered_ending;
@@ -65,7 +64,6 @@ pub mod worked_words;
 
 pub use advising::{advice, nodes_advice};
 pub use auditor::audit;
-pub use beginnings::{Journal, beginning};
 pub use check::{Check, checked};
 pub use gathered_ending::GatherEnding;
 pub use gathered_teller::gathered;

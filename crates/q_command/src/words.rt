@@ -406,7 +406,9 @@ fn node_command<'a>(alloc: Global) -> Result<Command<'a>, AllocError>
     let id = with_argument(file, operand(alloc, "ID", help::ID));
     let clients = with_argument(id, demanded(alloc, "clients", help::CLIENTS, "ADDR"));
     let journal = with_argument(clients, demanded(alloc, "journal", help::JOURNAL, "FILE"));
-    let runners = with_argument(journal, option(alloc, "runners", help::RUNNERS, "R", "2"));
+    let console = with_argument(journal, optional(alloc, "console", help::CONSOLE, "PATH"));
+    let resume = with_argument(console, flag(alloc, "resume", help::RESUME));
+    let runners = with_argument(resume, option(alloc, "runners", help::RUNNERS, "R", "2"));
     with_argument(runners, flag(alloc, "sync", help::SYNC))
 }
 
@@ -663,6 +665,8 @@ fn node_line<'a>(found: &ArgMatches<'a>) -> Result<Invocation<'a>, WordsFault<'a
         id,
         clients: operand_text(found, "clients"),
         journal: operand_text(found, "journal"),
+        console: optional_text(found, "console"),
+        resume: is_given(found, "resume"),
         runners,
         sync: is_given(found, "sync"),
     }))

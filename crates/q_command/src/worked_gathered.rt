@@ -14,21 +14,18 @@ ghost use Rattle.q_gather.specs.Gather.{AreRefused};
 ghost use Rattle.q_gather.specs.declared.fault.GatherFault.{GatherFault};
 ghost use Rattle.q_gather.specs.declared.fault.GatherFault.TheVariants as gather_fault;
 ghost use Rattle.q_history.specs.Headline.{ClusterState};
-ghost use Rattle.q_replay.specs.Journal.{journal_of};
-ghost use Rattle.q_command.specs.Beginning.{IsBeginning, IsCut};
 ghost use Rattle.q_command.specs.JournalFiles.{IsWritten, longest_journal, status_of};
 ghost use Rattle.q_command.specs.GatheredLines.{answer_line, answers_of, journal_line};
 ghost use Rattle.q_command.specs.Tells.{Tells};
 ghost use Rattle.q_command.specs.declared.gathered_ending.GatherEnding.TheVariants as ending;
 
 /// What the definitions say of a file, of answers, of what is gathered and of how that ends.
-#[tactic(auto, using(crate::proofs::Alone::alone, crate::proofs::Outcomes::longer, crate::proofs::Outcomes::not_dropped, crate::proofs::Outcomes::second))]
+#[tactic(auto, using(crate::proofs::Alone::alone, crate::proofs::Outcomes::not_dropped, crate::proofs::Outcomes::second))]
 pub fn worked()
     ensures whole { (b : BookState) → b.id ≡ 2 → length b.desk.journal ≡ 114 → journal_line (codes "j2") b 0 ≡ codes "j2 node 2 events 114\n" }
     ensures cut { (b : BookState) → b.id ≡ 2 → length b.desk.journal ≡ 114 → journal_line (codes "j2") b 144 ≡ codes "j2 node 2 events 114 cut 144 bytes\n" }
     ensures answered { (view : ViewMap) → fin.entries view ≡ (1, record { number = 2; value = [] }) ∷ (4, record { number = 1; value = [] }) ∷ [] → answer_line 4 0 (phase.Answered view (record { acc = 3; steps = 9 })) ≡ codes "answer 4 0 3 9 view 1:2 4:1\n" }
     ensures unanswered { answer_line 4 0 phase.Collecting ≡ [] }
-    ensures too_few { IsCut (7 ∷ 24 ∷ 0 ∷ 0 ∷ []) }
     ensures gathered { status_of ending.Gathered ≡ 0 }
     ensures unwritten { status_of ending.Unwritten ≡ 1 }
 
@@ -39,11 +36,6 @@ pub fn worked()
     ensures not_dropped { (c : ClusterState) (b : BookState) (q : Query) (view : ViewMap) (ran : Ran)
         → b.desk.queries ≡ q ∷ [] → q.phase ≡ phase.Answered view ran
         → Tells c (b ∷ []) false (codes "journals ok\n") → ⊥ }
-
-    // An event of five bytes whose body has none is whole, so it is not cut; and no byte behind a journal is kept.
-    ensures whole_event { (kept : List ℕ) (b : BookState)
-        → IsBeginning (kept ++ 9 ∷ 0 ∷ 0 ∷ 0 ∷ 0 ∷ []) kept b → ⊥ }
-    ensures longer { (b : BookState) → IsBeginning (journal_of b ++ 1 ∷ []) (journal_of b ++ 1 ∷ []) b → ⊥ }
 
     // The book of a lone founder to whom nothing has happened gathers, unless memory runs out.
     ensures alone { (b : BookState) (fault : GatherFault) → IsReplay b → b.founders ≡ Some (b.id ∷ [])

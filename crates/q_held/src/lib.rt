@@ -7,12 +7,19 @@
 //! results and jobs. The book is always the replay of its journal, since its type keeps that. [`addressee`] says for
 //! whom a message is meant, and that nobody else takes anything from it.
 //!
+//! A node that comes back after its process ended has the book of its journal ([`LiveNode::resumed`]). Proved: the
+//! messages that wait to be sent are those whose answers it still waits for. A node that left says only that it left.
+//! A node that entered asks to enter until it has joined, and from then on says that it joined. Each open operation
+//! asks what its phase asks, by rising tags. The jobs of the queries that run are offered at the board again, by rising
+//! numbers, until the row is full.
+//!
 //! `q_nodes` stands on it, whose nodes are threads of one process, and so do nodes that run apart.
 #![tactic(auto)]
 
 mod addressees;
 mod live_node;
 mod losses;
+mod resumed;
 pub mod worked;
 
 pub use addressees::{addressee, asking_operation, others_take_nothing};

@@ -1,18 +1,20 @@
 //! What the lock of a node keeps.
 
-ghost use Rattle.std.specs.Prelude.{◌≡◌, ◌≤◌, ◌+◌, [], vec_len, vec_capacity, MatchResult};
+ghost use Rattle.std.specs.Prelude.{◌≡◌, ◌≤◌, ◌+◌, [], vec_len, vec_capacity, IfOk, MatchResult};
 ghost use Rattle.q_board.specs.BoardId.{board_id};
 ghost use Rattle.q_board.specs.Pumped.{Pumped, Stopped};
+ghost use Rattle.q_held.specs.Resumed.{OffersFirst, running_jobs, still_asked};
 ghost use Rattle.q_held.specs.LiveNodes.{Asks, Delivers, Hears, Leaves, Receives, Stores, both_unsent, counted, no_losses, no_unsent};
 
 use crate::losses::{LossCounts, Unsent};
+use crate::resumed::{offer_running, still_asked};
 use q_board::{AskerSeat, Board, pump_once};
 use q_book::{Asked, Book, BookFault};
 use q_desk::Completed;
 use q_table::ProgramId;
 use sc_decode::decode_as;
 use sc_msg::{Message, MessageFault};
-use std::alloc::Global;
+use std::alloc::{AllocError, Global};
 
 /// A node's book, the messages that its thread has still to send, and its seat at the board of jobs.
 #[derive(Drop)]
@@ -61,6 +63,33 @@ impl<'b> LiveNode<'b> {
             board,
             asker,
         }
+    }
+
+    /// A node that comes back with the book of its journal. What it still asks waits, and the jobs of the queries that
+    /// run are offered at the board again, as many as the row has room for. The one error is that memory ran out.
+    pub fn resumed(
+        alloc: Global,
+        book: Book,
+        board: &'b Board,
+        mut asker: AskerSeat,
+    ) -> Result<LiveNode<'b>, AllocError>
+        requires { asker.table ≡ board_id board.now }
+        ensures book { IfOk result (λ held. held.book ≡ book) }
+        ensures asks { IfOk result (λ held. held.waiting.items ≡ still_asked book) }
+        ensures offers { IfOk result (λ held. OffersFirst (running_jobs book) asker held.asker) }
+        ensures lost { IfOk result (λ held. held.lost ≡ no_losses) }
+        ensures unsent { IfOk result (λ held. held.unsent ≡ no_unsent) }
+    {
+        let waiting = still_asked(alloc, &book)?;
+        offer_running(board, &mut asker, &book)?;
+        Ok(LiveNode {
+            book,
+            waiting,
+            lost: LossCounts::none(),
+            unsent: Unsent::none(),
+            board,
+            asker,
+        })
     }
 
     /// Takes a datagram that was received, and answers which operation it ended. An empty one is a bell, which only

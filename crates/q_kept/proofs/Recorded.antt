@@ -12,6 +12,25 @@ use Rattle.q_kept.specs.declared.fault.Unrecorded.TheVariants.{Failed, OutOfMemo
 use Rattle.q_kept.proofs.Parts.{part_all, part_behind, there_and_lacking, there_whole}
 use Rattle.q_kept.proofs.GrownJournals.{journal_entry, recorded_stays}
 
+-- the whole journal is there, and counted
+pub recorded_whole : (first : Option (List ℕ)) (b : BookState) (r : RecorderState) → r.begun ≡ true → r.written ≡ length b.desk.journal
+    → Appends first r.file (journal_of b) → IsRecorded first b r
+recorded_whole first b r begun written all =
+    let same : recorded_bytes r b ≡ journal_of b =
+    there_whole (journal_entry b) (head_bytes (head_of b)) r.begun r.written b.desk.journal begun (omega (arith, written)) in
+    record {
+      beginning = part_all all;
+      whole = λ _. subst (Appends first r.file) (sym same) all;
+      within = omega (arith, written);
+      unbegun = λ unbegun. absurd (cc (begun, unbegun));
+    }
+
+-- it breaks, and nothing else changes
+pub recorded_broken : (first : Option (List ℕ)) (b : BookState) (r : RecorderState) → IsRecorded first b r
+    → IsRecorded first b (record r { broken = true })
+recorded_broken first b r i =
+    record { beginning = i.beginning; whole = λ sound. absurd (cc sound); within = i.within; unbegun = i.unbegun }
+
 module _ (first : Option (List ℕ)) (b : BookState) (old : RecorderState) (i : IsRecorded first b old) where
   parts : recorded_bytes old b ++ lacking_bytes old b ≡ journal_of b
   parts = there_and_lacking (journal_entry b) (head_bytes (head_of b)) old.begun old.written b.desk.journal i.unbegun
@@ -24,15 +43,7 @@ module _ (first : Option (List ℕ)) (b : BookState) (old : RecorderState) (i : 
   recorded-all new r =
       let begun : new.begun ≡ true = ap (λ (x : RecorderState). x.begun) r.counted in
       let written : new.written ≡ length b.desk.journal = ap (λ (x : RecorderState). x.written) r.counted in
-      let all : Appends first new.file (journal_of b) = whole-all new.file r.sound r.appended in
-      let same : recorded_bytes new b ≡ journal_of b =
-      there_whole (journal_entry b) (head_bytes (head_of b)) new.begun new.written b.desk.journal begun (omega (arith, written)) in
-      record {
-        beginning = part_all all;
-        whole = λ _. subst (Appends first new.file) (sym same) all;
-        within = omega (arith, written);
-        unbegun = λ unbegun. absurd (cc (begun, unbegun));
-      }
+      recorded_whole first b new begun written (whole-all new.file r.sound r.appended)
 
   -- it breaks now
   breaks : (new : RecorderState) → old.broken ≡ false → Breaks old b new → IsRecorded first b new

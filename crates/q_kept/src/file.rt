@@ -8,6 +8,7 @@ use q_outside::Counted;
 use std::fs::OpenFile;
 use std::io;
 use std::io::Write;
+use std::os::unix::fs::MetadataExt;
 
 /// A file that takes a journal.
 pub trait JournalFile: Write {
@@ -18,6 +19,12 @@ pub trait JournalFile: Write {
     fn keep(&mut self) -> io::Result<()>
         ensures bytes { Keeps (Self.contents self.old) (Self.contents self.new) }
         ensures kept { OnOk result (IfSome (kept self.new) (λ bytes. Self.contents self.new ≡ Some bytes)) };
+
+    /// Whether the file is still there and has this many bytes. If not, someone else removed it, cut it or wrote to it.
+    /// A file that cannot be asked counts as intact.
+    fn is_intact(&self, _bytes: u64) -> bool {
+        true
+    }
 }
 
 /// A file of the system, of which no contract says what it holds.
@@ -48,6 +55,13 @@ impl<D: Write + OpenFile> JournalFile for DiskFile<D> {
     fn keep(&mut self) -> io::Result<()> {
         self.file.sync_data()
     }
+
+    fn is_intact(&self, bytes: u64) -> bool {
+        match self.file.metadata() {
+            Ok(found) => found.len() == bytes && found.nlink() != 0,
+            Err(_) => true,
+        }
+    }
 }
 
 /// A keep is a flush, which is counted and may be made to fail, and then that of the file.
@@ -57,5 +71,9 @@ impl<J: JournalFile> JournalFile for Counted<J> {
     fn keep(&mut self) -> io::Result<()> {
         self.flush()?;
         self.inner.keep()
+    }
+
+    fn is_intact(&self, bytes: u64) -> bool {
+        self.inner.is_intact(bytes)
     }
 }

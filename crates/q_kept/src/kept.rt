@@ -1,6 +1,6 @@
 //! What the lock keeps.
 
-ghost use Rattle.std.specs.Prelude.{◌≡◌, ℕ, List, Option, true, false, [], map, IfNone, IfSome, IsNone, OnOk};
+ghost use Rattle.std.specs.Prelude.{◌≡◌, ℕ, List, Option, true, false, if◌then◌else◌, [], map, IfNone, IfSome, IsNone, OnOk};
 ghost use Rattle.std.specs.List.{AllByRecursion};
 ghost use Rattle.std.specs.Io.KnownBytes.{Appends};
 ghost use Rattle.q_book.specs.State.{BookState};
@@ -51,6 +51,16 @@ impl<'b, J: JournalFile> Kept<'b, J> {
         ensures { result ≡ self.now.recorder.broken }
     {
         self.recorder.is_broken()
+    }
+
+    /// Looks whether the journal's file is still as it was left; if not, the node is mute from now on. Whether this look
+    /// found that.
+    pub fn look(&mut self) -> bool
+        ensures looked { self.new ≡ (if result then record self.old { recorder = record self.old.recorder { broken = true } } else self.old) }
+        ensures once { self.old.recorder.broken ≡ true → result ≡ false }
+        ensures recorded { (first : Option (List ℕ)) (b : BookState) → IsRecorded first b self.old.recorder → IsRecorded first b self.new.recorder }
+    {
+        self.recorder.look()
     }
 
     /// Pumps, then writes what the file lacks of the book's journal, and only then gives the messages that wait, as

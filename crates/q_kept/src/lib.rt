@@ -20,6 +20,12 @@
 //! first. A write that fails leaves a beginning of the journal there, and nothing is written behind it at any later
 //! time: a journal that is cut can be read up to the cut, and one with a hole cannot.
 //!
+//! A file that already holds the whole journal of a book gets a recorder that goes on after it ([`resumed`]). That
+//! recorder appends only the entries that the book gets from now on. A [`look`] asks the system whether the file is
+//! still there and has as many bytes as the recorder left. If someone else removed the file, cut it or wrote to it,
+//! that counts as a write that failed: nothing is written any more. A file that cannot be asked counts as intact. The
+//! contracts do not say when a look finds a change, since they do not say what a file of the system holds.
+//!
 //! Proved, over any file: after any calls for a book that grows, the file holds what it held at first and then a
 //! beginning of the book's journal, which is the head and the entries that the recorder counts unless a write failed
 //! (`IsRecorded`). Of what a file of the system holds, and keeps where the power fails, nothing is proved.
@@ -32,7 +38,9 @@
 //!
 //! [`entries_bytes`]: q_replay::entries_bytes
 //! [`head_bytes`]: q_replay::head_bytes
+//! [`look`]: Recorder::look
 //! [`record`]: Recorder::record
+//! [`resumed`]: Recorder::resumed
 #![tactic(auto)]
 
 mod again;

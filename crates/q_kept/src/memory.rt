@@ -1,6 +1,6 @@
 //! A journal's file in memory, for tests.
 
-ghost use Rattle.std.specs.Prelude.{◌≡◌, ◌-◌, [], Some, min, length, IsErr, IfOk, OnOk};
+ghost use Rattle.std.specs.Prelude.{◌≡◌, ◌==◌, ◌-◌, [], Some, min, length, IsErr, IfOk, OnOk};
 ghost use Rattle.std.specs.Io.{WritesAtMost};
 ghost use Rattle.std.specs.Io.KnownBytes.{Keeps, WriteAppends};
 
@@ -73,5 +73,11 @@ impl JournalFile for MemoryFile {
         self.kept.clear();
         self.kept.extend_from_slice(&self.bytes)?;
         Ok(())
+    }
+
+    fn is_intact(&self, bytes: u64) -> bool
+        ensures { result ≡ (length self.now.bytes.items == bytes) }
+    {
+        self.bytes.len() as u64 == bytes
     }
 }

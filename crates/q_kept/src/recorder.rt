@@ -1,6 +1,6 @@
 //! A recorder: a file and how much of a book's journal stands there.
 
-ghost use Rattle.std.specs.Prelude.{◌≡◌, ℕ, List, Option, Some, true, false, IfOk, IfSome, OnOk, OnErr};
+ghost use Rattle.std.specs.Prelude.{◌≡◌, ℕ, List, Option, Some, true, false, if◌then◌else◌, length, IfOk, IfSome, OnOk, OnErr};
 ghost use Rattle.std.specs.Io.KnownBytes.{Appends};
 ghost use Rattle.q_book.specs.State.{BookState};
 ghost use Rattle.q_replay.specs.Journal.{journal_of};
@@ -24,6 +24,8 @@ pub struct Recorder<J: JournalFile> {
     begun: bool,
     written: usize,
     broken: bool,
+    /// How many bytes the file has, as far as this process wrote or found them.
+    size: u64,
 }
 
 impl<J: JournalFile> Model for Recorder<J> {
@@ -47,6 +49,23 @@ impl<J: JournalFile> Recorder<J> {
             begun: false,
             written: 0,
             broken: false,
+            size: 0,
+        }
+    }
+
+    /// A recorder whose file already holds the whole journal of a book, after what it held at first, and has this many
+    /// bytes. Its next call of `record` appends only what the book does from now on.
+    pub fn resumed(file: J, keeps: bool, book: &Book, size: u64) -> Recorder<J>
+        ensures new { result ≡ record { file = J.contents file; kept = J.kept file; begun = true; written = length book.now.desk.journal; broken = false; keeps = keeps } }
+        ensures recorded { (first : Option (List ℕ)) → Appends first (J.contents file) (journal_of book.now) → IsRecorded first book.now result }
+    {
+        Recorder {
+            file: Counted::new(file),
+            keeps,
+            begun: true,
+            written: book.events(),
+            broken: false,
+            size,
         }
     }
 
@@ -71,6 +90,7 @@ impl<J: JournalFile> Recorder<J> {
         };
         self.begun = true;
         self.written = book.events();
+        self.size = self.size.saturating_add(bytes.len() as u64);
         Ok(())
     }
 
@@ -85,6 +105,20 @@ impl<J: JournalFile> Recorder<J> {
         let mut bytes = head_bytes(alloc, book)?;
         bytes.extend_from_slice(&entries)?;
         Ok(bytes)
+    }
+
+    /// Looks whether the file is still as this recorder left it. If someone else removed it, cut it or wrote to it,
+    /// that counts as a write that failed: nothing is written any more. Whether this look found that.
+    pub fn look(&mut self) -> bool
+        ensures looked { self.new ≡ (if result then record self.old { broken = true } else self.old) }
+        ensures once { self.old.broken ≡ true → result ≡ false }
+        ensures recorded { (first : Option (List ℕ)) (b : BookState) → IsRecorded first b self.old → IsRecorded first b self.new }
+    {
+        if self.broken || self.file.is_intact(self.size) {
+            return false;
+        }
+        self.broken = true;
+        true
     }
 
     /// Whether a write failed, so that nothing is written any more.

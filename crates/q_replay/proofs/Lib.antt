@@ -1,4 +1,4 @@
--- How journals are spelled and read, why a journal is that of one book, and bytes have one fault.
+-- How journals are spelled and read, which entry a written one is, why a journal is that of one book, and bytes have one fault.
 pub mod Sizes
 pub mod Fronts
 pub mod Exits
@@ -8,7 +8,7 @@ pub mod Events
 pub mod Writes
 mod Lists
 mod Posting
-mod Entries
+pub mod Entries
 pub mod Leading
 mod Firsts
 mod Calling

@@ -1,6 +1,7 @@
 -- The lines of the file.
-use Rattle.std.specs.Prelude.{◌≡◌, ℕ, Bool, true, false, List, ◌∷◌, ◌++◌, codes}
+use Rattle.std.specs.Prelude.{◌≡◌, ◌≢◌, ℕ, Bool, true, false, List, ◌∷◌, ◌++◌, codes}
 use Rattle.std.specs.Net.Grammar.{IsSocketText}
+use Rattle.std.specs.Net.Socket.{socket_port}
 use Rattle.q_script.specs.Words.{IsFollowed}
 use Rattle.q_script.specs.Founding.{SpellsFirst}
 use Rattle.q_script.specs.declared.node_line.Heading.{Heading}
@@ -19,10 +20,11 @@ node_word false = codes "node"
 abbrev pub IsNodeWord : List ℕ → Bool → Type 0
 IsNodeWord word is_founder = word ≡ node_word is_founder
 
--- the word, the id of the node, and the address of its socket, with one space between
+-- the word, the id of the node, and the address of its socket, with one space between; the port is not 0
 pub record SpellsNode (text : List ℕ) (node : NodeLine) : Type 0 where
   pub rest : List ℕ
   pub address : List ℕ
   pub parts : text ≡ node_word node.is_founder ++ (32 ∷ rest)
   pub id : IsFollowed 32 rest (node.id, address)
   pub is_address : IsSocketText address node.address
+  pub has_port : socket_port node.address ≢ 0

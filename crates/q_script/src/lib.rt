@@ -33,7 +33,7 @@
 //!
 //! An address is what the library's parser of socket addresses accepts, as its definition has it: an IPv4 address, a
 //! colon and a port, or an IPv6 address in brackets, perhaps with `%` and a scope inside, a colon and a port. A port
-//! may have zeros in front.
+//! may have zeros in front. It is not 0: nothing can be sent to that port, so a line with it is refused with 9.
 //!
 //! [`read_cluster`] gives the [`ClusterFile`] that a text spells. Refused is, in this order:
 //!

@@ -59,14 +59,18 @@ fn is_founders(word: &str) -> Option<bool>
 }
 
 impl NodeLine {
-    /// What a line as `founder 1 10.88.0.1:7000` or `node 4 10.88.0.4:7000` spells.
+    /// What a line as `founder 1 10.88.0.1:7000` or `node 4 10.88.0.4:7000` spells. A line whose port is 0 spells no
+    /// node: no datagram can be sent there.
     pub fn read(text: &str) -> Option<NodeLine>
         ensures { Reads SpellsNode text.now result }
     {
         let (word, rest) = cut(text, ' ')?;
         let is_founder = is_founders(word)?;
         let (id, address) = leading(rest, ' ')?;
-        let address = address.parse().ok()?;
+        let address: SocketAddr = address.parse().ok()?;
+        if address.port() == 0 {
+            return None;
+        }
         Some(NodeLine {
             id,
             is_founder,

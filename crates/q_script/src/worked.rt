@@ -68,6 +68,7 @@ pub fn worked_files()
     ensures node { (a : SocketAddr) → IsSocketText (codes "[::4]:7000") a → SpellsNode (codes "node 4 [::4]:7000") (record { id = 4; is_founder = false; address = a }) }
     ensures no_founder { (a : SocketAddr) → SpellsNode (codes "node 4 10.88.0.4:7000") (record { id = 4; is_founder = true; address = a }) → ⊥ }
     ensures empty_line { (n : Node) → SpellsNode (codes "") n → ⊥ }
+    ensures port_0 { (n : Node) → SpellsNode (codes "node 4 10.88.0.4:0") n → ⊥ }
 
     // A 1025th node is one too many, whatever its line.
     ensures too_many { (text : List ℕ) → IsFaulty 1025 text }

@@ -1,0 +1,2 @@
+-- The longest beginning of bytes that is a journal.
+pub mod Beginning
