@@ -10,7 +10,9 @@
 //! here, for records of 16 to 128 bytes, and sent with the notes that the verifier finds: one that is refused is not
 //! sent. What is sent and read are the bytes of requests and replies of `q_net`, version 2. A refused line prints
 //! `refused N Name`, with ` at U` where a program was refused here at a unit, and the script goes on. The answer of a
-//! query is asked for until it stands, 1,000 times and for 30 seconds at most.
+//! query is asked for until it stands, 1,000 times and for 30 seconds at most. A node with no place for one more client
+//! sends `61` in place of the reply to the first request and closes the connection, so that line prints
+//! `refused 61 RowFull`.
 //!
 //! Promised, of the bytes of a reader and two writers that are known:
 //!

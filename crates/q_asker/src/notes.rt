@@ -1,4 +1,4 @@
-//! What is told to a person of lines that were not done. No contract speaks of these words.
+//! What a person reads about lines that were not done. No contract speaks of these words.
 
 use crate::connection::ExchangeFault;
 use crate::replies::reason_of;
@@ -27,6 +27,8 @@ fn words_of(reason: Reason) -> &'static str {
         Reason::NotJoined => "The node has not joined yet: its status says when it has.",
         Reason::SessionsFull =>
             "The node has 64 stores and collects open. They end as enough nodes answer it.",
+        Reason::RowFull =>
+            "All places for clients of this node are taken. Try again later, or ask another node.",
         reason => of_event(reason),
     }
 }
@@ -108,18 +110,38 @@ pub fn note_line<N: Write>(alloc: Global, notes: &mut N, number: u64, text: &str
     }
 }
 
-/// Tells how the connection failed, and at which line.
-pub fn note_lost<N: Write>(notes: &mut N, number: u64, fault: ExchangeFault) {
-    let words = match fault {
-        ExchangeFault::Unsent => "the node took no request: the connection failed",
-        ExchangeFault::Unheard =>
-            "the node's reply was not read: the connection failed, or none came in 30 seconds",
-        ExchangeFault::NoReply => {
-            "the node ended the connection, or what it sent is no reply. It ends it where a store has not ended in ten \
-             seconds, which may still take effect."
+/// What is known of a request to which there is no reply, and what to do. Whether a store ends may be seen later.
+fn words_of_loss(fault: ExchangeFault, is_store: bool) -> &'static str {
+    match fault {
+        ExchangeFault::Unsent => {
+            "the request was not sent whole: the connection failed, or the node closed it. If all places for clients \
+             of the node are taken, try again later, or ask another node."
         }
-        ExchangeFault::OutOfMemory => "there was no memory for a request",
-    };
+        ExchangeFault::Unheard if is_store => {
+            "no reply was read: the connection failed, or none came in 30 seconds. The store may or may not end. \
+             `status` at the node's console says how many operations are open. An `ask` of a program that reads the \
+             value shows whether it is stored."
+        }
+        ExchangeFault::Unheard => {
+            "no reply was read: the connection failed, or none came in 30 seconds. The request was done whole, or not \
+             at all."
+        }
+        ExchangeFault::NoReply if is_store => {
+            "the node closed the connection, or what it sent is not a reply. It closes it if a store does not end in \
+             ten seconds. The store may or may not end later. `status` at the node's console says how many operations \
+             are open. An `ask` of a program that reads the value shows whether it is stored."
+        }
+        ExchangeFault::NoReply => {
+            "the node closed the connection, or what it sent is not a reply. The request was done whole, or not at all."
+        }
+        ExchangeFault::OutOfMemory => "there was no memory for the request.",
+    }
+}
+
+/// Writes how the connection failed, and at which line.
+pub fn note_lost<N: Write>(notes: &mut N, number: u64, line: &ClientLine, fault: ExchangeFault) {
+    let is_store = matches!(line, ClientLine::Store { .. });
+    let words = words_of_loss(fault, is_store);
     let _ = writeln!(notes, "line {number}: {words}");
 }
 

@@ -29,10 +29,11 @@ pub(crate) fn print_lost<O: Write>(out: &mut Counted<O>) -> ClientEnding
     }
 }
 
-/// How a run ends that does not come to its end, but to a line with this number.
+/// How a run ends that stops at this line, which has this number.
 fn halt<O: Write, N: Write>(
     halt: Halt,
     number: u64,
+    line: &ClientLine,
     out: &mut Counted<O>,
     notes: &mut N,
 ) -> ClientEnding
@@ -41,7 +42,7 @@ fn halt<O: Write, N: Write>(
 {
     match halt {
         Halt::Lost(fault) => {
-            note_lost(notes, number, fault);
+            note_lost(notes, number, line, fault);
             print_lost(out)
         }
         Halt::Unwritten => ClientEnding::Unwritten,
@@ -84,7 +85,7 @@ pub(crate) fn run_lines<T: Clock, R: Read, W: Write, O: Write, N: Write>(
                 note_line(alloc, notes, number, text, end);
                 clean = still_clean(clean, end);
             }
-            Err(halted) => return halt(halted, number, out, notes),
+            Err(halted) => return halt(halted, number, line, out, notes),
         }
     }
     ClientEnding::Done { clean }

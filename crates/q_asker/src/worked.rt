@@ -10,7 +10,7 @@ ghost use Rattle.q_told.specs.Refusal.{refusal_of};
 ghost use Rattle.q_told.specs.declared.refusal.Refusal.TheVariants as refusal;
 ghost use Rattle.q_asker.specs.Exchanges.{Exchanges};
 ghost use Rattle.q_asker.specs.Makes.{IsRegistration};
-ghost use Rattle.q_asker.specs.Replies.{CanBe, expected};
+ghost use Rattle.q_asker.specs.Replies.{CanBe, MayReply, expected};
 ghost use Rattle.q_asker.specs.Runs.{IsRefusedAlone, PrintsLost, status_of};
 ghost use Rattle.q_asker.specs.Script.{AreLines, IsFault, SpellsLine};
 ghost use Rattle.q_asker.specs.Steps.{AreOf, Exchanged, GaveUp, StepTells, Tells, all_done, heard_by, most_looks, sent_by};
@@ -40,6 +40,10 @@ pub fn worked()
     ensures answer { (text : List ℕ) → Tells (request.Answer 2) (reply.Answer 9 6) text → text ≡ codes "answer 2 9 6\n" }
     ensures no_answer { (text : List ℕ) → Tells (request.Answer 2) reply.Open text → text ≡ [] }
     ensures gave_up { (text : List ℕ) → StepTells GaveUp text → text ≡ codes "unanswered\n" }
+
+    // A node with no place for a client says so in place of any reply.
+    ensures no_place { MayReply (request.Register [] []) (reply.Refused 61) }
+    ensures no_place_line { Tells (request.StoreOf []) (reply.Refused 61) (codes "refused 61 RowFull\n") }
 
     // Steps: what they send and hear, and that an ask is done only with its looks.
     ensures sent { sent_by (Exchanged (request.StoreOf (7 ∷ [])) (reply.Refused 50)) ≡ 5 ∷ 1 ∷ 7 ∷ [] }

@@ -49,6 +49,7 @@ impl UdpPost {
     }
 
     /// The socket of the node with this id, at the address that the file has for it. It knows all nodes of the file.
+    /// The fault says whether the address is in use, or not one of this machine's.
     pub fn open<R: Net>(
         rt: &R,
         alloc: Global,
@@ -63,8 +64,9 @@ impl UdpPost {
         let Some(at) = address_of(&file.nodes, id) else {
             return Err(PostFault::NoSuchNode);
         };
-        let Ok(mut post) = UdpPost::bind(rt, alloc, at, file.number, patience) else {
-            return Err(PostFault::Failed);
+        let mut post = match UdpPost::bind(rt, alloc, at, file.number, patience) {
+            Ok(post) => post,
+            Err(error) => return Err(PostFault::of_kind(error.kind())),
         };
         post.meet(&file.nodes)?;
         Ok(post)

@@ -1,12 +1,13 @@
 //! Worked values of datagrams, and of where clients come in.
 
 ghost use Rattle.std.specs.Prelude.{◌≡◌, ◌≢◌, ℕ, List, [], ◌∷◌, ◌++◌, codes, true, false, Some, None};
+ghost use Rattle.std.specs.declared.io.ErrorKind.TheVariants as io;
 ghost use Rattle.std.specs.declared.net.socket_addr.SocketAddr.{SocketAddr};
 ghost use Rattle.reasons.specs.Table as table;
 ghost use Rattle.q_outside.specs.Peers.{HasMailbox};
 ghost use Rattle.q_script.specs.declared.node_line.NodeLine.{NodeLine as Node};
 ghost use Rattle.q_doors.specs.Datagrams.{IsAdmitted, IsReceived, OnMessage, address_of, framed, sender_in};
-ghost use Rattle.q_doors.specs.Faults.{reason};
+ghost use Rattle.q_doors.specs.Faults.{fault_of, reason};
 ghost use Rattle.q_doors.specs.Places.{IsPlace};
 ghost use Rattle.q_doors.specs.declared.fault.PostFault.TheVariants as fault;
 ghost use Rattle.q_doors.specs.declared.place.DoorAddress.TheVariants as place;
@@ -25,8 +26,15 @@ pub fn worked()
 
     // The numbers of refusals.
     ensures no_such_node { table.number (reason fault.NoSuchNode) ≡ 81 }
+    ensures in_use { table.number (reason fault.InUse) ≡ 86 }
+    ensures not_here { table.number (reason fault.NotHere) ≡ 86 }
     ensures failed { table.number (reason fault.Failed) ≡ 86 }
     ensures out_of_memory { table.number (reason fault.OutOfMemory) ≡ 99 }
+
+    // Why a socket has no address.
+    ensures address_in_use { fault_of io.AddrInUse ≡ fault.InUse }
+    ensures other_machine { fault_of io.AddrNotAvailable ≡ fault.NotHere }
+    ensures denied { fault_of io.PermissionDenied ≡ fault.Failed }
 {}
 
 /// What the definitions say of datagrams that are heard or are not, and of a place that is no address.
