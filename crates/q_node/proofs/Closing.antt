@@ -43,15 +43,17 @@ pub kept_beginning : (node : ℕ) (first file : Option (List ℕ)) (events : Res
 kept_beginning node first file (Ok n) h = beginning_of node first file n h
 kept_beginning node first file (Err f) h = h
 
-journal_of_ending : (node : ℕ) (first file : Option (List ℕ)) (events : Result ℕ Unrecorded) → IsKept node first file events
-    → IsJournal node first file (ending_of events)
-journal_of_ending node first file (Ok n) h = h
-journal_of_ending node first file (Err f) h = h
+journal_of_ending : (node : ℕ) (first given file : Option (List ℕ)) (events : Result ℕ Unrecorded) → IsKept node first file events
+    → IsJournal node first given file (ending_of events)
+journal_of_ending node first given file (Ok n) h = h
+journal_of_ending node first given file (Err f) h = h
 
-pub journal_ended : (node : ℕ) (first file b c : Option (List ℕ)) (events : Result ℕ Unrecorded) (e : NodeEnding) → Closes events b e c
-    → IsKept node first file events → IsJournal node first file e
-journal_ended node first file b c events e (inl h) k = subst (IsJournal node first file) (sym h.0) (journal_of_ending node first file events k)
-journal_ended node first file b c events e (inr h) k = subst (IsJournal node first file) (sym h.0) (inl (kept_beginning node first file events k))
+pub journal_ended : (node : ℕ) (first given file b c : Option (List ℕ)) (events : Result ℕ Unrecorded) (e : NodeEnding) → Closes events b e c
+    → IsKept node first file events → IsJournal node first given file e
+journal_ended node first given file b c events e (inl h) k =
+    subst (IsJournal node first given file) (sym h.0) (journal_of_ending node first given file events k)
+journal_ended node first given file b c events e (inr h) k =
+    subst (IsJournal node first given file) (sym h.0) (inl (kept_beginning node first file events k))
 
 -- ---- it began
 

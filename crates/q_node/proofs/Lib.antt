@@ -10,3 +10,4 @@ mod Told
 mod AsksAgain
 mod Waits
 mod Refused
+mod Ready

@@ -12,6 +12,8 @@ use Rattle.q_script.specs.File as cluster
 use Rattle.q_script.specs.File.{founder_ids}
 use Rattle.q_script.specs.declared.fault.ClusterFileFault.TheVariants.{Syntax}
 use Rattle.q_script.specs.declared.file.ClusterFile.{ClusterFile}
+use Rattle.q_journal.specs.Faults as journal
+use Rattle.q_told.specs.Refusal.{at_event}
 use Rattle.q_doors.specs.Datagrams.{address_of}
 use Rattle.q_node.specs.declared.fault.StartFault.{StartFault}
 use Rattle.q_node.specs.declared.fault.StartFault.TheVariants as fault
@@ -23,12 +25,13 @@ reason fault.NoSuchNode = reasons.NoSuchNode
 reason fault.BadCount = reasons.BadCount
 reason (fault.Book f) = f
 reason fault.TransportFailed = reasons.TransportFailed
-reason fault.NoJournal = reasons.FileFailed
+reason (fault.Journal f) = journal.reason f
 reason fault.OutOfMemory = reasons.OutOfMemory
 
--- the line of the file that is faulty is told
+-- the line of the file, or the event of the journal, that is faulty is printed
 abbrev pub place_of : StartFault → RefusalPlace
 place_of (fault.Cluster (Syntax line)) = Line line
+place_of (fault.Journal f) = at_event (journal.fault_event f)
 place_of f = Untold
 
 -- Why a node of this file with this id and so many runners does not begin: there are not 1 to 64 runners; the file

@@ -1,13 +1,18 @@
 -- How the run of a node ends: what it printed, what its journal's file holds, its exit status.
-use Rattle.std.specs.Prelude.{◌≡◌, ◌⊎◌, ℕ, List, [], ◌∷◌, ◌++◌, Option, Result, Ok, Err}
+use Rattle.std.specs.Prelude.{◌≡◌, ◌⊎◌, ℕ, List, [], ◌∷◌, ◌++◌, codes, length, Option, Some, None, option_map, Result, Ok, Err}
+use Rattle.std.specs.Fmt.{decimal}
 use Rattle.std.specs.List.{AllByRecursion, flat_map}
 use Rattle.std.specs.Io.KnownBytes.{Appends}
 use Rattle.q_told.specs.declared.refusal.RefusalPlace.TheVariants.{Untold}
 use Rattle.q_told.specs.Line.{line_of}
 use Rattle.q_told.specs.Printing.{journal_line}
 use Rattle.q_outside.specs.Counts.{one_more}
+use Rattle.q_book.specs.State.{BookState}
+use Rattle.q_kept.specs.State.{RecorderState}
+use Rattle.q_kept.specs.Recording.{IsRecorded}
 use Rattle.q_kept.specs.Faults as recorder
 use Rattle.q_kept.specs.declared.fault.Unrecorded.{Unrecorded}
+use Rattle.q_journal.specs.declared.start.Resumed.{Resumed}
 use Rattle.q_node.specs.Journal.{HoldsBeginning, HoldsJournal}
 use Rattle.q_node.specs.Console.{IsSaid, said_line}
 use Rattle.q_node.specs.Faults.{reason, place_of}
@@ -16,6 +21,28 @@ use Rattle.q_node.specs.declared.ending.NodeEnding.{NodeEnding}
 use Rattle.q_node.specs.declared.ending.NodeEnding.TheVariants as ending
 use Rattle.q_node.specs.declared.ending.NodeEnding.TheVariants.{Refused, Unwritten}
 use Rattle.q_node.specs.declared.fault.StartFault.{StartFault}
+
+-- ---- a node that comes back
+
+-- the line of a node that comes back: how many events its journal has, and how many bytes of a torn one were cut off
+abbrev pub resumed_line : ℕ → ℕ → List ℕ
+resumed_line events cut = codes "resumed " ++ (decimal events ++ (codes " events cut " ++ (decimal cut ++ codes " bytes\n")))
+
+-- what is printed before the node hears: that line, if it comes back, and where it hears
+abbrev pub front_of : Option Resumed → List ℕ → List ℕ
+front_of None greeting = greeting
+front_of (Some r) greeting = resumed_line (length r.book.desk.journal) r.cut ++ greeting
+
+-- what the file held before this node's journal began there: nothing, where the node comes back
+abbrev pub first_of : {A : Type 0} → Option A → Option (List ℕ) → Option (List ℕ)
+first_of None given = given
+first_of (Some r) given = option_map (λ (bytes : List ℕ). []) given
+
+-- a recorder with which a node may run: it has recorded nothing of any book; or it has recorded the book with which the
+-- node comes back
+abbrev pub IsReady : Option Resumed → RecorderState → Type 0
+IsReady None r = (b : BookState) → IsRecorded r.file b r
+IsReady (Some found) r = IsRecorded (option_map (λ (bytes : List ℕ). []) r.file) found.book r
 
 -- ---- what is printed
 
@@ -45,13 +72,13 @@ failures_after e n = n
 
 -- ---- the journal
 
--- the file holds the whole journal of a book of the node where it ran to its end, and else a beginning of it; and what
--- it held at first where the node did not begin
-abbrev pub IsJournal : ℕ → Option (List ℕ) → Option (List ℕ) → NodeEnding → Type 0
-IsJournal node first file (ending.Ended events) = HoldsJournal node first file events
-IsJournal node first file (ending.Stopped fault) = HoldsBeginning node first file
-IsJournal node first file (ending.Refused fault) = file ≡ first
-IsJournal node first file ending.Unwritten = HoldsBeginning node first file ⊎ (file ≡ first)
+-- the file holds the whole journal of a book of the node if it ran to its end, and else a beginning of it, after what
+-- the file held at first; if the node did not begin, the file holds what it held when it was given
+abbrev pub IsJournal : ℕ → Option (List ℕ) → Option (List ℕ) → Option (List ℕ) → NodeEnding → Type 0
+IsJournal node first given file (ending.Ended events) = HoldsJournal node first file events
+IsJournal node first given file (ending.Stopped fault) = HoldsBeginning node first file
+IsJournal node first given file (ending.Refused fault) = file ≡ given
+IsJournal node first given file ending.Unwritten = HoldsBeginning node first file ⊎ (file ≡ given)
 
 -- ---- the exit status
 

@@ -1,14 +1,25 @@
 -- How a conversation at the console goes.
-use Rattle.std.specs.Prelude.{◌≡◌, ℕ, List, Option, Some, None, Result, Ok, Err}
+use Rattle.std.specs.Prelude.{◌≡◌, ℕ, List, [], ◌++◌, Option, Some, None, Result, Ok, Err}
 use Rattle.std.specs.Io.KnownBytes.{Appends}
 use Rattle.q_outside.specs.Counts.{one_more}
 use Rattle.q_node.specs.Console.{Converses, IsSaidTo}
-use Rattle.q_node.specs.Runs.{IsFront}
+use Rattle.q_node.specs.Runs.{IsFront, resumed_line}
 use Rattle.q_node.specs.declared.console.Command.{Command}
 use Rattle.q_node.specs.declared.console.Command.TheVariants as command
 use Rattle.q_node.specs.declared.console.Said.{Said}
+use Rattle.q_node.specs.declared.front.Front.{Front}
+use Rattle.q_node.specs.declared.front.Resumption.{Resumption}
 use Rattle.q_node.specs.declared.talk_end.Talk.{Talk}
 use Rattle.q_node.specs.declared.talk_end.Talk.TheVariants as talk
+
+-- the line of a node that comes back; nothing of one that begins
+abbrev pub resumption_text : Option Resumption → List ℕ
+resumption_text None = []
+resumption_text (Some r) = resumed_line r.events r.cut
+
+-- what is printed before the console's lines are obeyed, without the feed at its end
+abbrev pub front_text : Front → List ℕ
+front_text f = resumption_text f.resumption ++ f.greeting.now
 
 -- something is said to each command but that to end
 abbrev pub Obeys : ℕ → Command → Option Said → Type 0

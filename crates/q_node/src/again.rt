@@ -25,12 +25,13 @@ fn look_once<R: Wait, P, J: JournalFile, S: Start>(
     watch: &mut Watch,
 ) -> ToSend {
     let mut own = process.own.lock(process.rt);
+    let is_altered = own.look();
     let waiting = if own.is_behind() {
         own.settle(alloc)
     } else {
         None
     };
-    watch.look(own.status(), own.ids(), own.is_mute());
+    watch.look(own.status(), own.ids(), own.is_mute(), is_altered);
     ToSend {
         waiting,
         again: own.again(alloc, process.nodes),
@@ -54,6 +55,6 @@ where
         let ToSend { waiting, again } = look_once(process, alloc, &mut watch);
         process.send_settled(waiting);
         process.send(again.as_slice());
-        watch.tell(process.rt);
+        watch.report(process.rt);
     }
 }

@@ -10,6 +10,7 @@ use q_desk::{MOST_EVENTS, MOST_QUERIES};
 use q_outside::{Counted, Piece, TransportFailed};
 use q_told::{RefusalPlace, put_line};
 use reasons::Reason;
+use std::alloc::Global;
 use std::io::Write;
 
 /// What a line of the console asks for.
@@ -60,8 +61,8 @@ fn truth(value: bool) -> &'static str
     }
 }
 
-/// Writes the line of a status.
-fn put_status<W: Write>(out: &mut Counted<W>, status: Status) -> Result<(), TransportFailed>
+/// Writes the line of a status, piece by piece.
+fn put_pieces<W: Write>(out: &mut Counted<W>, status: Status) -> Result<(), TransportFailed>
     ensures written { OnOk result (Appends
         (W.contents out.old.inner) (W.contents out.new.inner) (status_line status)) }
     ensures failed { OnErr result ((part : List ℕ) × Appends
@@ -87,8 +88,31 @@ fn put_status<W: Write>(out: &mut Counted<W>, status: Status) -> Result<(), Tran
     ])
 }
 
+/// Writes the line of a status in one write, so that nobody reads half of it. Where memory is short, in pieces.
+fn put_status<W: Write>(
+    alloc: Global,
+    out: &mut Counted<W>,
+    status: Status,
+) -> Result<(), TransportFailed>
+    ensures written { OnOk result (Appends
+        (W.contents out.old.inner) (W.contents out.new.inner) (status_line status)) }
+    ensures failed { OnErr result ((part : List ℕ) × Appends
+        (W.contents out.old.inner) (W.contents out.new.inner) part) }
+    ensures counted { out.new.failures ≡ count_after result out.old.failures }
+{
+    let mut line = Counted::new(Vec::new(alloc));
+    match put_pieces(&mut line, status) {
+        Ok(()) => out.put(line.inner.as_slice()),
+        Err(_) => put_pieces(out, status),
+    }
+}
+
 /// Writes what the node says to a command. Refused with 86 where a write fails; a part may have been written before.
-pub fn put_said<W: Write>(out: &mut Counted<W>, said: Said) -> Result<(), TransportFailed>
+pub fn put_said<W: Write>(
+    alloc: Global,
+    out: &mut Counted<W>,
+    said: Said,
+) -> Result<(), TransportFailed>
     ensures written { OnOk result (Appends
         (W.contents out.old.inner) (W.contents out.new.inner) (said_line said)) }
     ensures failed { OnErr result ((part : List ℕ) × Appends
@@ -96,7 +120,7 @@ pub fn put_said<W: Write>(out: &mut Counted<W>, said: Said) -> Result<(), Transp
     ensures counted { out.new.failures ≡ count_after result out.old.failures }
 {
     match said {
-        Said::Status(status) => put_status(out, status),
+        Said::Status(status) => put_status(alloc, out, status),
         Said::Done => out.put(b"ok\n"),
         Said::Refused(reason) => put_line(out, reason, RefusalPlace::Untold),
     }

@@ -83,7 +83,7 @@ fn print_end<W: Write>(events: Result<usize, Unrecorded>, out: &mut Counted<W>) 
 /// Prints the last line of a node whose threads were not started, or whose journal could not be begun.
 fn close_unstarted<W: Write>(events: Result<usize, Unrecorded>, out: &mut Counted<W>) -> NodeEnding
     ensures written { (node : ℕ) (greeting : List ℕ) → IsWritten node greeting result (W.contents out.old.inner) (W.contents out.new.inner) }
-    ensures journal { (node : ℕ) (first file : Option (List ℕ)) → IsKept node first file events → IsJournal node first file result }
+    ensures journal { (node : ℕ) (first given file : Option (List ℕ)) → IsKept node first file events → IsJournal node first given file result }
     ensures begun { (fault : Fault) → result ≡ Refused fault → ⊥ }
     ensures counted { out.new.failures ≡ failures_after result out.old.failures }
 {
@@ -98,7 +98,7 @@ pub fn close<W: Write>(
     out: &mut Counted<W>,
 ) -> NodeEnding
     ensures written { (node : ℕ) (greeting : List ℕ) (before : Option (List ℕ)) → Talks node greeting before talk (W.contents out.old.inner) → IsWritten node greeting result before (W.contents out.new.inner) }
-    ensures journal { (node : ℕ) (first file : Option (List ℕ)) → IsKept node first file events → IsJournal node first file result }
+    ensures journal { (node : ℕ) (first given file : Option (List ℕ)) → IsKept node first file events → IsJournal node first given file result }
     ensures begun { (fault : Fault) → result ≡ Refused fault → ⊥ }
     ensures counted { (n : ℕ) → out.old.failures ≡ talk_count talk n → out.new.failures ≡ failures_after result n }
 {

@@ -5,6 +5,7 @@ ghost use Rattle.q_node.specs.Faults.{place_of, reason};
 ghost use Rattle.q_node.specs.declared.fault.StartFault.TheVariants.{OutOfMemory};
 
 use q_book::BookFault;
+use q_journal::JournalFault;
 use q_outside::FileFault;
 use q_script::ClusterFileFault;
 use q_told::RefusalPlace;
@@ -26,8 +27,8 @@ pub enum StartFault {
     Book(BookFault),
     /// 86: the node's socket or its door cannot be opened.
     TransportFailed,
-    /// 87: the journal's file is there already, or cannot be made.
-    NoJournal,
+    /// 87, 49, 57, 58 or 99: the node neither begins nor comes back with its journal's file.
+    Journal(JournalFault),
     /// 99: memory ran out.
     OutOfMemory,
 }
@@ -38,7 +39,8 @@ impl StartFault {
         ensures { result ≡ reason self }
     {
         match self {
-            StartFault::FileFailed | StartFault::NoJournal => Reason::FileFailed,
+            StartFault::FileFailed => Reason::FileFailed,
+            StartFault::Journal(fault) => fault.reason(),
             StartFault::Cluster(fault) => fault.reason(),
             StartFault::NoSuchNode => Reason::NoSuchNode,
             StartFault::BadCount => Reason::BadCount,
@@ -48,12 +50,16 @@ impl StartFault {
         }
     }
 
-    /// The line of the file that is faulty, where the fault is one of a line.
+    /// The line of the file of the cluster, or the event of the journal, that is faulty, if one is.
     pub fn place(self) -> RefusalPlace
         ensures { result ≡ place_of self }
     {
         match self {
             StartFault::Cluster(ClusterFileFault::Syntax { line }) => RefusalPlace::Line(line),
+            StartFault::Journal(fault) => match fault.event() {
+                Some(event) => RefusalPlace::Event(event),
+                None => RefusalPlace::Untold,
+            },
             _ => RefusalPlace::Untold,
         }
     }
@@ -64,6 +70,17 @@ impl From<AllocError> for StartFault {
 
     fn from(_: AllocError) -> StartFault {
         StartFault::OutOfMemory
+    }
+}
+
+impl From<JournalFault> for StartFault {
+    ghost use Rattle.std.specs.Prelude.{◌≡◌};
+    ghost use Rattle.q_node.specs.declared.fault.StartFault.TheVariants.{Journal};
+
+    ghost from_gives = { λ f e. e ≡ Journal f };
+
+    fn from(fault: JournalFault) -> StartFault {
+        StartFault::Journal(fault)
     }
 }
 

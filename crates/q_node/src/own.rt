@@ -1,6 +1,6 @@
 //! What the one lock of a node keeps, and what is done under it.
 
-ghost use Rattle.std.specs.Prelude.{◌≡◌, ◌↔◌, ◌==◌, ℕ, List, [], length, map, Option, option_map, is_some, vec_items, true, false, not, IsTrue};
+ghost use Rattle.std.specs.Prelude.{◌≡◌, ◌↔◌, ◌==◌, ℕ, List, [], length, map, Option, option_map, is_some, vec_items, true, false, not, if◌then◌else◌, IsTrue};
 ghost use Rattle.std.specs.FinMap as fin;
 ghost use Rattle.std.specs.List.{AllByRecursion};
 ghost use Rattle.sc_msg.specs.declared.message.Message.{Message as Sent};
@@ -41,7 +41,7 @@ use std::alloc::Global;
 use std::marker::{Model, PhantomData};
 
 /// What the one lock of a node keeps: its book, which is its own, the recorder of the journal, and what goes again. The
-/// file holds, behind what it held at first, what the recorder counts of the book's journal. Contracts see it as the
+/// file holds, after what it held at first, what the recorder counts of the book's journal. Contracts see it as the
 /// record of what is kept.
 #[derive(Drop)]
 pub struct Own<'b, J: JournalFile, S: Start> {
@@ -67,7 +67,7 @@ impl<'b, J: JournalFile, S: Start> Model for Own<'b, J, S> {
     ghost invariant = { λ o. IsOwn S.id S.first o.kept.held.book o.kept.recorder };
 }
 
-/// What came of a datagram.
+/// The result of a datagram.
 #[derive(Drop)]
 pub struct Heard {
     /// What is to be sent; none where the journal is not written.
@@ -76,7 +76,7 @@ pub struct Heard {
     pub has_ended: bool,
 }
 
-/// What came of a request.
+/// The result of a request.
 #[derive(Drop)]
 pub struct Answered {
     /// What the book replies.
@@ -85,7 +85,7 @@ pub struct Answered {
     pub letters: Option<Vec<Letter>>,
 }
 
-/// What came of the command to leave.
+/// The result of the command to leave.
 #[derive(Drop)]
 pub struct Left {
     /// What is said at the console.
@@ -260,6 +260,15 @@ impl<'b, J: JournalFile, S: Start> Own<'b, J, S> {
         ensures { Settles self.old (option_map vec_items result) self.new }
     {
         settle_kept(alloc, &mut self.kept)
+    }
+
+    /// Looks whether the journal's file is still as the node left it; if not, the node is mute from now on. Whether this
+    /// look found that.
+    pub fn look(&mut self) -> bool
+        ensures looked { self.new ≡ (if result then record self.old { recorder = record self.old.recorder { broken = true } } else self.old) }
+        ensures once { self.old.recorder.broken ≡ true → result ≡ false }
+    {
+        self.kept.look()
     }
 
     /// Takes a message's bytes, and settles.

@@ -4,6 +4,7 @@ ghost use Rattle.std.specs.Prelude.{◌≡◌, IfSome, IsTrue};
 ghost use Rattle.q_doors.specs.Books.{HasEnded};
 ghost use Rattle.q_doors.specs.Clients.{IsReplyOf};
 
+use crate::entrance::Entrance;
 use crate::own::Own;
 use crate::start::Start;
 use q_doors::Post;
@@ -11,12 +12,12 @@ use q_held::Unsent;
 use q_kept::{JournalFile, Letter};
 use q_net::{Reply, Request};
 use q_outside::TransportFault;
-use std::alloc::Global;
+use std::alloc::{AllocError, Global};
 use std::sync::atomic::{AtomicBool, AtomicU64, Ordering};
 use std::sync::{Condvar, Mutex, Wait};
 use std::time::Duration;
 
-/// For how many milliseconds a thread sleeps at most that waits for something.
+/// The most milliseconds that a waiting thread sleeps before it looks again.
 pub(crate) const NAP: u64 = 100;
 
 /// What the threads of a node share.
@@ -36,17 +37,47 @@ pub(crate) struct Process<'a, 'b, R, P, J: JournalFile, S: Start> {
     ready: AtomicBool,
     /// The threads are to end.
     over: AtomicBool,
-    /// No thread waits at the door.
-    pub(crate) shut: AtomicBool,
     /// How many datagrams came from strangers.
     strangers: AtomicU64,
-    /// How many clients are served.
-    pub(crate) clients: AtomicU64,
+    /// Where clients come in.
+    pub(crate) clients: Entrance,
+    /// Where the console's lines come in, if they come over connections.
+    pub(crate) console: Entrance,
+}
+
+/// The entrances of a node: for clients, and for its console.
+#[derive(Drop)]
+pub(crate) struct Entrances {
+    pub(crate) clients: Entrance,
+    pub(crate) console: Entrance,
+}
+
+/// How many clients are served at once.
+const MOST_CLIENTS: usize = 64;
+
+/// How many connections to the console are served at once.
+const MOST_CONSOLES: usize = 8;
+
+impl Entrances {
+    /// Nobody came in yet.
+    pub(crate) fn new(alloc: Global) -> Result<Entrances, AllocError> {
+        Ok(Entrances {
+            clients: Entrance::new(alloc, MOST_CLIENTS)?,
+            console: Entrance::new(alloc, MOST_CONSOLES)?,
+        })
+    }
 }
 
 impl<'a, 'b, R, P, J: JournalFile, S: Start> Process<'a, 'b, R, P, J, S> {
     /// Of a node that was just begun.
-    pub(crate) fn new(rt: &'a R, post: &'a P, nodes: &'a [u64], own: Own<'b, J, S>) -> Self {
+    pub(crate) fn new(
+        rt: &'a R,
+        post: &'a P,
+        nodes: &'a [u64],
+        own: Own<'b, J, S>,
+        entrances: Entrances,
+    ) -> Self {
+        let Entrances { clients, console } = entrances;
         Process {
             rt,
             post,
@@ -55,9 +86,9 @@ impl<'a, 'b, R, P, J: JournalFile, S: Start> Process<'a, 'b, R, P, J, S> {
             bell: Condvar::new(),
             ready: AtomicBool::new(false),
             over: AtomicBool::new(false),
-            shut: AtomicBool::new(true),
             strangers: AtomicU64::new(0),
-            clients: AtomicU64::new(0),
+            clients,
+            console,
         }
     }
 
@@ -148,7 +179,7 @@ impl<R: Wait, P: Post, J: JournalFile, S: Start> Process<'_, '_, R, P, J, S> {
         }
     }
 
-    /// Takes a message's bytes, and sends what comes of it.
+    /// Takes a message's bytes, and sends the messages that result.
     pub(crate) fn hear(&self, alloc: Global, bytes: &[u8]) {
         let heard = self.own.lock(self.rt).hear(alloc, bytes);
         self.send_settled(heard.letters);

@@ -4,26 +4,29 @@ ghost use Rattle.std.specs.Prelude.{◌≡◌, ◌++◌, ◌∷◌, [], ℕ, Lis
 ghost use Rattle.std.specs.Io.KnownBytes.{Appends};
 ghost use Rattle.q_outside.specs.Counts.{count_after};
 ghost use Rattle.q_node.specs.Console.{IsSaid, IsSaidTo};
-ghost use Rattle.q_node.specs.Talks.{Greets, Obeys, Talks, Tells, talk_count};
+ghost use Rattle.q_node.specs.Talks.{Greets, Obeys, Talks, Tells, front_text, resumption_text, talk_count};
 
 use crate::console::{Command, Said, put_said};
+use crate::front::{Front, Resumption};
+use crate::peer::{CONSOLE_SILENCE, Connection, Peer};
 use crate::process::Process;
 use crate::start::Start;
 use crate::talk_end::Talk;
-use q_doors::Post;
+use q_doors::{Post, Stream};
 use q_kept::JournalFile;
 use q_outside::{Counted, Piece, TransportFailed};
 use reasons::Reason;
 use std::alloc::Global;
-use std::io::{BufRead, Eprint, Write};
+use std::io::{BufRead, BufReader, Eprint, Write};
 use std::sync::Wait;
+use std::time::Clock;
 
-/// The command of the next line; at the end of the input, and where that fails, that to end.
-fn next_command<C: BufRead>(alloc: Global, console: &mut C) -> Command {
+/// The command of the next line. None at the end of the input, and where that fails: the console is closed then.
+fn next_command<C: BufRead>(alloc: Global, console: &mut C) -> Option<Command> {
     let mut line = Vec::new(alloc);
     match console.read_until(b'\n', &mut line) {
-        Ok(0) | Err(_) => Command::End,
-        Ok(_) => Command::of(line.strip_suffix(b"\n").unwrap_or(line.as_slice())),
+        Ok(0) | Err(_) => None,
+        Ok(_) => Some(Command::of(line.strip_suffix(b"\n").unwrap_or(line.as_slice()))),
     }
 }
 
@@ -39,12 +42,30 @@ fn leave<R: Wait, P: Post, J: JournalFile, S: Start>(
     left.said
 }
 
-/// Tells on the standard error which lines there are.
+/// Says on the standard error which lines there are.
 fn note_lines<R: Eprint>(rt: &R) {
-    let _ = eprintln!(rt; "A line of the console is 'status', 'leave' or 'end'.");
+    let _ = eprintln!(rt;
+        "A line of the console is 'status', 'leave' or 'end', with no space before or after it."
+    );
 }
 
-/// Does what a command asks, and says what came of it; nothing to the command to end. A line that is none is explained.
+/// Says on the standard error what to do where a leave was refused.
+fn note_leave<R: Eprint>(rt: &R, said: Said) {
+    match said {
+        Said::Refused(Reason::BookFull) => {
+            let _ = eprintln!(rt;
+                "The journal is full, so the node cannot leave. End it: the others count it as crashed."
+            );
+        }
+        Said::Refused(Reason::Gone) => {
+            let _ = eprintln!(rt; "The node has left already. End it.");
+        }
+        _ => {}
+    }
+}
+
+/// Does what a command asks, and says what came of it. The command to end has the node's threads end, and nothing is
+/// said to it. An unknown line is explained.
 fn obey<R: Wait + Eprint, P: Post, J: JournalFile, S: Start>(
     process: &Process<'_, '_, R, P, J, S>,
     alloc: Global,
@@ -54,9 +75,16 @@ fn obey<R: Wait + Eprint, P: Post, J: JournalFile, S: Start>(
     ensures said { IfSome result (IsSaid S.id) }
 {
     match command {
-        Command::End => None,
+        Command::End => {
+            process.end();
+            None
+        }
         Command::Status => Some(Said::Status(process.own.lock(process.rt).status())),
-        Command::Leave => Some(leave(process, alloc)),
+        Command::Leave => {
+            let said = leave(process, alloc);
+            note_leave(process.rt, said);
+            Some(said)
+        }
         Command::Unknown => {
             note_lines(process.rt);
             Some(Said::Refused(Reason::Syntax))
@@ -64,8 +92,8 @@ fn obey<R: Wait + Eprint, P: Post, J: JournalFile, S: Start>(
     }
 }
 
-/// Obeys the lines of the console until one of them, or their end, ends the node, and writes what is said to each.
-/// Refused with 86 where a write fails.
+/// Obeys the lines of the console until one of them ends the node or the console is closed, and writes what is said to
+/// each. Refused with 86 where a write fails.
 fn converse<R: Wait + Eprint, P: Post, J: JournalFile, S: Start, C: BufRead, W: Write>(
     process: &Process<'_, '_, R, P, J, S>,
     alloc: Global,
@@ -76,9 +104,11 @@ fn converse<R: Wait + Eprint, P: Post, J: JournalFile, S: Start, C: BufRead, W: 
     ensures counted { out.new.failures ≡ count_after result out.old.failures }
 {
     for _ in process.rt.forever() {
-        let command = next_command(alloc, console);
+        let Some(command) = next_command(alloc, console) else {
+            return Ok(());
+        };
         match obey(process, alloc, command) {
-            Some(said) => match put_said(out, said) {
+            Some(said) => match put_said(alloc, out, said) {
                 Ok(()) => {}
                 Err(fault) => return Err(fault),
             },
@@ -88,6 +118,28 @@ fn converse<R: Wait + Eprint, P: Post, J: JournalFile, S: Start, C: BufRead, W: 
     unreachable!()
 }
 
+/// Obeys the lines that come over a connection to the console, which has this seat, and writes what is said to each
+/// over it.
+pub(crate) fn serve_console<C, R, P, J, S>(
+    process: &Process<'_, '_, R, P, J, S>,
+    alloc: Global,
+    stream: &C,
+    place: usize,
+)
+where
+    C: Stream,
+    R: Wait + Clock + Eprint,
+    P: Post,
+    J: JournalFile,
+    S: Start,
+{
+    let connection = Connection::new(&process.console, stream, place, CONSOLE_SILENCE);
+    let mut out = Counted::new(Peer::new(process, &connection));
+    if let Ok(mut lines) = BufReader::new(alloc, Peer::new(process, &connection)) {
+        let _ = converse(process, alloc, &mut lines, &mut out);
+    }
+}
+
 /// Obeys the lines of the console in silence, since the output failed.
 fn obey_silently<R: Wait + Eprint, P: Post, J: JournalFile, S: Start, C: BufRead>(
     process: &Process<'_, '_, R, P, J, S>,
@@ -95,10 +147,23 @@ fn obey_silently<R: Wait + Eprint, P: Post, J: JournalFile, S: Start, C: BufRead
     console: &mut C,
 ) {
     for _ in process.rt.forever() {
-        let command = next_command(alloc, console);
+        let Some(command) = next_command(alloc, console) else {
+            break;
+        };
         if obey(process, alloc, command).is_none() {
             break;
         }
+    }
+}
+
+/// Waits until the threads are to end.
+fn await_end<R: Wait, P: Post, J: JournalFile, S: Start>(process: &Process<'_, '_, R, P, J, S>) {
+    for _ in process.rt.forever() {
+        let rung = process.rings();
+        if process.is_over() {
+            break;
+        }
+        process.await_ring(rung);
     }
 }
 
@@ -119,50 +184,74 @@ fn await_threads<R: Wait, P: Post, J: JournalFile, S: Start>(
     unreachable!()
 }
 
-/// Writes a line.
-fn put_greeting<W: Write>(greeting: &str, out: &mut Counted<W>) -> Result<(), TransportFailed>
-    ensures written { OnOk result (Appends (W.contents out.old.inner) (W.contents out.new.inner) (greeting.now ++ 10 ∷ [])) }
+/// Writes how the node comes back, if it does.
+fn put_resumption<W: Write>(
+    resumption: Option<Resumption>,
+    out: &mut Counted<W>,
+) -> Result<(), TransportFailed>
+    ensures written { OnOk result (Appends (W.contents out.old.inner) (W.contents out.new.inner) (resumption_text resumption)) }
     ensures failed { OnErr result ((part : List ℕ) × Appends (W.contents out.old.inner) (W.contents out.new.inner) part) }
     ensures counted { out.new.failures ≡ count_after result out.old.failures }
 {
-    out.put_all(&[Piece::Words(greeting), Piece::Words("\n")])
+    match resumption {
+        Some(Resumption { events, cut }) => out.put_all(&[
+            Piece::Words("resumed "),
+            Piece::Number(events as u64),
+            Piece::Words(" events cut "),
+            Piece::Number(cut as u64),
+            Piece::Words(" bytes\n"),
+        ]),
+        None => out.put(b""),
+    }
+}
+
+/// Writes how the node comes back, if it does, and where it hears.
+fn put_front<W: Write>(front: Front<'_>, out: &mut Counted<W>) -> Result<(), TransportFailed>
+    ensures written { OnOk result (Appends (W.contents out.old.inner) (W.contents out.new.inner) (front_text front.entry ++ 10 ∷ [])) }
+    ensures failed { OnErr result ((part : List ℕ) × Appends (W.contents out.old.inner) (W.contents out.new.inner) part) }
+    ensures counted { out.new.failures ≡ count_after result out.old.failures }
+{
+    put_resumption(front.resumption, out)?;
+    out.put_all(&[Piece::Words(front.greeting), Piece::Words("\n")])
 }
 
 /// Writes where the node hears, and then what is said at the console. Refused with 86 where a write fails.
 fn greet<R: Wait + Eprint, P: Post, J: JournalFile, S: Start, C: BufRead, W: Write>(
     process: &Process<'_, '_, R, P, J, S>,
     alloc: Global,
-    greeting: &str,
+    front: Front<'_>,
     console: &mut C,
     out: &mut Counted<W>,
 ) -> Result<(), TransportFailed>
-    ensures said { Greets S.id greeting.now (W.contents out.old.inner) result (W.contents out.new.inner) }
+    ensures said { Greets S.id (front_text front.entry) (W.contents out.old.inner) result (W.contents out.new.inner) }
     ensures counted { out.new.failures ≡ count_after result out.old.failures }
 {
-    put_greeting(greeting, out)?;
+    put_front(front, out)?;
     converse(process, alloc, console, out)
 }
 
-/// Writes where the node hears once all threads run, and obeys the lines of the console. Where the output fails, the
-/// lines are obeyed in silence.
+/// Writes where the node hears once all threads run, and obeys the lines of the console until the node ends; when the
+/// console is closed, the node goes on. Where the output fails, the lines are obeyed in silence.
 pub(crate) fn hold_talk<R: Wait + Eprint, P: Post, J: JournalFile, S: Start, C: BufRead, W: Write>(
     process: &Process<'_, '_, R, P, J, S>,
     alloc: Global,
-    greeting: &str,
+    front: Front<'_>,
     console: &mut C,
     out: &mut Counted<W>,
 ) -> Talk
-    ensures said { Talks S.id greeting.now (W.contents out.old.inner) result (W.contents out.new.inner) }
+    ensures said { Talks S.id (front_text front.entry) (W.contents out.old.inner) result (W.contents out.new.inner) }
     ensures counted { out.new.failures ≡ talk_count result out.old.failures }
 {
     if !await_threads(process) {
         return Talk::Unstarted;
     }
-    match greet(process, alloc, greeting, console, out) {
+    let talk = match greet(process, alloc, front, console, out) {
         Ok(()) => Talk::Ended,
         Err(_) => {
             obey_silently(process, alloc, console);
             Talk::Unwritten
         }
-    }
+    };
+    await_end(process);
+    talk
 }

@@ -4,6 +4,7 @@ ghost use Rattle.std.specs.Prelude.{◌≡◌, All};
 ghost use Rattle.q_board.specs.BoardId.{board_id};
 
 use crate::again::look_again;
+use crate::doorway::NodeDoors;
 use crate::hearing::{hear_all, new_buffer};
 use crate::job::AfterJob;
 use crate::process::Process;
@@ -14,7 +15,6 @@ use q_kept::JournalFile;
 use std::alloc::Global;
 use std::io::Eprint;
 use std::sync::Wait;
-use std::sync::atomic::Ordering;
 use std::thread;
 use std::thread::{Scope, Threads};
 use std::time::Clock;
@@ -39,22 +39,8 @@ where
         scope.spawn(move || look_again(self, alloc)).is_ok()
     }
 
-    /// Starts the thread at the door. Whether it runs.
-    fn start_door<'s, E, D>(&'s self, scope: &Scope<'s, E>, alloc: Global, door: &'s D) -> bool
-    where
-        D: Door + Sync,
-        D::Stream: Send + Drop,
-    {
-        self.shut.store(false, Ordering::SeqCst);
-        let is_there = scope.spawn(move || self.keep_door(alloc, door)).is_ok();
-        if !is_there {
-            self.shut.store(true, Ordering::SeqCst);
-        }
-        is_there
-    }
-
     /// Starts the other threads, and hears in this one until the threads are to end.
-    fn tend<D>(&self, alloc: Global, door: &D)
+    fn tend<D>(&self, alloc: Global, doors: &NodeDoors<'_, D>)
     where
         D: Door + Sync,
         D::Stream: Send + Drop,
@@ -64,7 +50,7 @@ where
         };
         let buffer = buffer.as_mut_slice();
         thread::scope(thread::scope_env(), self.rt, |scope| {
-            if self.start_again(scope, alloc) && self.start_door(scope, alloc, door) {
+            if self.start_again(scope, alloc) && self.start_doors(scope, alloc, doors) {
                 self.begin();
                 hear_all(self, alloc, buffer);
             }
@@ -73,7 +59,7 @@ where
     }
 
     /// Runs all threads of a node until they are to end. Where one cannot be started they end at once.
-    pub(crate) fn run_threads<D>(&self, alloc: Global, door: &D, crew: Crew<'_>)
+    pub(crate) fn run_threads<D>(&self, alloc: Global, doors: &NodeDoors<'_, D>, crew: Crew<'_>)
     where
         D: Door + Sync,
         D::Stream: Send + Drop,
@@ -83,7 +69,7 @@ where
             alloc,
         };
         let Crew { board, seats } = crew;
-        let work = move || self.tend(alloc, door);
+        let work = move || self.tend(alloc, doors);
         let _ = with_runners(self.rt, alloc, board, seats, &after, work);
         self.end();
     }

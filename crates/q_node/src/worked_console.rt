@@ -14,7 +14,10 @@ ghost use Rattle.q_node.specs.Console as console;
 ghost use Rattle.q_node.specs.Console.{IsSaidTo, IsSaidToLeave, command_of, said_line, status_line};
 ghost use Rattle.q_node.specs.Faults.{IsUnbegun, place_of, reason};
 ghost use Rattle.q_node.specs.Journal.{HoldsJournal, IsKept};
-ghost use Rattle.q_node.specs.Runs.{EndsRefused, IsJournal, IsWritten, status_of};
+ghost use Rattle.q_journal.specs.declared.start.Resumed.{Resumed};
+ghost use Rattle.q_replay.specs.declared.fault.ReplayFault.TheVariants as replay_fault;
+ghost use Rattle.q_journal.specs.declared.fault.JournalFault.TheVariants as journal_fault;
+ghost use Rattle.q_node.specs.Runs.{EndsRefused, IsJournal, IsWritten, first_of, front_of, status_of};
 ghost use Rattle.q_told.specs.Printing.{journal_line};
 ghost use Rattle.q_node.specs.declared.console.Command.TheVariants as command;
 ghost use Rattle.q_node.specs.declared.console.Said.{Said as Told};
@@ -52,7 +55,7 @@ pub fn worked()
 pub fn worked_endings()
     ensures ended { (events : ℕ) → status_of (ending.Ended events) ≡ 0 }
     ensures mute { status_of (ending.Stopped unrecorded.Failed) ≡ 1 }
-    ensures whole { (node : ℕ) (first file : Option (List ℕ)) (events : ℕ) → IsJournal node first file (ending.Ended events) → HoldsJournal node first file events }
+    ensures whole { (node : ℕ) (first given file : Option (List ℕ)) (events : ℕ) → IsJournal node first given file (ending.Ended events) → HoldsJournal node first file events }
 
     // The whole journal is not told of a file in which it does not stand, nor as one of another length.
     ensures unwritten { (node events : ℕ) → HoldsJournal node (Some []) (Some []) events → ⊥ }
@@ -65,7 +68,14 @@ pub fn worked_endings()
     ensures not_greeted { (node : ℕ) (greeting : List ℕ)
         → IsWritten node greeting (ending.Ended 3) (Some []) (Some (journal_line 3)) → ⊥ }
     ensures not_told { (node : ℕ) (greeting : List ℕ) → IsWritten node greeting (ending.Ended 3) (Some []) (Some []) → ⊥ }
-    ensures untouched { (node : ℕ) (first file : Option (List ℕ)) → IsJournal node first file (ending.Refused fault.NoSuchNode) → file ≡ first }
+    ensures untouched { (node : ℕ) (first given file : Option (List ℕ)) → IsJournal node first given file (ending.Refused fault.NoSuchNode) → file ≡ given }
+
+    // A node that comes back says so first, with the number of its events and of the bytes that were cut; and its journal
+    // is all that its file held, so nothing was there before it.
+    ensures resumed { (r : Resumed) → length r.book.desk.journal ≡ 9 → r.cut ≡ 3 → front_of (Some r) (codes "node 1") ≡ codes "resumed 9 events cut 3 bytes\nnode 1" }
+    ensures begins { front_of None (codes "node 1") ≡ codes "node 1" }
+    ensures all_of_it { (r : Resumed) → first_of (Some r) (Some (7 ∷ [])) ≡ Some [] }
+    ensures after_it { first_of {A = Resumed} None (Some (7 ∷ [])) ≡ Some (7 ∷ []) }
     ensures alone { (node : ℕ) (greeting after : List ℕ) → IsWritten node greeting (ending.Refused fault.NoSuchNode) (Some []) (Some after) → after ≡ codes "refused 81 NoSuchNode\n" }
     ensures line { (node : ℕ) (greeting after : List ℕ) → IsWritten node greeting (ending.Refused (fault.Cluster (cluster_fault.Syntax 3))) (Some []) (Some after) → after ≡ codes "refused 9 Syntax line 3\n" }
 {}
@@ -75,7 +85,9 @@ pub fn worked_faults()
     ensures no_such_node { table.number (reason fault.NoSuchNode) ≡ 81 }
     ensures runners { table.number (reason fault.BadCount) ≡ 62 }
     ensures transport { table.number (reason fault.TransportFailed) ≡ 86 }
-    ensures journal { table.number (reason fault.NoJournal) ≡ 87 }
+    ensures journal { table.number (reason (fault.Journal journal_fault.Failed)) ≡ 87 }
+    ensures another_node { table.number (reason (fault.Journal journal_fault.OtherNode)) ≡ 49 }
+    ensures no_event { place_of (fault.Journal (journal_fault.Journal (replay_fault.Form 3))) ≡ place.Event 3 }
     ensures unread { table.number (reason fault.FileFailed) ≡ 87 }
     ensures memory { table.number (reason fault.OutOfMemory) ≡ 99 }
     ensures line { place_of (fault.Cluster (cluster_fault.Syntax 3)) ≡ place.Line 3 }

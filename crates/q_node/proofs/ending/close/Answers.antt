@@ -10,7 +10,7 @@ returns-in-Ended-clause-written g c = λ node greeting before h.
     written_ended node greeting before _ _ _ _ (rw c.in-Ended.is at h) c.print_end.ensures.written
 
 pub returns-in-Ended-clause-journal : goal.returns-in-Ended-clause-journal
-returns-in-Ended-clause-journal g c = λ node first file kept. journal_ended node first file _ _ _ _ c.print_end.ensures.written kept
+returns-in-Ended-clause-journal g c = λ node first given file kept. journal_ended node first given file _ _ _ _ c.print_end.ensures.written kept
 
 pub returns-in-Ended-clause-begun : goal.returns-in-Ended-clause-begun
 returns-in-Ended-clause-begun g c = not_refused _ _ c.args.events _ c.print_end.ensures.written
@@ -23,7 +23,7 @@ returns-in-Unstarted-clause-counted g c = λ n is.
     c.close_unstarted.ensures.counted ∙ ap (failures_after c.close_unstarted.result) (is ∙ ap (λ t. talk_count t n) c.in-Unstarted.is)
 
 pub returns-in-Unwritten-clause-journal : goal.returns-in-Unwritten-clause-journal
-returns-in-Unwritten-clause-journal g c = λ node first file kept. inl (kept_beginning node first file _ kept)
+returns-in-Unwritten-clause-journal g c = λ node first given file kept. inl (kept_beginning node first file _ kept)
 
 pub returns-in-Unwritten-clause-begun : goal.returns-in-Unwritten-clause-begun
 returns-in-Unwritten-clause-begun g c = unwritten_begun

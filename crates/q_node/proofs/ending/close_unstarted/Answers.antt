@@ -7,8 +7,8 @@ pub returns-clause-written : goal.returns-clause-written
 returns-clause-written g c = λ node greeting. written_unstarted node greeting _ _ _ _ c.print_end.ensures.written
 
 pub returns-clause-journal : goal.returns-clause-journal
-returns-clause-journal g c = λ node first file kept.
-    journal_ended node first file _ _ (Err _) _ c.print_end.ensures.written (kept_beginning node first file _ kept)
+returns-clause-journal g c = λ node first given file kept.
+    journal_ended node first given file _ _ (Err _) _ c.print_end.ensures.written (kept_beginning node first file _ kept)
 
 pub returns-clause-begun : goal.returns-clause-begun
 returns-clause-begun g c = not_refused _ _ (Err _) _ c.print_end.ensures.written

@@ -5,7 +5,7 @@ pub returns-clause-written : goal.returns-clause-written
 returns-clause-written g c = c.close.ensures.written _ _ _ c.begin_and_run-talk.ensures.said
 
 pub returns-clause-journal : goal.returns-clause-journal
-returns-clause-journal g c = c.close.ensures.journal _ _ _ c.end-ended.ensures.kept
+returns-clause-journal g c = λ given. c.close.ensures.journal _ _ given _ c.end-ended.ensures.kept
 
 pub returns-clause-begun : goal.returns-clause-begun
 returns-clause-begun g c = c.close.ensures.begun
