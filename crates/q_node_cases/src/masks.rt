@@ -1,16 +1,17 @@
 //! What is hidden of a line, since it is not the same in each run.
 
+use q_script::number;
 use std::alloc::{AllocError, Global};
 use std::str;
 
-/// Whether the word behind this one is hidden: it tells how many events a journal has.
+/// Whether a number after this word is hidden: it says how many events a journal has.
 fn hides_next(word: &str) -> bool {
-    matches!(word, "events" | "journal")
+    matches!(word, "events" | "journal" | "resumed")
 }
 
 /// A word as it is shown. Addresses are hidden.
 fn shown(is_hidden: bool, word: &str) -> &str {
-    if is_hidden {
+    if is_hidden && number(word).is_some() {
         "*"
     } else if word.starts_with("127.0.0.1:") {
         "127.0.0.1:*"
@@ -34,13 +35,14 @@ pub fn masked(alloc: Global, line: &[u8]) -> Result<String, AllocError> {
     Ok(masked)
 }
 
-/// A text whose lines are told apart by semicolons. An `@` stands for an address.
-pub fn spelled(alloc: Global, text: &str, address: &str) -> Result<String, AllocError> {
+/// A text whose lines end with semicolons. An `@` is an address that is in use, and an `&` one that is free.
+pub fn spelled(alloc: Global, text: &str, used: &str, free: &str) -> Result<String, AllocError> {
     let mut spelled = String::new(alloc);
     for letter in text.chars() {
         match letter {
             ';' => spelled.push('\n')?,
-            '@' => spelled.push_str(address)?,
+            '@' => spelled.push_str(used)?,
+            '&' => spelled.push_str(free)?,
             _ => spelled.push(letter)?,
         }
     }

@@ -4,10 +4,10 @@ use crate::console::MAILBOXES;
 use crate::disturbed::Disturbed;
 use crate::door::PolledDoor;
 use crate::plan::{Part, Plan};
-use crate::role::Role;
+use crate::role::{Role, RoleDoors};
 use q_doors::{DoorAddress, UdpPost};
 use q_kept::MemoryFile;
-use q_outside::{Counted, Hub};
+use q_outside::Hub;
 use q_script::{ClusterFile, read_cluster};
 use std::alloc::{AllocError, Global};
 use std::fs::Files;
@@ -18,7 +18,7 @@ use std::sync::atomic::AtomicU64;
 use std::time::Duration;
 
 /// For how many milliseconds a socket waits for a datagram.
-const PATIENCE: u64 = 50;
+pub const PATIENCE: u64 = 50;
 
 /// The number of each case's run.
 pub const NUMBER: u64 = 7;
@@ -29,16 +29,18 @@ pub const CLIENTS: u64 = 8;
 /// What the nodes of a case share.
 #[derive(Drop)]
 pub struct Common {
+    /// What the case begins with.
+    pub plan: Plan,
     /// The file of their cluster.
     pub file: ClusterFile,
-    /// Their mailboxes, and behind these one for each client.
+    /// Their mailboxes, followed by one for each client.
     pub hub: Hub,
     /// How many datagrams of strangers each of them was sent.
     pub strangers: Vec<AtomicU64>,
 }
 
 /// A socket that knows no node yet.
-fn bind<R: Net>(rt: &R, alloc: Global) -> io::Result<UdpPost> {
+pub fn bind<R: Net>(rt: &R, alloc: Global) -> io::Result<UdpPost> {
     let at = SocketAddr::new(IpAddr::V4(Ipv4Addr::new(127, 0, 0, 1)), 0);
     UdpPost::bind(rt, alloc, at, NUMBER, Duration::from_millis(PATIENCE))
 }
@@ -53,8 +55,8 @@ fn bind_all<R: Net>(rt: &R, alloc: Global, count: usize) -> io::Result<Vec<UdpPo
 }
 
 /// The file of the cluster whose nodes have these sockets.
-fn file_of(alloc: Global, plan: &Plan<'_>, posts: &[UdpPost]) -> io::Result<ClusterFile> {
-    let heading = plan.heading;
+fn file_of(alloc: Global, plan: &Plan, posts: &[UdpPost]) -> io::Result<ClusterFile> {
+    let heading = plan.heading.as_str();
     let mut text = format!(in alloc; "cluster {heading}\n")?;
     for (before, post) in posts.iter().enumerate() {
         let before = before as u64;
@@ -82,17 +84,16 @@ fn counters(alloc: Global, count: usize) -> Result<Vec<AtomicU64>, AllocError> {
     Ok(counters)
 }
 
-/// The sockets of the nodes of a plan, and behind them one of a stranger, which all know all nodes; and what they
-/// share.
+/// The sockets of the nodes of a plan, and then one of a stranger, which all know all nodes; and what they share.
 pub fn open<R: Net>(
     rt: &R,
     alloc: Global,
-    plan: &Plan<'_>,
+    plan: Plan,
 ) -> io::Result<(Common, Vec<UdpPost>, UdpPost)> {
     let count = plan.parts.len();
     let mut posts = bind_all(rt, alloc, count)?;
     let mut stranger = bind(rt, alloc)?;
-    let file = file_of(alloc, plan, posts.as_slice())?;
+    let file = file_of(alloc, &plan, posts.as_slice())?;
     for post in &mut posts {
         post.meet(&file.nodes)?;
     }
@@ -101,6 +102,7 @@ pub fn open<R: Net>(
         .saturating_mul(MAILBOXES)
         .saturating_add(CLIENTS);
     let common = Common {
+        plan,
         file,
         hub: Hub::open(alloc, mailboxes)?,
         strangers: counters(alloc, count)?,
@@ -109,32 +111,39 @@ pub fn open<R: Net>(
 }
 
 /// What the node with this id is run with.
-fn role<'a, R: Net<Listener = TcpListener, Stream = TcpStream> + Files>(
+pub fn role<'a, R: Net<Listener = TcpListener, Stream = TcpStream> + Files>(
     rt: &R,
     alloc: Global,
     id: u64,
-    part: &Part<'_>,
+    part: &Part,
     inner: UdpPost,
     strangers: &'a AtomicU64,
 ) -> io::Result<Role<'a>> {
-    let mut journal = Counted::new(MemoryFile::new(alloc, part.room));
-    journal.fail_at(part.call);
-    let door = PolledDoor::open(rt, DoorAddress::of(part.door))?;
+    let door = PolledDoor::open(rt, DoorAddress::of(part.door.as_str()))?;
+    let console = match &part.console {
+        Some(path) => Some(PolledDoor::open(rt, DoorAddress::Unix(path.as_str()))?),
+        None => None,
+    };
     let place = match door.address() {
         Some(address) => format!(in alloc; "{address}")?,
-        None => String::from_str(alloc, part.door)?,
+        None => part.door.clone()?,
     };
     Ok(Role {
         id,
         post: Disturbed {
             inner,
-            letters: Vec::from_slice(alloc, part.letters)?,
+            letters: part.letters.clone()?,
             sent: AtomicU64::new(0),
             strangers,
         },
-        door,
+        doors: RoleDoors {
+            clients: door,
+            console,
+        },
         place,
-        journal,
+        journal: MemoryFile::new(alloc, part.room),
+        is_back: false,
+        call: part.call,
         runners: part.runners,
         write: part.write,
     })
@@ -144,12 +153,11 @@ fn role<'a, R: Net<Listener = TcpListener, Stream = TcpStream> + Files>(
 pub fn roles<'a, R: Net<Listener = TcpListener, Stream = TcpStream> + Files>(
     rt: &R,
     alloc: Global,
-    plan: &Plan<'_>,
+    common: &'a Common,
     posts: Vec<UdpPost>,
-    strangers: &'a [AtomicU64],
 ) -> io::Result<Vec<Option<Role<'a>>>> {
     let mut roles = Vec::new(alloc);
-    let parts = plan.parts.iter().zip(strangers).zip(posts);
+    let parts = common.plan.parts.iter().zip(&common.strangers).zip(posts);
     for (before, ((part, strangers), post)) in parts.enumerate() {
         let id = (before as u64).saturating_add(1);
         roles.push(Some(role(rt, alloc, id, part, post, strangers)?))?;

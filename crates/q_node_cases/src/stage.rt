@@ -28,6 +28,7 @@ pub struct Stage<'s, R: Net<Listener = TcpListener, Stream = TcpStream>> {
     pub rt: &'s R,
     pub alloc: Global,
     pub common: &'s Common,
+    /// What the case has.
     /// The nodes that were not started.
     pub roles: Vec<Option<Role<'s>>>,
     /// Where the clients of each node connect.
@@ -118,6 +119,7 @@ where
                 self.hear(id, out)?;
             }
             "close" => self.give(id, &[]),
+            "line" => self.speak(id, text, out)?,
             "hear" => self.hear(id, out)?,
             "until" => self.await_status(id, text, out)?,
             _ => return Ok(false),
@@ -139,9 +141,17 @@ where
         if word == "clients" {
             return self.run_clients(scope, rest, out);
         }
+        if word == "speech" {
+            return self.start_speech(scope, rest);
+        }
+        if word == "pause" {
+            thread::sleep(self.rt, Duration::from_millis(first(rest).0));
+            return Ok(());
+        }
         if self.step_at_console(word, rest, out)?
             || self.step_of_client(word, rest, out)?
             || self.step_of_stranger(word, rest, out)?
+            || self.step_of_start(word, rest, out)?
         {
             return Ok(());
         }
@@ -161,16 +171,40 @@ where
         Ok(())
     }
 
-    /// Removes the files of doors at Unix sockets.
-    fn remove_doors(&self) {
-        for place in &self.places {
-            if place.contains('/') {
-                let _ = fs::remove_file(self.rt, place.as_str());
-            }
+    /// Does a step of a node that comes back, or of its journal. Whether it is one.
+    fn step_of_start<W: Write>(&mut self, word: &str, rest: &str, out: &mut W) -> io::Result<bool> {
+        match word {
+            "again" => self.again(rest, out)?,
+            "beginnings" => self.beginnings(rest, out)?,
+            "foreign" => self.foreign(rest, out)?,
+            "said" => self.tell_speech(rest, out)?,
+            _ => return Ok(false),
+        }
+        Ok(true)
+    }
+
+    /// Removes the files of the doors of a node at Unix sockets.
+    pub fn remove_doors(&self, id: u64) {
+        let Some(part) = self.common.plan.parts.get(place_of(id)) else {
+            return;
+        };
+        let door = part.door.as_str();
+        if door.contains('/') {
+            let _ = fs::remove_file(self.rt, door);
+        }
+        if let Some(path) = &part.console {
+            let _ = fs::remove_file(self.rt, path.as_str());
         }
     }
 
-    /// Does these steps, and then ends the consoles of all nodes.
+    /// Has a node end, if it runs.
+    fn end(&self, id: u64) {
+        self.give(id, b"end\n");
+        self.give(id, &[]);
+        let _ = self.end_at_socket(id);
+    }
+
+    /// Does these steps, and then ends all nodes.
     pub fn play<E, W: Write>(
         mut self,
         scope: &Scope<'s, E>,
@@ -179,9 +213,10 @@ where
     ) -> io::Result<()> {
         let done = self.do_steps(scope, steps, out);
         for before in 0..self.places.len() {
-            self.give((before as u64).saturating_add(1), &[]);
+            let id = (before as u64).saturating_add(1);
+            self.end(id);
+            self.remove_doors(id);
         }
-        self.remove_doors();
         done
     }
 }
